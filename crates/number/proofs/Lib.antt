@@ -1,0 +1,6 @@
+pub mod Ways
+pub mod Sizes
+pub mod Bound
+pub mod Patterns
+pub mod Values
+pub mod Examples

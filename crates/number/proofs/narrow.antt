@@ -1,0 +1,3 @@
+pub mod Pick
+pub mod Core
+pub mod Meets

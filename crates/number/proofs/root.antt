@@ -1,0 +1,3 @@
+pub mod Scale
+pub mod Unique
+pub mod Meets

@@ -1,0 +1,4 @@
+pub mod Cuts
+pub mod Floors
+pub mod Halves
+pub mod Casts
