@@ -1,0 +1,426 @@
+//! Compares libnumber with the Rust on the five number rules, bit for bit.
+//!
+//! `half_to_f32` and `truncate_to_bf16_inplace` are the Rust's own, cut from its source; the root is
+//! `f32::sqrt`. E and T stand in for the Rust's calls of `exp` and `tanh`, so there is nothing to cut:
+//! they follow the rules' text, one f64 operation for each of its operations, in its order.
+//!
+//!     number            every half; of the other rules the edges and a random run with a fixed seed
+//!     number --all      every half; of the other rules all 2^32 patterns, on two threads
+//!     number --sample   prints the Rust's answers as crates/number_replay/stdin holds them
+
+use std::collections::HashSet;
+use std::hint::black_box;
+use std::io::Write;
+
+include!(env!("KZ_CUT"));
+
+extern "C" {
+    fn kz_bf16(x: u32) -> u32;
+    fn kz_half(h: u16) -> u32;
+    fn kz_root(x: u32) -> u32;
+    fn kz_exp(x: u32) -> u32;
+    fn kz_tanh(x: u32) -> u32;
+}
+
+/// Random patterns of each rule but half in the default run.
+const RANDOM: usize = 60_000_000;
+/// Records of each rule in the sample, and the most of them that are edges.
+const SAMPLE: usize = 1_000;
+const SAMPLE_EDGES: usize = 700;
+/// Differences that are printed.
+const SHOWN: usize = 20;
+
+const NAN: u32 = 0x7FC0_0000;
+const INFINITY: u32 = 0x7F80_0000;
+const SIGN: u32 = 0x8000_0000;
+
+// --- The rules ---
+
+/// The f32 with pattern `x`. A move that changed a signalling NaN would make the comparison void.
+fn value(x: u32) -> f32 {
+    let v = black_box(f32::from_bits(x));
+    assert_eq!(v.to_bits(), x, "this machine's f32 moves change bits");
+    v
+}
+
+fn bits(v: f32) -> u32 {
+    if v.is_nan() {
+        NAN
+    } else {
+        v.to_bits()
+    }
+}
+
+fn bf16(x: u32) -> u32 {
+    let mut v = [value(x)];
+    truncate_to_bf16_inplace(&mut v);
+    v[0].to_bits()
+}
+
+fn half(x: u32) -> u32 {
+    half_to_f32(x as u16).to_bits()
+}
+
+fn root(x: u32) -> u32 {
+    bits(value(x).sqrt())
+}
+
+fn l() -> f64 {
+    f64::from_bits(0x3FE6_2E42_FEFA_39EF)
+}
+
+/// F. Its callers bound x, so that k is far inside the exponents of an f64.
+fn f(x: f64) -> f64 {
+    let k = (x / l() + 0.5).floor();
+    let r = x - k * l();
+    let mut p = 1.0;
+    for i in (1..=10).rev() {
+        p = 1.0 + (r * p) / f64::from(i);
+    }
+    p * f64::from_bits(((1023 + k as i64) as u64) << 52)
+}
+
+fn exp(x: u32) -> u32 {
+    let x = value(x);
+    if x.is_nan() {
+        NAN
+    } else if x >= 89.0 {
+        INFINITY
+    } else if x <= -104.0 {
+        0
+    } else {
+        bits(f(f64::from(x)) as f32)
+    }
+}
+
+fn tanh(y: u32) -> u32 {
+    let y = value(y);
+    if y.is_nan() {
+        NAN
+    } else if y >= 10.0 {
+        1f32.to_bits()
+    } else if y <= -10.0 {
+        (-1f32).to_bits()
+    } else {
+        let f = f(2.0 * f64::from(y));
+        bits(((f - 1.0) / (f + 1.0)) as f32)
+    }
+}
+
+struct Rule {
+    name: &'static str,
+    letter: char,
+    ours: fn(u32) -> u32,
+    rust: fn(u32) -> u32,
+    /// Takes a random word to an input at which the rule has work to do.
+    busy: fn(u32) -> u32,
+}
+
+const HALF: Rule = Rule {
+    name: "half",
+    letter: 'h',
+    ours: |x| unsafe { kz_half(x as u16) },
+    rust: half,
+    busy: |u| u & 0xFFFF,
+};
+
+const BF16: Rule = Rule {
+    name: "bf16",
+    letter: 'b',
+    ours: |x| unsafe { kz_bf16(x) },
+    rust: bf16,
+    busy: |u| u,
+};
+
+const ROOT: Rule = Rule {
+    name: "root",
+    letter: 'r',
+    ours: |x| unsafe { kz_root(x) },
+    rust: root,
+    busy: |u| u & !SIGN,
+};
+
+const EXP: Rule = Rule {
+    name: "exp",
+    letter: 'e',
+    ours: |x| unsafe { kz_exp(x) },
+    rust: exp,
+    busy: |u| between(u, -104.0, 89.0),
+};
+
+const TANH: Rule = Rule {
+    name: "tanh",
+    letter: 't',
+    ours: |x| unsafe { kz_tanh(x) },
+    rust: tanh,
+    busy: |u| between(u, -10.0, 10.0),
+};
+
+const WIDE: [Rule; 4] = [BF16, ROOT, EXP, TANH];
+
+fn between(u: u32, low: f64, high: f64) -> u32 {
+    ((low + (high - low) * (f64::from(u) / 4_294_967_296.0)) as f32).to_bits()
+}
+
+// --- The inputs ---
+
+/// The patterns up to `reach` places from `x`'s below the sign, with either sign.
+fn around(x: u32, reach: u32, to: &mut Vec<u32>) {
+    let size = x & !SIGN;
+    for near in size.saturating_sub(reach)..=(size + reach).min(!SIGN) {
+        to.push(near);
+        to.push(near | SIGN);
+    }
+}
+
+/// Zeros, infinities, NaNs, and the numbers at which a rule changes its way or its answer its kind.
+fn special() -> Vec<u32> {
+    let mut to = Vec::new();
+    around(0, 3, &mut to);
+    around(INFINITY, 3, &mut to);
+    around(0x7FFF_FFFF, 3, &mut to);
+    for quiet in [0x7FC0_0000, 0x7FC0_0001, 0x7FD5_5555, 0x7FFF_0000] {
+        around(quiet, 1, &mut to);
+    }
+    for signalling in [0x7F80_8000, 0x7FA0_0000, 0x7FBF_FFFF] {
+        around(signalling, 1, &mut to);
+    }
+    // a bf16 that goes up into infinity, ties at an even and at an odd place, and a NaN that wraps
+    for tie in [0x7F7F_8000, 0x3F80_8000, 0x3F81_8000, 0x7FFF_8000] {
+        around(tie, 1, &mut to);
+    }
+    for threshold in [89.0f32, 104.0, 10.0] {
+        around(threshold.to_bits(), 3, &mut to);
+    }
+    // E reaches infinity, and below zero the subnormals, the smallest of them and half of it
+    for size in [88.722_84_f32, 87.336_55, 103.278_93, 103.972_08] {
+        around(size.to_bits(), 8, &mut to);
+    }
+    for n in 1..=20u8 {
+        around((f32::from(n) * f32::from(n)).to_bits(), 1, &mut to);
+    }
+    to
+}
+
+/// Every power of two that is an f32, and infinity's place after the last.
+fn powers() -> Vec<u32> {
+    let mut to = Vec::new();
+    for place in 0..23 {
+        around(1 << place, 2, &mut to);
+    }
+    for exponent in 1..=255 {
+        around(exponent << 23, 2, &mut to);
+    }
+    to
+}
+
+/// Where the k of E, or of T, goes on by one: the odd multiples of L/2, or of L/4.
+fn steps() -> Vec<u32> {
+    let mut to = Vec::new();
+    for k in 0..=151 {
+        let middle = (f64::from(k) + 0.5) * l();
+        around((middle as f32).to_bits(), 2, &mut to);
+        around(((middle / 2.0) as f32).to_bits(), 2, &mut to);
+    }
+    to
+}
+
+/// Every upper half with lower halves around a tie of bf16, and exact squares with their neighbours.
+fn dense() -> Vec<u32> {
+    let mut to = Vec::new();
+    for upper in 0..=0xFFFFu32 {
+        for lower in [0, 1, 0x7FFF, 0x8000, 0x8001, 0xFFFF] {
+            to.push(upper << 16 | lower);
+        }
+    }
+    for n in 1..=4096u16 {
+        around((f32::from(n) * f32::from(n)).to_bits(), 1, &mut to);
+    }
+    to
+}
+
+/// The list with the first of equal inputs alone.
+fn once(list: Vec<u32>) -> Vec<u32> {
+    let mut seen = HashSet::new();
+    list.into_iter().filter(|x| seen.insert(*x)).collect()
+}
+
+/// The edges among the halves.
+fn half_edges() -> Vec<u32> {
+    let mut to = Vec::new();
+    let places = (0..10).map(|place| 1 << place);
+    let exponents = (0..=31).map(|exponent| exponent << 10);
+    let others = [0x03FF, 0x3555, 0x7BFF, 0x7D55, 0x7E00, 0x7FFF];
+    for size in places.chain(exponents).chain(others) {
+        for near in i32::max(size - 2, 0)..=i32::min(size + 2, 0x7FFF) {
+            to.push(near as u32);
+            to.push(near as u32 | 0x8000);
+        }
+    }
+    to
+}
+
+/// SplitMix64 from a fixed seed; the upper half of each word.
+struct Random(u64);
+
+impl Random {
+    fn new() -> Self {
+        Random(0x6B79_7A67_756C_7461)
+    }
+
+    fn next(&mut self) -> u32 {
+        self.0 = self.0.wrapping_add(0x9E37_79B9_7F4A_7C15);
+        let mut z = self.0;
+        z = (z ^ (z >> 30)).wrapping_mul(0xBF58_476D_1CE4_E5B9);
+        z = (z ^ (z >> 27)).wrapping_mul(0x94D0_49BB_1331_11EB);
+        ((z ^ (z >> 31)) >> 32) as u32
+    }
+}
+
+// --- The comparison ---
+
+struct Difference {
+    rule: &'static str,
+    input: u32,
+    ours: u32,
+    rust: u32,
+}
+
+#[derive(Default)]
+struct Tally {
+    compared: u64,
+    differ: u64,
+    first: Vec<Difference>,
+}
+
+impl Tally {
+    fn compare(&mut self, rule: &Rule, input: u32) {
+        let (ours, rust) = ((rule.ours)(input), (rule.rust)(input));
+        self.compared += 1;
+        if ours != rust {
+            self.differ += 1;
+            if self.first.len() < SHOWN {
+                self.first.push(Difference {
+                    rule: rule.name,
+                    input,
+                    ours,
+                    rust,
+                });
+            }
+        }
+    }
+
+    fn join(mut self, other: Tally) -> Tally {
+        self.compared += other.compared;
+        self.differ += other.differ;
+        self.first.extend(other.first);
+        self.first.sort_by_key(|d| d.input);
+        self.first.truncate(SHOWN);
+        self
+    }
+}
+
+fn every_half() -> Tally {
+    let mut tally = Tally::default();
+    for x in 0..=0xFFFF {
+        tally.compare(&HALF, x);
+    }
+    tally
+}
+
+fn edges_and_random(rule: &Rule) -> Tally {
+    let mut tally = Tally::default();
+    for x in once([special(), powers(), steps(), dense()].concat()) {
+        tally.compare(rule, x);
+    }
+    let mut random = Random::new();
+    for _ in 0..RANDOM / 2 {
+        tally.compare(rule, random.next());
+        tally.compare(rule, (rule.busy)(random.next()));
+    }
+    tally
+}
+
+fn every_second(rule: &Rule, from: u32) -> Tally {
+    let mut tally = Tally::default();
+    let mut x = from;
+    loop {
+        tally.compare(rule, x);
+        match x.checked_add(2) {
+            Some(next) => x = next,
+            None => return tally,
+        }
+    }
+}
+
+fn every_pattern(rule: &Rule) -> Tally {
+    std::thread::scope(|threads| {
+        let odd = threads.spawn(|| every_second(rule, 1));
+        let even = every_second(rule, 0);
+        even.join(odd.join().expect("the other thread stopped"))
+    })
+}
+
+/// Prints the differences and the counts, and says whether nothing differs.
+fn report(half: Tally, wide: [Tally; 4]) -> bool {
+    let [bf16, root, exp, tanh] = &wide;
+    let all = [&half, bf16, root, exp, tanh];
+    let differ: u64 = all.iter().map(|t| t.differ).sum();
+    for d in all.iter().flat_map(|t| &t.first).take(SHOWN) {
+        println!(
+            "{} {:08x}: ours {:08x}, the Rust's {:08x}",
+            d.rule, d.input, d.ours, d.rust
+        );
+    }
+    println!(
+        "number: half {}, bf16 {}, root {}, exp {}, tanh {} compared with the Rust; {} differ",
+        half.compared, bf16.compared, root.compared, exp.compared, tanh.compared, differ
+    );
+    differ == 0
+}
+
+// --- The sample ---
+
+/// `first` whole, then others of the edges, then random inputs. The edges come in groups of ten, so a
+/// prime stride through them meets every distance and both signs.
+fn sample_inputs(rule: &Rule, first: Vec<u32>, rest: Vec<u32>) -> Vec<u32> {
+    let spread = (0..rest.len()).map(|i| rest[i * 7919 % rest.len()]);
+    let mut inputs = once(first.into_iter().chain(spread).collect());
+    inputs.truncate(SAMPLE_EDGES);
+    let mut random = Random::new();
+    while inputs.len() < SAMPLE {
+        inputs.push((rule.busy)(random.next()));
+    }
+    inputs
+}
+
+fn sample() -> std::io::Result<()> {
+    let mut out = std::io::stdout().lock();
+    let mut print = |rule: &Rule, first, rest| {
+        for x in sample_inputs(rule, first, rest) {
+            writeln!(out, "{} {:08x} {:08x}", rule.letter, x, (rule.rust)(x))?;
+        }
+        Ok(())
+    };
+    print(&BF16, special(), powers())?;
+    print(&HALF, Vec::new(), half_edges())?;
+    print(&ROOT, special(), powers())?;
+    let both = || [steps(), powers()].concat();
+    print(&EXP, special(), both())?;
+    print(&TANH, special(), both())
+}
+
+fn main() {
+    let words: Vec<String> = std::env::args().skip(1).collect();
+    let words: Vec<&str> = words.iter().map(String::as_str).collect();
+    let same = match words[..] {
+        [] => report(every_half(), WIDE.each_ref().map(edges_and_random)),
+        ["--all"] => report(every_half(), WIDE.each_ref().map(every_pattern)),
+        ["--sample"] => sample().is_ok(),
+        _ => {
+            eprintln!("usage: number [--all | --sample]");
+            std::process::exit(2);
+        }
+    };
+    std::process::exit(if same { 0 } else { 1 });
+}
