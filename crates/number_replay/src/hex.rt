@@ -29,7 +29,7 @@ fn digit(b: u8) -> u32
     16
 }
 
-pub fn read_hex(s: &[u8]) -> Word
+pub(crate) fn read_hex(s: &[u8]) -> Word
     requires { ⌜ length (now s) ≤ 8 ⌝ }
     ensures { λ r. ⌜ r ≡ wordOf (now (s .entry)) ⌝ }
 {
