@@ -1,0 +1,39 @@
+-- What stands at a place of a buffer, and what is written over it. Assumes nothing.
+use mathlib.Core.Bool.{cond}
+use mathlib.Core.List.{List, [], _∷_, _++_}
+use Prim.Native.Nat.{ℕ, suc, _+_, _≤_}
+use lib.Dec.{leb}
+use lib.ListN.{length, take, drop, set}
+use lib.Ieee.{Float, binary32, ofBits}
+use Rattle.buffers.specs.Rows.{tab}
+
+-- the n elements from x and the m elements from at do not overlap
+pub data Apart (x n at m : ℕ) : Type 0 where
+  before : x + n ≤ at → Apart x n at m
+  after : at + m ≤ x → Apart x n at m
+
+module _ {A : Type 0} where
+  -- the n elements from index at
+  abbrev pub region : List A → ℕ → ℕ → List A
+  region s at n = take n (drop at s)
+
+  -- s with ys written over it from index at
+  unfoldable pub put : List A → ℕ → List A → List A
+  put s at [] = s
+  put s at (y ∷ ys) = put (set s at y) (suc at) ys
+
+  -- ys, and what the longer old list has behind them
+  abbrev pub over : List A → List A → List A
+  over ys old = ys ++ drop (length ys) old
+
+  -- ys over the front of old, where they fit
+  unfoldable pub copied : List A → List A → List A
+  copied ys old = cond (leb (length ys) (length old)) (over ys old) old
+
+-- +0, as f32
+abbrev pub zero32 : Float
+zero32 = ofBits binary32 0
+
+-- as many +0 as s has elements
+abbrev pub cleared : List Float → List Float
+cleared s = tab (length s) (λ _. zero32)
