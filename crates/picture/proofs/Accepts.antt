@@ -1,0 +1,70 @@
+-- When preprocess accepts, and what an acceptance says. Assumes nothing.
+use mathlib.Core.Path.{_≡_, refl, sym, ap, _∙_}
+use mathlib.Core.Bool.{Bool, true, false}
+use mathlib.Core.List.{List}
+use Prim.Native.Nat.{ℕ, _+_, _*_, _-_, _/_, _≤_, _<_}
+use native.Mathlib.Nat.{mul-assoc}
+use native.Mathlib.Omega.{arith}
+use borrow.Author.Tests.{eq-eqb, le-leb, eqb-true, leb-true}
+use lib.Dec.{eqb, leb}
+use lib.ListN.{length}
+use lib.Ieee.{Float}
+use Rattle.picture.specs.declared.PictureSettings.{PictureSettings}
+use Rattle.picture.specs.declared.Refusal.{Refusal}
+use Rattle.picture.specs.declared.Preprocessed.{Preprocessed}
+use Rattle.picture.specs.declared.Preprocessed.the-variants.{Patches, Refused}
+use Rattle.buffers.specs.Region.{put}
+use Rattle.picture.specs.Settings.{allowed, sided, align}
+use Rattle.picture.specs.Sides.{gridOf}
+use Rattle.picture.specs.Samples.{sample}
+use Rattle.picture.specs.Patches.{patchFloats}
+use Rattle.picture.specs.Preprocess.{floatsOf, unless, preprocessed, resizedPixel, patchesOf, patchesLeft}
+use Rattle.buffers.proofs.Regions.{put-over}
+use Rattle.picture.proofs.Places.{length-patches}
+
+-- what preprocess asks
+pub record Accepts (s : PictureSettings) (len h w room : ℕ) : Type 0 where
+  pub settings : allowed s ≡ true
+  pub sides : sided h w ≡ true
+  pub bytes : len ≡ h * w * 3
+  pub image : align s ≤ s .«image_size»
+  pub fits : floatsOf s h w ≤ room
+
+pub accepted : (s : PictureSettings) (len h w room : ℕ) → Accepts s len h w room → preprocessed s len h w room ≡ Patches (gridOf s h) (gridOf s w) (floatsOf s h w)
+unfolding preprocessed
+accepted s len h w room a = simp (a .settings, a .sides, eq-eqb _ _ (a .bytes), le-leb _ _ (a .image), le-leb _ _ (a .fits))
+
+passed : (b : Bool) (r : Refusal) (x : Preprocessed) (gh gw n : ℕ) → unless b r x ≡ Patches gh gw n → (b ≡ true) × (x ≡ Patches gh gw n)
+passed true r x gh gw n e = (refl, e)
+passed false r x gh gw n e = absurd (let z : _≡_ {A = ℕ} 0 1 = cc in omega arith)
+
+pub record Accepted (s : PictureSettings) (len h w room gh gw n : ℕ) : Type 0 where
+  pub asks : Accepts s len h w room
+  pub tall : gh ≡ gridOf s h
+  pub wide : gw ≡ gridOf s w
+  pub count : n ≡ floatsOf s h w
+
+pub acceptance : (s : PictureSettings) (len h w room gh gw n : ℕ) → preprocessed s len h w room ≡ Patches gh gw n → Accepted s len h w room gh gw n
+unfolding preprocessed
+acceptance s len h w room gh gw n e =
+    let a = passed (allowed s) _ _ gh gw n e in
+    let b = passed (sided h w) _ _ gh gw n (a .1) in
+    let c = passed (eqb len (h * w * 3)) _ _ gh gw n (b .1) in
+    let d = passed (leb (align s) (s .«image_size»)) _ _ gh gw n (c .1) in
+    let f = passed (leb (floatsOf s h w) room) _ _ gh gw n (d .1) in
+    let g = f .1 in
+    record {
+      asks = record { settings = a .0; sides = b .0; bytes = eqb-true _ _ (c .0); image = leb-true _ _ (d .0); fits = leb-true _ _ (f .0) };
+      tall = cc;
+      wide = cc;
+      count = cc;
+    }
+
+-- what the loops wrote is what the definition says
+pub written : (s : PictureSettings) (rgb : List ℕ) (h w : ℕ) (old : List Float) → Accepts s (length rgb) h w (length old)
+    → put old 0 (patchesOf s rgb h w) ≡ patchesLeft (preprocessed s (length rgb) h w (length old)) (patchesOf s rgb h w) old
+written s rgb h w old a =
+    let p = s .«patch_size» in
+    let v : ℕ → ℕ → ℕ → Float = λ y x c. sample c (resizedPixel s rgb h w y x c) in
+    rw (accepted s (length rgb) h w (length old) a)
+    (put-over old (patchesOf s rgb h w) (omega (arith, a .fits, length-patches p v (gridOf s h) (gridOf s w), mul-assoc (gridOf s h) (gridOf s w) (patchFloats p))))

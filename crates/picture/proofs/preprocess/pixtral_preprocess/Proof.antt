@@ -1,0 +1,250 @@
+-- `picture::preprocess::pixtral_preprocess` meets its contract. Assumes nothing.
+use mathlib.Core.Path.{_≡_, refl, sym, ap, _∙_}
+use mathlib.Core.Bool.{true, false, _&&_}
+use Prim.Native.Nat.{ℕ, _+_, _*_, _/_, _≤_, _<_}
+use native.Mathlib.Nat.{mul-assoc, div-mul-le-self}
+use native.Mathlib.Omega.{arith}
+use borrow.Author.Needs.{needs}
+use borrow.Author.Tests.{not-true, not-false, eq-eqb, ne-eqb, le-leb, lt-leb, eqb-true}
+use lib.Dec.{eqb}
+use lib.ListN.{length}
+use lib.Ieee.{binary32, ofBits}
+use Rattle.buffers.specs.Region.{put}
+use Rattle.buffers.proofs.Lists.{and-left, and-right}
+use Rattle.picture.specs.declared.preprocess.Frame.{Frame}
+use Rattle.picture.specs.Settings.{allowed, sided, align}
+use Rattle.picture.specs.Sides.{resized, gridOf}
+use Rattle.picture.specs.Resize.{resizedAt}
+use Rattle.picture.specs.Samples.{sample, value, entry}
+use Rattle.picture.specs.Patches.{patches, patchFloats}
+use Rattle.picture.specs.Frame.{Framed}
+use Rattle.picture.specs.Preprocess.{floatsOf, preprocessed}
+use Rattle.picture.proofs.Accepts.{Accepts, accepted, written}
+use Rattle.picture.proofs.Table.{table, entry-is, clean-table, value-is}
+use Rattle.picture.proofs.Same.{byte-below}
+use Rattle.picture.proofs.Places.{square, times, patches-ext}
+use Rattle.picture.proofs.Sides.{Allowed, allowed-says, sided-says, side-le, Spans, spans}
+use Rattle.picture.proofs.preprocess.pixtral_preprocess.Statement.{statement}
+use Rattle.picture.proofs.preprocess.pixtral_preprocess.Tie as tie
+
+-- what each test says, where it is passed
+settings : (c : tie.Else1) → allowed (c .before .before .before .before .args .s) ≡ true
+settings c = sym (c .before .settings-allowed .ensures) ∙ not-false _ (c .if1 .left)
+
+sides : (c : tie.Else2) → sided (c .before .before .before .before .before .before .args .height) (c .before .before .before .before .before .before .args .width) ≡ true
+sides c = sym (c .before .sides-allowed .ensures) ∙ not-false _ (c .if2 .left)
+
+known : (c : tie.Else1) → Allowed (c .before .before .before .before .args .s .«patch_size») (c .before .before .before .before .args .s .«spatial_merge_size») (c .before .before .before .before .args .s .«image_size»)
+known c = allowed-says (c .before .before .before .before .args .s) (settings c)
+
+-- the grid's sides
+tall : (c : tie.After-side-of2) → Spans (c .before .side-of .result / c .before .before .before .before .before .before .before .before .before .before .before .args .s .«patch_size») (c .before .before .before .before .before .before .before .before .before .before .before .args .s .«patch_size»)
+tall c =
+    let s = c .before .before .before .before .before .before .before .before .before .before .before .args .s in
+    let k = known (c .before .before .before .before .before .before .before) in
+    let e = c .before .side-of .ensures in
+    spans _ _ (k .patch-low) (omega (arith, e, side-le (align s) (s .«image_size») (c .before .before .before .before .before .before .before .before .before .before .before .args .height)))
+
+wide : (c : tie.After-side-of2) → Spans (c .side-of2 .result / c .before .before .before .before .before .before .before .before .before .before .before .args .s .«patch_size») (c .before .before .before .before .before .before .before .before .before .before .before .args .s .«patch_size»)
+wide c =
+    let s = c .before .before .before .before .before .before .before .before .before .before .before .args .s in
+    let k = known (c .before .before .before .before .before .before .before) in
+    let e = c .side-of2 .ensures in
+    spans _ _ (k .patch-low) (omega (arith, e, side-le (align s) (s .«image_size») (c .before .before .before .before .before .before .before .before .before .before .before .args .width)))
+
+-- the count, by the definition
+counted : (c : tie.After-side-of2) → c .before .side-of .result / c .before .before .before .before .before .before .before .before .before .before .before .args .s .«patch_size» * (c .side-of2 .result / c .before .before .before .before .before .before .before .before .before .before .before .args .s .«patch_size») * patchFloats (c .before .before .before .before .before .before .before .before .before .before .before .args .s .«patch_size») ≡ floatsOf (c .before .before .before .before .before .before .before .before .before .before .before .args .s) (c .before .before .before .before .before .before .before .before .before .before .before .args .height) (c .before .before .before .before .before .before .before .before .before .before .before .args .width)
+counted c = cc (c .before .side-of .ensures, c .side-of2 .ensures)
+
+asked : (c : tie.Else5) → Accepts (c .before .before .before .before .before .before .before .before .before .before .before .before .args .s) (length (c .before .before .before .before .before .before .before .before .before .before .before .before .args .rgb .now)) (c .before .before .before .before .before .before .before .before .before .before .before .before .args .height) (c .before .before .before .before .before .before .before .before .before .before .before .before .args .width) (length (c .before .before .before .before .before .before .before .before .before .before .before .before .args .out .now))
+asked c = record {
+  settings = settings (c .before .before .before .before .before .before .before .before);
+  sides = sides (c .before .before .before .before .before .before);
+  bytes = c .before .before .before .before .before .if3 .left;
+  image = c .before .before .before .if4 .left;
+  fits = omega (arith, c .if5 .left, counted (c .before));
+}
+
+abbrev frame : tie.Else5 → Frame
+frame c =
+    let a = c .before .before .before .before .before .before .before .before .before .before .before .before .args in
+    record { h = a .height; w = a .width; th = c .before .before .side-of .result; tw = c .before .side-of2 .result; p = a .s .«patch_size»; plain = eqb (c .before .before .side-of .result) (a .height) && eqb (c .before .side-of2 .result) (a .width) }
+
+settings-allowed-requires : tie.Need-settings-allowed-requires
+settings-allowed-requires c κs = search needs
+
+returns : tie.Need-returns
+unfolding preprocessed
+returns c = let e : allowed (c .before .before .before .before .args .s) ≡ false = sym (c .before .settings-allowed .ensures) ∙ not-true _ (c .if1 .taken) in (simp e, simp e)
+
+sides-allowed-requires : tie.Need-sides-allowed-requires
+sides-allowed-requires c κs = search needs
+
+returns-2 : tie.Need-returns-2
+unfolding preprocessed
+returns-2 c =
+    let e = settings (c .before .before) in
+    let g : sided (c .before .before .before .before .before .before .args .height) (c .before .before .before .before .before .before .args .width) ≡ false = sym (c .before .sides-allowed .ensures) ∙ not-true _ (c .if2 .taken) in
+    (simp (e, g), simp (e, g))
+
+mul-if3 : tie.Need-mul-if3
+mul-if3 c = let a = c .before .before .before .before .before .before .args in let t = sided-says (a .height) (a .width) (sides c) in omega (arith, times (a .height) (a .width) 8192 8192 (t .1) (t .3))
+
+mul-if3-2 : tie.Need-mul-if3-2
+mul-if3-2 c = let a = c .before .before .before .before .before .before .args in let t = sided-says (a .height) (a .width) (sides c) in omega (arith, times (a .height) (a .width) 8192 8192 (t .1) (t .3))
+
+returns-3 : tie.Need-returns-3
+unfolding preprocessed
+returns-3 c =
+    let e = settings (c .before .before .before) in
+    let g = sides (c .before) in
+    let k = ne-eqb _ _ (c .if3 .taken) in
+    (simp (e, g, k), simp (e, g, k))
+
+mul-a : tie.Need-mul-a
+mul-a c = let s = c .before .before .before .before .before .before .before .before .args .s in let k = known (c .before .before .before .before) in omega (arith, times (s .«patch_size») (s .«spatial_merge_size») 32 4 (k .patch-high) (k .merge-high))
+
+returns-4 : tie.Need-returns-4
+unfolding preprocessed
+returns-4 c =
+    let e = settings (c .before .before .before .before .before) in
+    let g = sides (c .before .before .before) in
+    let k = eq-eqb _ _ (c .before .before .if3 .left) in
+    let l = lt-leb _ _ (c .if4 .taken) in
+    (simp (e, g, k, l), simp (e, g, k, l))
+
+side-of-requires : tie.Need-side-of-requires
+side-of-requires c κs =
+    let a = c .before .before .before .before .before .before .before .before .before .args in
+    let k = known (c .before .before .before .before .before) in
+    let t = sided-says (a .height) (a .width) (sides (c .before .before .before)) in
+    let b = times (a .s .«patch_size») (a .s .«spatial_merge_size») 32 4 (k .patch-high) (k .merge-high) in
+    (omega (arith, times 1 1 (a .s .«patch_size») (a .s .«spatial_merge_size») (k .patch-low) (k .merge-low)), b, t .1)
+
+side-of-requires-2 : tie.Need-side-of-requires-2
+side-of-requires-2 c κs =
+    let a = c .before .before .before .before .before .before .before .before .before .before .args in
+    let k = known (c .before .before .before .before .before .before) in
+    let t = sided-says (a .height) (a .width) (sides (c .before .before .before .before)) in
+    let b = times (a .s .«patch_size») (a .s .«spatial_merge_size») 32 4 (k .patch-high) (k .merge-high) in
+    (omega (arith, times 1 1 (a .s .«patch_size») (a .s .«spatial_merge_size») (k .patch-low) (k .merge-low)), b, t .3)
+
+div-gh : tie.Need-div-gh
+div-gh c = omega (arith, known (c .before .before .before .before .before .before .before) .patch-low)
+
+div-gw : tie.Need-div-gw
+div-gw c = omega (arith, known (c .before .before .before .before .before .before .before) .patch-low)
+
+mul-floats : tie.Need-mul-floats
+mul-floats c = omega (arith, times _ _ 2048 2048 (tall c .low) (wide c .low))
+
+mul-floats-2 : tie.Need-mul-floats-2
+mul-floats-2 c = omega (arith, square (c .before .before .before .before .before .before .before .before .before .before .before .args .s .«patch_size») (known (c .before .before .before .before .before .before .before) .patch-high))
+
+mul-floats-3 : tie.Need-mul-floats-3
+mul-floats-3 c = omega (arith, square (c .before .before .before .before .before .before .before .before .before .before .before .args .s .«patch_size») (known (c .before .before .before .before .before .before .before) .patch-high))
+
+mul-floats-4 : tie.Need-mul-floats-4
+mul-floats-4 c =
+    let p = c .before .before .before .before .before .before .before .before .before .before .before .args .s .«patch_size» in
+    let b : 3 * (p * p) ≤ 3072 = omega (arith, square p (known (c .before .before .before .before .before .before .before) .patch-high)) in
+    omega (arith, times (c .before .side-of .result / p * (c .side-of2 .result / p)) (3 * (p * p)) (2048 * 2048) 3072 (times _ _ 2048 2048 (tall c .low) (wide c .low)) b)
+
+returns-5 : tie.Need-returns-5
+unfolding preprocessed
+returns-5 c =
+    let a = c .before .before .before .before .before .before .before .before .before .before .before .before .args in
+    let e = settings (c .before .before .before .before .before .before .before .before) in
+    let g = sides (c .before .before .before .before .before .before) in
+    let k = eq-eqb _ _ (c .before .before .before .before .before .if3 .left) in
+    let l = le-leb _ _ (c .before .before .before .if4 .left) in
+    let o = lt-leb (floatsOf (a .s) (a .height) (a .width)) (length (a .out .now)) (omega (arith, c .if5 .taken, counted (c .before))) in
+    (simp (e, g, k, l, o), simp (e, g, k, l, o))
+
+-- what the loops are handed
+framed : (c : tie.Else5) → (f : Frame) → f ≡ frame c → Framed f (length (c .before .before .before .before .before .before .before .before .before .before .before .before .args .rgb .now))
+framed c f e =
+    let a = c .before .before .before .before .before .before .before .before .before .before .before .before .args in
+    let s = a .s in
+    let o = known (c .before .before .before .before .before .before .before .before) in
+    let t = sided-says (a .height) (a .width) (sides (c .before .before .before .before .before .before)) in
+    let y = c .before .before .side-of .ensures in
+    let x = c .before .side-of2 .ensures in
+    rw e
+    (record {
+      bytes = c .before .before .before .before .before .if3 .left;
+      tall = t .0;
+      wide = t .2;
+      tall-high = t .1;
+      wide-high = t .3;
+      target-tall = omega (arith, y, o .image-high, side-le (align s) (s .«image_size») (a .height));
+      target-wide = omega (arith, x, o .image-high, side-le (align s) (s .«image_size») (a .width));
+      patch-high = o .patch-high;
+      plain = λ q. (eqb-true _ _ (and-left (eqb (c .before .before .side-of .result) (a .height)) (eqb (c .before .side-of2 .result) (a .width)) q), eqb-true _ _ (and-right (eqb (c .before .before .side-of .result) (a .height)) (eqb (c .before .side-of2 .result) (a .width)) q));
+    })
+
+framed-patches-requires : tie.Need-framed-patches-requires
+unfolding table
+framed-patches-requires c κs =
+    let e = c .before .before in
+    let d = e .before in
+    let p = e .before .before .before .before .before .before .before .before .before .before .before .before .args .s .«patch_size» in (
+      framed e (frame e) refl,
+      clean-table,
+      div-mul-le-self (d .before .side-of .result) p,
+      div-mul-le-self (d .side-of2 .result) p,
+      wide d .low,
+      omega (arith, e .if5 .left, mul-assoc (d .before .side-of .result / p) (d .side-of2 .result / p) (patchFloats p)),
+    )
+
+same-length : tie.Need-same-length
+same-length c = c .before .before .framed-patches .kept .1 .1 .1 .1 .0
+
+-- the table's values are the samples
+sampled : (p gh gw : ℕ) (v : ℕ → ℕ → ℕ → ℕ) → ((y x c : ℕ) → v y x c < 256) → patches p gh gw (λ y x c. value (entry table) c (v y x c)) ≡ patches p gh gw (λ y x c. sample c (v y x c))
+sampled p gh gw v h = patches-ext p gh gw _ _ (λ y x c hc. ap (ofBits binary32) (entry-is c (v y x c) hc (h y x c)) ∙ value-is c (v y x c))
+
+returns-6 : tie.Need-returns-6
+unfolding table
+returns-6 c =
+    let e = c .before .before .before .before .before in
+    let a = e .before .before .before .before .before .before .before .before .before .before .before .before .args in
+    let p = a .s .«patch_size» in
+    let th = e .before .before .side-of .result in
+    let tw = e .before .side-of2 .result in
+    let q = asked e in
+    let y = e .before .before .side-of .ensures in
+    let x = e .before .side-of2 .ensures in (
+      cc (accepted (a .s) (length (a .rgb .now)) (a .height) (a .width) (length (a .out .now)) q, y, x),
+      c .before .before .framed-patches .ensures
+          ∙ ap (put (a .out .now) 0) (sampled p (th / p) (tw / p) (resizedAt (a .rgb .now) (a .height) (a .width) th tw) (byte-below (a .rgb .now) (a .height) (a .width) th tw))
+          ∙ ap (λ (t : ℕ). put (a .out .now) 0 (patches p (t / p) (tw / p) (λ y x c. sample c (resizedAt (a .rgb .now) (a .height) (a .width) t tw y x c)))) y
+          ∙ ap (λ (t : ℕ). put (a .out .now) 0 (patches p (gridOf (a .s) (a .height)) (t / p) (λ y x c. sample c (resizedAt (a .rgb .now) (a .height) (a .width) (resized (a .s) (a .height)) t y x c)))) x
+          ∙ written (a .s) (a .rgb .now) (a .height) (a .width) (a .out .now) q,
+    )
+
+pub pixtral-preprocess-spec : {M : Type 1} → statement M
+pixtral-preprocess-spec =
+    tie.close
+    (tie.spec
+    settings-allowed-requires
+    returns
+    sides-allowed-requires
+    returns-2
+    mul-if3
+    mul-if3-2
+    returns-3
+    mul-a
+    returns-4
+    side-of-requires
+    side-of-requires-2
+    div-gh
+    div-gw
+    mul-floats
+    mul-floats-2
+    mul-floats-3
+    mul-floats-4
+    returns-5
+    framed-patches-requires
+    same-length
+    returns-6)
