@@ -3,4 +3,3 @@ pub mod Sizes
 pub mod Bound
 pub mod Patterns
 pub mod Values
-pub mod Examples

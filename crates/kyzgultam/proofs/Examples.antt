@@ -1,0 +1,96 @@
+-- The worked examples of the paper that are to be proved, in one table, each computed from the definitions. Assumes nothing.
+use mathlib.Core.Path.{_≡_, refl}
+use mathlib.Core.List.{List, [], _∷_}
+use Prim.Native.Nat.{ℕ, _*_}
+use lib.Ieee.{add, sub, mul, div, lt, le, ne, ofInt, ofBits, toBits, toUnsigned, neg, round, size}
+use Rattle.buffers.specs.Rows.{tab, rows}
+use Rattle.number.specs.Bf16.{bf16}
+use Rattle.number.specs.Half.{subnormal, halfSize, half}
+use Rattle.number.specs.Root.{wholeRoot, nearRoot, rootOfNumber, root}
+use Rattle.number.specs.Narrow.{narrow}
+use Rattle.number.specs.Exp.{series, E, expBits}
+use Rattle.picture.specs.declared.PictureSettings.{PictureSettings}
+use Rattle.picture.specs.declared.Preprocessed.{Preprocessed}
+use Rattle.picture.specs.Settings.{allowed}
+use Rattle.picture.specs.Sides.{side, resized}
+use Rattle.picture.specs.Resize.{whole, near, blend, toByte, mix}
+use Rattle.picture.specs.Preprocess.{preprocessed, resizedBytes}
+
+-- ---- bf16, half, E, root
+
+pub bf16-tie-down : bf16 0x3F80_8000 ≡ 0x3F80_0000
+unfolding bf16
+bf16-tie-down = refl
+
+pub bf16-tie-up : bf16 0x3F81_8000 ≡ 0x3F82_0000
+unfolding bf16
+bf16-tie-up = refl
+
+pub bf16-wraps : bf16 0x7FFF_FFFF ≡ 0x8000_0000
+unfolding bf16
+bf16-wraps = refl
+
+pub half-smallest : half 0x0001 ≡ 0x3380_0000
+unfolding half halfSize subnormal size
+half-smallest = refl
+
+pub half-largest : half 0x7BFF ≡ 0x477F_E000
+unfolding half halfSize
+half-largest = refl
+
+-- E(0) = 1
+pub exp-of-zero : expBits 0 ≡ 0x3F80_0000
+unfolding expBits E series narrow add sub mul div le ne ofInt ofBits toBits toUnsigned neg round size
+exp-of-zero = refl
+
+-- the root of 4 is 2
+pub root-of-four : root 0x4080_0000 ≡ 0x4000_0000
+unfolding root rootOfNumber nearRoot wholeRoot
+root-of-four = refl
+
+-- ---- pictures: patch, merge, image size
+abbrev vision : ℕ → ℕ → ℕ → PictureSettings
+vision p m n = record { «patch_size» = p; «spatial_merge_size» = m; «image_size» = n }
+
+-- 1 × 1: grid 2 × 2, 2352 floats, resized 28 × 28
+pub one-pixel : preprocessed (vision 14 2 1540) 3 1 1 2352 ≡ Preprocessed.Patches 2 2 2352
+unfolding preprocessed allowed side
+one-pixel = refl
+
+pub one-pixel-side : resized (vision 14 2 1540) 1 ≡ 28
+unfolding side
+one-pixel-side = refl
+
+-- 29 × 28: 56 × 28, grid 4 × 2; 28 stays 28
+pub tall : preprocessed (vision 14 2 1540) (29 * 28 * 3) 29 28 4704 ≡ Preprocessed.Patches 4 2 4704
+unfolding preprocessed allowed side
+tall = refl
+
+pub tall-side : resized (vision 14 2 1540) 29 ≡ 56
+unfolding side
+tall-side = refl
+
+pub stays : resized (vision 14 2 1540) 28 ≡ 28
+unfolding side
+stays = refl
+
+-- image 100, height and width 200: 84 × 84, grid 6 × 6
+pub cut : preprocessed (vision 14 2 100) (200 * 200 * 3) 200 200 21168 ≡ Preprocessed.Patches 6 6 21168
+unfolding preprocessed allowed side
+cut = refl
+
+pub cut-side : resized (vision 14 2 100) 200 ≡ 84
+unfolding side
+cut-side = refl
+
+-- one row 0, 255, patch 1, merge 4, image 4: each row 0, 128, 255, 255
+pub wider : resizedBytes (vision 1 4 4) (0 ∷ 0 ∷ 0 ∷ 255 ∷ 255 ∷ 255 ∷ []) 1 2
+    ≡ rows 4 (λ y. 0 ∷ 0 ∷ 0 ∷ 128 ∷ 128 ∷ 128 ∷ 255 ∷ 255 ∷ 255 ∷ 255 ∷ 255 ∷ 255 ∷ [])
+unfolding rows tab side near mix toByte blend whole add sub mul div lt ofInt ofBits toUnsigned
+wider = refl
+
+-- one row 10, 20, 30, 40, patch 1, merge 2, image 2: each row 10, 30
+pub narrower : resizedBytes (vision 1 2 2) (10 ∷ 10 ∷ 10 ∷ 20 ∷ 20 ∷ 20 ∷ 30 ∷ 30 ∷ 30 ∷ 40 ∷ 40 ∷ 40 ∷ []) 1 4
+    ≡ rows 2 (λ y. 10 ∷ 10 ∷ 10 ∷ 30 ∷ 30 ∷ 30 ∷ [])
+unfolding rows tab side near mix toByte blend whole add sub mul div lt ofInt ofBits toUnsigned
+narrower = refl

@@ -1,0 +1,32 @@
+-- What the C face hands on and reports. Assumes nothing.
+use mathlib.Core.Bool.{cond, _&&_}
+use Prim.Native.Nat.{ℕ, _+_, _*_}
+use lib.Dec.{leb}
+use Rattle.picture.specs.declared.PictureSettings as P
+use Rattle.picture.specs.declared.Preprocessed.{Preprocessed}
+use Rattle.picture.specs.declared.Restored.{Restored}
+use Rattle.picture.specs.Settings.{within}
+use Rattle.picture.specs.Patches.{patchFloats}
+use Rattle.picture.specs.Preprocess as Pre
+use Rattle.picture.specs.Restore as Res
+use Rattle.kyzgultam.specs.declared.PictureSettings as K
+use Rattle.kyzgultam.specs.declared.PreprocessReport.{PreprocessReport}
+use Rattle.kyzgultam.specs.declared.RestoreReport.{RestoreReport}
+use Rattle.kyzgultam.specs.declared.PatchPlace.{PatchPlace}
+
+abbrev pub inner : K.PictureSettings → P.PictureSettings
+inner s = record { «patch_size» = s .«patch_size»; «spatial_merge_size» = s .«spatial_merge_size»; «image_size» = s .«image_size» }
+
+-- the paper's number, and its sizes: 0 for each of a refusal
+abbrev pub preprocessReport : Preprocessed → PreprocessReport
+preprocessReport a = record { number = Pre.number a; «grid_h» = Pre.gridH a; «grid_w» = Pre.gridW a; floats = Pre.floats a }
+
+abbrev pub restoreReport : Restored → RestoreReport
+restoreReport a = record { number = Res.number a; height = Res.height a; width = Res.width a }
+
+-- place i·3p² and length 3p² in patches of length n, where p is in 1..32 and the whole patch lies inside
+unfoldable pub placeOf : ℕ → ℕ → ℕ → PatchPlace
+placeOf n p i =
+    cond (within 1 32 p && leb (i * patchFloats p + patchFloats p) n)
+    (record { start = i * patchFloats p; len = patchFloats p })
+    (record { start = 0; len = 0 })

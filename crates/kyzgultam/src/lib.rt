@@ -1,0 +1,120 @@
+// The C face: thin functions over `picture`, with structs of their own, so that what users linked stays
+// as it is when the settings inside grow.
+use picture::Preprocessed;
+use picture::Restored;
+ghost use mathlib.Core.Path.{_≡_};
+ghost use lib.ListN.{length};
+ghost use Rattle.picture.specs.Preprocess.{preprocessed, patchesOf, patchesLeft};
+ghost use Rattle.picture.specs.Restore.{restored, bytesOf, bytesLeft};
+ghost use Rattle.kyzgultam.specs.Face.{inner, preprocessReport, restoreReport, placeOf};
+
+#[repr(C)]
+pub struct PictureSettings {
+    pub patch_size: usize,
+    pub spatial_merge_size: usize,
+    pub image_size: usize,
+}
+
+#[repr(C)]
+pub struct PreprocessReport {
+    pub number: u32,
+    pub grid_h: usize,
+    pub grid_w: usize,
+    pub floats: usize,
+}
+
+#[repr(C)]
+pub struct RestoreReport {
+    pub number: u32,
+    pub height: usize,
+    pub width: usize,
+}
+
+// Where a patch lies in the patches: 0 and 0 where there is none.
+#[repr(C)]
+pub struct PatchPlace {
+    pub start: usize,
+    pub len: usize,
+}
+
+fn settings(s: PictureSettings) -> picture::PictureSettings
+    ensures { λ r. ⌜ r ≡ inner s ⌝ }
+{
+    picture::PictureSettings {
+        patch_size: s.patch_size,
+        spatial_merge_size: s.spatial_merge_size,
+        image_size: s.image_size,
+    }
+}
+
+#[no_mangle]
+pub extern "C" fn kz_preprocess(
+    s: PictureSettings,
+    rgb: &[u8],
+    height: usize,
+    width: usize,
+    out: &mut [f32],
+) -> PreprocessReport
+    ensures answer { λ r. ⌜ r ≡ preprocessReport (preprocessed (inner s) (length (now (rgb .entry))) height width (length (now (out .entry)))) ⌝ }
+    ensures output { λ _. ⌜ now (out .exit) ≡ patchesLeft (preprocessed (inner s) (length (now (rgb .entry))) height width (length (now (out .entry)))) (patchesOf (inner s) (now (rgb .entry)) height width) (now (out .entry)) ⌝ }
+{
+    let found = picture::preprocess::pixtral_preprocess(settings(s), rgb, height, width, out);
+    match found {
+        Preprocessed::Patches {
+            grid_h,
+            grid_w,
+            floats,
+        } => PreprocessReport {
+            number: 0,
+            grid_h,
+            grid_w,
+            floats,
+        },
+        Preprocessed::Refused(r) => PreprocessReport {
+            number: picture::settings::number(r),
+            grid_h: 0,
+            grid_w: 0,
+            floats: 0,
+        },
+    }
+}
+
+#[no_mangle]
+pub extern "C" fn kz_restore(
+    s: PictureSettings,
+    patches: &[f32],
+    grid_h: usize,
+    grid_w: usize,
+    out: &mut [u8],
+) -> RestoreReport
+    ensures answer { λ r. ⌜ r ≡ restoreReport (restored (inner s) (now (patches .entry)) «grid_h» «grid_w» (length (now (out .entry)))) ⌝ }
+    ensures output { λ _. ⌜ now (out .exit) ≡ bytesLeft (restored (inner s) (now (patches .entry)) «grid_h» «grid_w» (length (now (out .entry)))) (bytesOf (inner s) (now (patches .entry)) «grid_h» «grid_w») (now (out .entry)) ⌝ }
+{
+    let found = picture::restore::restore(settings(s), patches, grid_h, grid_w, out);
+    match found {
+        Restored::Picture { height, width } => RestoreReport {
+            number: 0,
+            height,
+            width,
+        },
+        Restored::Refused(r) => RestoreReport {
+            number: picture::settings::number(r),
+            height: 0,
+            width: 0,
+        },
+    }
+}
+
+#[no_mangle]
+pub extern "C" fn kz_patch(patches: &[f32], patch_size: usize, i: usize) -> PatchPlace
+    ensures { λ r. ⌜ r ≡ placeOf (length (now (patches .entry))) «patch_size» i ⌝ }
+{
+    let len = picture::patch::patch(patches, patch_size, i).len();
+    if len == 0 {
+        return PatchPlace { start: 0, len: 0 };
+    }
+    PatchPlace {
+        start: i * len,
+        len,
+    }
+}
