@@ -1,0 +1,41 @@
+// The generator of the RGB bytes and of the marks that outputs start with.
+ghost use mathlib.Core.Path.{_≡_};
+ghost use Prim.Native.Nat.{_<_};
+ghost use lib.ListN.{length};
+ghost use Rattle.picture_replay.specs.Marks.{next, seeded, bytes, floats};
+
+// The cells of each buffer.
+pub const ROOM: usize = 12352;
+// The seed of the marks.
+pub const MARKS: usize = 77;
+
+fn step(x: usize) -> usize
+    requires { ⌜ x < 4294967296 ⌝ }
+    ensures { λ r. ⌜ (r ≡ next x) × (r < 4294967296) ⌝ }
+{
+    (x * 1664525 + 1013904223) % 4294967296
+}
+
+pub(crate) fn fill_bytes(seed: usize, to: &mut [u8])
+    ensures { λ _. ⌜ now (to .exit) ≡ bytes (seeded seed) (length (now (to .entry))) ⌝ }
+{
+    let mut x = seed % 4294967296;
+    let mut i = 0usize;
+    while i < to.len() {
+        x = step(x);
+        to[i] = (x / 16777216) as u8;
+        i += 1;
+    }
+}
+
+pub(crate) fn fill_floats(seed: usize, to: &mut [f32])
+    ensures { λ _. ⌜ now (to .exit) ≡ floats (seeded seed) (length (now (to .entry))) ⌝ }
+{
+    let mut x = seed % 4294967296;
+    let mut i = 0usize;
+    while i < to.len() {
+        x = step(x);
+        to[i] = std::num::nearest_u32_to_f32(x as u32);
+        i += 1;
+    }
+}

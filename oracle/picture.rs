@@ -1,0 +1,1370 @@
+//! Compares libkyzgultam with the Rust on preprocess, restore and the patch lookup, byte for byte.
+//!
+//! `pixtral_preprocess` and `bilinear_resize_rgb` are the Rust's own, cut from its source. The Rust has
+//! no refusal numbers, no restore and no lookup: these follow the text of the paper that adds them.
+//!
+//!     picture            edges, and random calls with a fixed seed
+//!     picture CALL       one call, in the words in which a difference is printed
+//!     picture --bench    times ours and the Rust
+//!     picture --sample   prints the Rust's answers as crates/picture_replay/stdin holds them
+
+use std::collections::HashMap;
+use std::fmt;
+use std::hint::black_box;
+use std::io::Write;
+use std::time::Instant;
+
+/// The functions that were cut, and the types that they name.
+mod rust {
+    pub struct PixtralVisionConfig {
+        pub patch_size: usize,
+        pub spatial_merge_size: usize,
+        pub image_size: usize,
+    }
+
+    #[derive(Debug)]
+    pub enum HerbertError {
+        Config(#[allow(dead_code)] String),
+    }
+
+    pub type Result<T> = std::result::Result<T, HerbertError>;
+
+    include!(env!("KZ_CUT"));
+}
+
+#[repr(C)]
+#[derive(Clone, Copy, PartialEq)]
+struct Settings {
+    patch_size: usize,
+    spatial_merge_size: usize,
+    image_size: usize,
+}
+
+#[repr(C)]
+#[derive(Default)]
+struct PreprocessReport {
+    number: u32,
+    grid_h: usize,
+    grid_w: usize,
+    floats: usize,
+}
+
+#[repr(C)]
+#[derive(Default)]
+struct RestoreReport {
+    number: u32,
+    height: usize,
+    width: usize,
+}
+
+#[repr(C)]
+#[derive(Default)]
+struct PatchPlace {
+    start: usize,
+    len: usize,
+}
+
+// An f32 is lent by its bits, which no move of a NaN can change.
+extern "C" {
+    fn kz_preprocess(
+        s: Settings,
+        rgb: *const u8,
+        rgb_len: usize,
+        height: usize,
+        width: usize,
+        out: *mut u32,
+        out_len: usize,
+    ) -> PreprocessReport;
+    fn kz_restore(
+        s: Settings,
+        patches: *const u32,
+        patches_len: usize,
+        grid_h: usize,
+        grid_w: usize,
+        out: *mut u8,
+        out_len: usize,
+    ) -> RestoreReport;
+    fn kz_patch(patches: *const u32, len: usize, patch_size: usize, i: usize) -> PatchPlace;
+}
+
+/// Random pictures, and random calls of which most are refused, in the default run.
+const PICTURES: usize = 2_500;
+const MIXED: usize = 150_000;
+/// Differences that are printed.
+const SHOWN: usize = 20;
+/// The most bytes that a picture of a long list, or its result, has.
+const SMALL: usize = 1 << 19;
+
+const MAX: usize = usize::MAX;
+const SEED: u64 = 0x6B79_7A67_756C_7461;
+const USUAL: Settings = of(14, 2, 1540);
+
+const fn of(patch_size: usize, spatial_merge_size: usize, image_size: usize) -> Settings {
+    Settings {
+        patch_size,
+        spatial_merge_size,
+        image_size,
+    }
+}
+
+/// Height and width, of pixels or of patches.
+type Sides = [usize; 2];
+
+// --- The paper's text ---
+
+impl Settings {
+    fn allowed(self) -> bool {
+        (1..=32).contains(&self.patch_size)
+            && (1..=4).contains(&self.spatial_merge_size)
+            && (1..=2048).contains(&self.image_size)
+    }
+
+    fn align(self) -> usize {
+        self.patch_size * self.spatial_merge_size
+    }
+
+    fn patch_floats(self) -> usize {
+        3 * self.patch_size * self.patch_size
+    }
+
+    /// The most patches along a side.
+    fn most(self) -> usize {
+        self.image_size / self.patch_size
+    }
+
+    /// Rounded up to a multiple of the align, cut to the image size, rounded down to a multiple.
+    fn resized(self, sides: Sides) -> Sides {
+        let a = self.align();
+        sides.map(|side| usize::min(side.div_ceil(a) * a, self.image_size) / a * a)
+    }
+
+    fn grid(self, sides: Sides) -> Sides {
+        self.resized(sides).map(|side| side / self.patch_size)
+    }
+
+    /// The floats of a picture's patches, and the bytes of the resized picture.
+    fn size(self, sides: Sides) -> usize {
+        let [height, width] = self.resized(sides);
+        height * width * 3
+    }
+}
+
+/// The number of a preprocess that is refused before its output is measured; 0 for any other.
+fn refused(s: Settings, rgb: usize, sides: Sides) -> u32 {
+    if !s.allowed() {
+        1
+    } else if sides.iter().any(|side| !(1..=8192).contains(side)) {
+        2
+    } else if rgb != sides[0] * sides[1] * 3 {
+        3
+    } else if s.image_size < s.align() {
+        4
+    } else {
+        0
+    }
+}
+
+fn value(channel: usize, byte: u8) -> u32 {
+    let mean = [0.48145466f32, 0.4578275, 0.40821073][channel];
+    let deviation = [0.26862954f32, 0.26130258, 0.27577711][channel];
+    ((f32::from(byte) / 255.0 - mean) / deviation).to_bits()
+}
+
+/// For each channel, the byte that has the bits.
+type Bytes = [HashMap<u32, u8>; 3];
+
+fn bytes_by_bits() -> Bytes {
+    [0, 1, 2].map(|channel| (0..=255).map(|b| (value(channel, b), b)).collect())
+}
+
+/// The bits of every byte in every channel.
+fn values() -> [[u32; 256]; 3] {
+    [0, 1, 2].map(|channel| std::array::from_fn(|byte| value(channel, byte as u8)))
+}
+
+/// Restore's number, and the bytes that an accepted call writes.
+fn restored(
+    bytes: &Bytes,
+    s: Settings,
+    patches: &[u32],
+    grid: Sides,
+    out: usize,
+) -> Result<Vec<u8>, u32> {
+    if !s.allowed() {
+        return Err(1);
+    }
+    let p = s.patch_size;
+    if grid
+        .iter()
+        .any(|side| *side == 0 || *side > s.most() || side % s.spatial_merge_size != 0)
+    {
+        return Err(6);
+    }
+    if patches.len() != grid[0] * grid[1] * 3 * p * p {
+        return Err(7);
+    }
+    let [height, width] = grid.map(|side| side * p);
+    if out < height * width * 3 {
+        return Err(5);
+    }
+    let mut rgb = Vec::with_capacity(height * width * 3);
+    for row in 0..height {
+        for column in 0..width {
+            for (channel, bytes) in bytes.iter().enumerate() {
+                let patch = (row / p) * grid[1] + column / p;
+                let place = channel * p * p + (row % p) * p + column % p;
+                let bits = patches[patch * 3 * p * p + place];
+                rgb.push(*bytes.get(&bits).ok_or(8u32)?);
+            }
+        }
+    }
+    Ok(rgb)
+}
+
+/// Patch i from place i · 3p²; 0 and 0 where p is not in 1..32 or the whole patch does not lie inside.
+fn placed(floats: usize, patch_size: usize, i: usize) -> [usize; 2] {
+    if !(1..=32).contains(&patch_size) {
+        return [0, 0];
+    }
+    let len = 3 * patch_size * patch_size;
+    match i.checked_mul(len) {
+        Some(start) if floats >= len && start <= floats - len => [start, len],
+        _ => [0, 0],
+    }
+}
+
+impl fmt::Display for Settings {
+    fn fmt(&self, to: &mut fmt::Formatter) -> fmt::Result {
+        let (patch, merge) = (self.patch_size, self.spatial_merge_size);
+        write!(to, "patch {patch} merge {merge} image {}", self.image_size)
+    }
+}
+
+// --- Pictures ---
+
+/// SplitMix64.
+struct Random(u64);
+
+impl Random {
+    fn next(&mut self) -> u64 {
+        self.0 = self.0.wrapping_add(0x9E37_79B9_7F4A_7C15);
+        let mut z = self.0;
+        z = (z ^ (z >> 30)).wrapping_mul(0xBF58_476D_1CE4_E5B9);
+        z = (z ^ (z >> 27)).wrapping_mul(0x94D0_49BB_1331_11EB);
+        z ^ (z >> 31)
+    }
+
+    fn below(&mut self, n: usize) -> usize {
+        (self.next() % n as u64) as usize
+    }
+
+    fn pick<T: Copy>(&mut self, from: &[T]) -> T {
+        from[self.below(from.len())]
+    }
+
+    fn fill(&mut self) -> Fill {
+        Fill::Random(self.next())
+    }
+}
+
+/// A picture's bytes, by a rule.
+#[derive(Clone, Copy, PartialEq)]
+enum Fill {
+    /// The words of SplitMix64 from a seed, the low byte of each first.
+    Random(u64),
+    /// The generator of the sample from a seed.
+    Sample(u32),
+    Zero,
+    Full,
+    /// From 0 in the first column to 255 in the last.
+    Across,
+    /// From 0 in the first row to 255 in the last.
+    Down,
+    /// The low 8 bits of each byte's index.
+    Ramp,
+    /// Pixels of 0 and of 255 in turn.
+    Checks,
+}
+
+const FILLS: [(&str, Fill); 6] = [
+    ("zero", Fill::Zero),
+    ("full", Fill::Full),
+    ("across", Fill::Across),
+    ("down", Fill::Down),
+    ("ramp", Fill::Ramp),
+    ("checks", Fill::Checks),
+];
+
+impl Fill {
+    fn bytes(self, len: usize, sides: Sides) -> Vec<u8> {
+        let [height, width] = sides.map(|side| side.max(1));
+        let shade = |at: usize, side: usize| (at * 255 / (side - 1).max(1)) as u8;
+        let each = |byte: &dyn Fn(usize) -> u8| (0..len).map(byte).collect();
+        match self {
+            Fill::Random(seed) => {
+                let (mut random, mut bytes) = (Random(seed), vec![0; len]);
+                for run in bytes.chunks_mut(8) {
+                    run.copy_from_slice(&random.next().to_le_bytes()[..run.len()]);
+                }
+                bytes
+            }
+            Fill::Sample(seed) => states(seed).map(|x| (x >> 24) as u8).take(len).collect(),
+            Fill::Zero => vec![0; len],
+            Fill::Full => vec![255; len],
+            Fill::Across => each(&|i| shade(i / 3 % width, width)),
+            Fill::Down => each(&|i| shade(i / 3 / width, height)),
+            Fill::Ramp => each(&|i| i as u8),
+            Fill::Checks => each(&|i| {
+                if (i / 3 % width + i / 3 / width) % 2 == 0 {
+                    0
+                } else {
+                    255
+                }
+            }),
+        }
+    }
+
+    fn of(word: &str) -> Option<Fill> {
+        match word.split_once(':') {
+            Some(("random", seed)) => seed.parse().ok().map(Fill::Random),
+            Some(("sample", seed)) => seed.parse().ok().map(Fill::Sample),
+            _ => FILLS
+                .iter()
+                .find(|(name, _)| *name == word)
+                .map(|(_, fill)| *fill),
+        }
+    }
+}
+
+impl fmt::Display for Fill {
+    fn fmt(&self, to: &mut fmt::Formatter) -> fmt::Result {
+        let name = FILLS.iter().find(|(_, fill)| fill == self);
+        match (self, name) {
+            (Fill::Random(seed), _) => write!(to, "random:{seed}"),
+            (Fill::Sample(seed), _) => write!(to, "sample:{seed}"),
+            (_, Some((name, _))) => write!(to, "{name}"),
+            (_, None) => Err(fmt::Error),
+        }
+    }
+}
+
+/// A picture that preprocess accepts, and the Rust's answers.
+struct Picture {
+    of: (Settings, Sides, Fill),
+    rgb: Vec<u8>,
+    patches: Vec<u32>,
+    grid: Sides,
+    resized: Vec<u8>,
+}
+
+fn preprocess_in_rust(s: Settings, rgb: &[u8], [height, width]: Sides) -> (Vec<f32>, usize, usize) {
+    let config = rust::PixtralVisionConfig {
+        patch_size: s.patch_size,
+        spatial_merge_size: s.spatial_merge_size,
+        image_size: s.image_size,
+    };
+    rust::pixtral_preprocess(rgb, height, width, &config)
+        .expect("the Rust refuses a call that the paper accepts")
+}
+
+fn picture(s: Settings, sides: Sides, fill: Fill) -> Picture {
+    let rgb = fill.bytes(sides[0] * sides[1] * 3, sides);
+    let (patches, grid_h, grid_w) = preprocess_in_rust(s, &rgb, sides);
+    let [height, width] = s.resized(sides);
+    let mut resized = vec![0; height * width * 3];
+    rust::bilinear_resize_rgb(&rgb, sides[0], sides[1], &mut resized, height, width);
+    Picture {
+        of: (s, sides, fill),
+        rgb,
+        patches: patches.into_iter().map(f32::to_bits).collect(),
+        grid: [grid_h, grid_w],
+        resized,
+    }
+}
+
+// --- Lent buffers ---
+
+trait Cell: Copy + PartialEq + fmt::LowerHex {
+    fn mark(at: usize) -> Self;
+}
+
+impl Cell for u8 {
+    fn mark(at: usize) -> u8 {
+        0xA5 ^ (at as u8).wrapping_mul(29)
+    }
+}
+
+/// The bits of numbers near -6.9, which no sample is.
+impl Cell for u32 {
+    fn mark(at: usize) -> u32 {
+        0xC0DE_0000 | (at & 0xFFFF) as u32
+    }
+}
+
+/// Marked cells before and after a buffer. An odd number, so that bytes are lent at odd places.
+const GUARD: usize = 61;
+
+/// A buffer to lend: contents in front, then marks.
+struct Lent<T> {
+    cells: Vec<T>,
+    len: usize,
+}
+
+impl<T: Cell> Lent<T> {
+    fn new(front: &[T], len: usize) -> Self {
+        let mut cells: Vec<T> = (0..len + 2 * GUARD).map(T::mark).collect();
+        cells[GUARD..GUARD + front.len()].copy_from_slice(front);
+        Lent { cells, len }
+    }
+
+    fn pointer(&mut self) -> *mut T {
+        self.cells[GUARD..].as_mut_ptr()
+    }
+
+    /// The first place, guards among them, where `front` and then marks do not stand.
+    fn differs(&self, name: &str, front: &[T]) -> Option<String> {
+        let inside = GUARD..GUARD + front.len();
+        let expected = |at: usize| match inside.contains(&at) {
+            true => front[at - GUARD],
+            false => T::mark(at),
+        };
+        let outside = (0..inside.start).chain(inside.end..self.cells.len());
+        let wrong = |at: &usize| self.cells[*at] != expected(*at);
+        let at = match self.cells[inside.clone()] == *front {
+            true => outside.into_iter().find(wrong)?,
+            false => inside.clone().find(wrong)?,
+        };
+        let place = at as isize - GUARD as isize;
+        let (found, right) = (self.cells[at], expected(at));
+        Some(format!(
+            "{name}[{place}] of {} is {found:x}, not {right:x}",
+            self.len
+        ))
+    }
+}
+
+fn differ<const N: usize>(
+    names: [&str; N],
+    found: [usize; N],
+    right: [usize; N],
+) -> Option<String> {
+    let at = (0..N).find(|at| found[*at] != right[*at])?;
+    Some(format!("{} is {}, not {}", names[at], found[at], right[at]))
+}
+
+// --- The comparison ---
+
+/// Where the patches of a restore come from.
+#[derive(Clone, Copy)]
+enum Source {
+    /// The samples of a run of bytes, each in the channel of its place.
+    Samples(Fill),
+    /// The Rust's patches of a picture.
+    Picture(Sides, Fill),
+}
+
+impl fmt::Display for Source {
+    fn fmt(&self, to: &mut fmt::Formatter) -> fmt::Result {
+        match self {
+            Source::Samples(fill) => write!(to, "samples {fill}"),
+            Source::Picture([h, w], fill) => write!(to, "height {h} width {w} rgb {fill}"),
+        }
+    }
+}
+
+/// A place of the patches, and the bits that are put there.
+type Set = (usize, u32);
+
+struct Comparison {
+    bytes: Bytes,
+    values: [[u32; 256]; 3],
+    /// The last picture that was asked for: the calls come in groups that share one.
+    last: Option<Picture>,
+    random: Random,
+    preprocess: u64,
+    restore: u64,
+    patch: u64,
+    differ: u64,
+    first: Vec<String>,
+}
+
+impl Comparison {
+    fn new() -> Self {
+        Comparison {
+            bytes: bytes_by_bits(),
+            values: values(),
+            last: None,
+            random: Random(SEED),
+            preprocess: 0,
+            restore: 0,
+            patch: 0,
+            differ: 0,
+            first: Vec::new(),
+        }
+    }
+
+    /// Makes the picture the last one.
+    fn ask(&mut self, s: Settings, sides: Sides, fill: Fill) -> &Picture {
+        if self.last.as_ref().is_none_or(|p| p.of != (s, sides, fill)) {
+            self.last = Some(picture(s, sides, fill));
+        }
+        self.last.as_ref().expect("a picture was made")
+    }
+
+    fn preprocess(&mut self, s: Settings, sides: Sides, fill: Fill, rgb: usize, out: usize) {
+        self.preprocess += 1;
+        let number = refused(s, rgb, sides);
+        let found = match number {
+            0 => {
+                let p = self.ask(s, sides, fill);
+                match out < p.patches.len() {
+                    true => preprocess(s, sides, &p.rgb, out, 5, [0, 0], &[]),
+                    false => preprocess(s, sides, &p.rgb, out, 0, p.grid, &p.patches),
+                }
+            }
+            _ => preprocess(s, sides, &fill.bytes(rgb, sides), out, number, [0, 0], &[]),
+        };
+        let [h, w] = sides;
+        self.note(found, || {
+            format!("preprocess {s} height {h} width {w} rgb {fill} bytes {rgb} out {out}")
+        });
+    }
+
+    fn restore(
+        &mut self,
+        s: Settings,
+        grid: Sides,
+        source: Source,
+        floats: usize,
+        out: usize,
+        set: &[Set],
+    ) {
+        self.restore += 1;
+        let mut patches: Vec<u32> = match source {
+            Source::Samples(fill) => {
+                let bytes = fill.bytes(floats, [1, floats / 3]);
+                let p = if s.allowed() { s.patch_size } else { 1 };
+                let mut samples = Vec::with_capacity(floats);
+                for (run, values) in bytes.chunks(p * p).zip(self.values.iter().cycle()) {
+                    samples.extend(run.iter().map(|byte| values[*byte as usize]));
+                }
+                samples
+            }
+            Source::Picture(sides, fill) => self.ask(s, sides, fill).patches.clone(),
+        };
+        patches.resize(floats, 0);
+        for (place, bits) in set {
+            patches[*place] = *bits;
+        }
+        let expected = restored(&self.bytes, s, &patches, grid, out);
+        let mut found = restore(s, grid, &patches, out, &expected);
+        // what nothing damaged comes back as the Rust's resized bytes
+        if let (None, Source::Picture(..), true) = (&found, source, set.is_empty()) {
+            let resized = &self.last.as_ref().expect("the call's picture").resized;
+            if expected.is_ok_and(|bytes| bytes != *resized) {
+                found = Some("the bytes are not the resized ones".to_string());
+            }
+        }
+        let [h, w] = grid;
+        self.note(found, || {
+            let set = set.iter().map(|(at, bits)| format!(" set {at}={bits:08x}"));
+            let set: String = set.collect();
+            format!("restore {s} grid_h {h} grid_w {w} {source} floats {floats} out {out}{set}")
+        });
+    }
+
+    fn patch(&mut self, floats: usize, patch_size: usize, i: usize) {
+        self.patch += 1;
+        let found = patch(floats, patch_size, i);
+        self.note(found, || {
+            format!("lookup floats {floats} patch {patch_size} i {i}")
+        });
+    }
+
+    fn note(&mut self, found: Option<String>, words: impl Fn() -> String) {
+        if let Some(what) = found {
+            self.differ += 1;
+            if self.first.len() < SHOWN {
+                self.first.push(format!("{}: {what}", words()));
+            }
+        }
+    }
+
+    /// The call of such words: a kind, then names with values.
+    fn repeat(&mut self, words: &[&str]) -> Option<()> {
+        let (kind, pairs) = words.split_first()?;
+        let pairs = pairs.chunks_exact(2);
+        let text = |name| Some(pairs.clone().find(|pair| pair[0] == name)?[1]);
+        let number = |name| text(name)?.parse::<usize>().ok();
+        let settings = || Some(of(number("patch")?, number("merge")?, number("image")?));
+        let sides = || Some([number("height")?, number("width")?]);
+        let rgb = || Fill::of(text("rgb")?);
+        match *kind {
+            "preprocess" => {
+                let (bytes, out) = (number("bytes")?, number("out")?);
+                self.preprocess(settings()?, sides()?, rgb()?, bytes, out);
+            }
+            "restore" => {
+                let grid = [number("grid_h")?, number("grid_w")?];
+                let source = match text("samples") {
+                    Some(fill) => Source::Samples(Fill::of(fill)?),
+                    None => Source::Picture(sides()?, rgb()?),
+                };
+                let mut set = Vec::new();
+                for pair in pairs.clone().filter(|pair| pair[0] == "set") {
+                    let (at, bits) = pair[1].split_once('=')?;
+                    set.push((at.parse().ok()?, u32::from_str_radix(bits, 16).ok()?));
+                }
+                let (floats, out) = (number("floats")?, number("out")?);
+                self.restore(settings()?, grid, source, floats, out, &set);
+            }
+            "lookup" => self.patch(number("floats")?, number("patch")?, number("i")?),
+            _ => return None,
+        }
+        Some(())
+    }
+
+    /// Prints the differences and the counts, and says whether nothing differs.
+    fn report(self) -> bool {
+        for line in &self.first {
+            println!("{line}");
+        }
+        println!(
+            "picture: {} preprocess, {} restore, {} patch calls compared with the Rust; {} differ",
+            self.preprocess, self.restore, self.patch, self.differ
+        );
+        self.differ == 0
+    }
+}
+
+/// Ours, beside a number, a grid and the front of the output.
+fn preprocess(
+    s: Settings,
+    [height, width]: Sides,
+    rgb: &[u8],
+    out: usize,
+    number: u32,
+    grid: Sides,
+    patches: &[u32],
+) -> Option<String> {
+    let mut input = Lent::new(rgb, rgb.len());
+    let mut output = Lent::new(&[], out);
+    let (from, to) = (input.pointer(), output.pointer());
+    let ours = unsafe { kz_preprocess(s, from, rgb.len(), height, width, to, out) };
+    let found = [ours.number as usize, ours.grid_h, ours.grid_w, ours.floats];
+    let right = [number as usize, grid[0], grid[1], patches.len()];
+    differ(["number", "grid_h", "grid_w", "floats"], found, right)
+        .or_else(|| output.differs("out", patches))
+        .or_else(|| input.differs("rgb", rgb))
+}
+
+fn restore(
+    s: Settings,
+    grid: Sides,
+    patches: &[u32],
+    out: usize,
+    expected: &Result<Vec<u8>, u32>,
+) -> Option<String> {
+    let mut input = Lent::new(patches, patches.len());
+    let mut output = Lent::new(&[], out);
+    let (from, to) = (input.pointer(), output.pointer());
+    let ours = unsafe { kz_restore(s, from, patches.len(), grid[0], grid[1], to, out) };
+    let found = [ours.number as usize, ours.height, ours.width];
+    let (right, bytes): ([usize; 3], &[u8]) = match expected {
+        Ok(bytes) => ([0, grid[0] * s.patch_size, grid[1] * s.patch_size], bytes),
+        Err(number) => ([*number as usize, 0, 0], &[]),
+    };
+    differ(["number", "height", "width"], found, right)
+        .or_else(|| output.differs("out", bytes))
+        .or_else(|| input.differs("patches", patches))
+}
+
+fn patch(floats: usize, patch_size: usize, i: usize) -> Option<String> {
+    let mut input = Lent::<u32>::new(&[], floats);
+    let ours = unsafe { kz_patch(input.pointer(), floats, patch_size, i) };
+    let right = placed(floats, patch_size, i);
+    differ(["start", "len"], [ours.start, ours.len], right)
+        .or_else(|| input.differs("patches", &[]))
+}
+
+// --- What is compared ---
+
+impl Comparison {
+    /// A picture's patches into outputs of several lengths, and back out of them.
+    fn there_and_back(&mut self, s: Settings, sides: Sides, fill: Fill) {
+        let n = s.size(sides);
+        for out in [n, n - 1, n + 40] {
+            self.preprocess(s, sides, fill, sides[0] * sides[1] * 3, out);
+            self.restore(s, s.grid(sides), Source::Picture(sides, fill), n, out, &[]);
+        }
+    }
+
+    fn large_pictures(&mut self) {
+        for sides in [
+            [1, 1],
+            [28, 28],
+            [29, 28],
+            [28, 29],
+            [1540, 1541],
+            [1540, 1540],
+        ] {
+            let fill = self.random.fill();
+            self.there_and_back(USUAL, sides, fill);
+        }
+        for s in [USUAL, of(32, 4, 2048), of(1, 1, 1), of(3, 4, 61)] {
+            for sides in [[1, 8192], [8192, 1], [2, 8191], [8191, 3]] {
+                let fill = self.random.fill();
+                self.there_and_back(s, sides, fill);
+            }
+        }
+        let fill = self.random.fill();
+        self.there_and_back(of(32, 4, 2048), [8192, 8192], fill);
+        self.there_and_back(of(31, 3, 2047), [2048, 2047], Fill::Checks);
+    }
+
+    /// Every kind of side, below, at and above the align and the image size, with every fill.
+    fn small_pictures(&mut self) {
+        self.there_and_back(of(14, 2, 100), [200, 200], Fill::Ramp);
+        self.there_and_back(of(1, 4, 4), [1, 2], Fill::Across);
+        self.there_and_back(of(1, 2, 2), [1, 4], Fill::Across);
+        let settings = [
+            of(1, 1, 1),
+            of(1, 1, 2),
+            of(1, 3, 7),
+            of(1, 4, 4),
+            of(2, 2, 5),
+            of(3, 4, 61),
+            of(5, 1, 50),
+            of(7, 3, 64),
+            of(14, 2, 28),
+            of(14, 2, 29),
+            of(14, 2, 55),
+            of(14, 2, 100),
+            of(16, 1, 64),
+            of(32, 1, 33),
+            of(32, 4, 128),
+            of(32, 4, 130),
+            USUAL,
+        ];
+        for s in settings {
+            let (a, n) = (s.align(), s.image_size);
+            let mut list = vec![1, a - 1, a, a + 1, 2 * a, n - 1, n, n + 1];
+            list.extend([2, 3, 5, 13, 31, 61, 127, 251]);
+            for [height, width] in pairs(list) {
+                let sides = [height, width];
+                if !sides.contains(&0) && usize::max(height * width * 3, s.size(sides)) <= SMALL {
+                    let fill = match self.random.below(8) {
+                        k if k < FILLS.len() => FILLS[k].1,
+                        _ => self.random.fill(),
+                    };
+                    self.there_and_back(s, sides, fill);
+                }
+            }
+        }
+    }
+
+    fn random_pictures(&mut self) {
+        for _ in 0..PICTURES {
+            let random = &mut self.random;
+            let (patch, merge) = (1 + random.below(32), 1 + random.below(4));
+            let a = patch * merge;
+            let image = a + random.below(160);
+            let side = |random: &mut Random| match random.below(4) {
+                0 => 1 + random.below(8),
+                1 => 1 + random.below(image),
+                2 => 1 + random.below(3 * image),
+                _ => image / a * a + random.below(3),
+            };
+            let sides = [side(random), side(random)];
+            let fill = random.fill();
+            self.there_and_back(of(patch, merge, image), sides, fill);
+        }
+    }
+
+    /// Preprocess at and past each limit, and where products come round to small numbers.
+    fn refused_pictures(&mut self) {
+        for s in [USUAL, of(1, 1, 1), of(32, 4, 2048), of(32, 4, 128)] {
+            for sides in [[1, 1], [3, 5], [28, 29]] {
+                let (rgb, n) = (sides[0] * sides[1] * 3, s.size(sides));
+                for rgb in [0, 1, rgb - 1, rgb, rgb + 1, 2 * rgb] {
+                    for out in [0, 1, n - 1, n, n + 1] {
+                        self.preprocess(s, sides, Fill::Ramp, rgb, out);
+                    }
+                }
+            }
+        }
+        for image in 1..=200 {
+            for s in [of(14, 2, image), of(32, 4, image)] {
+                self.preprocess(s, [3, 2], Fill::Ramp, 18, 200 * 200 * 3);
+            }
+        }
+        let list = vec![
+            0,
+            1,
+            2,
+            8191,
+            8192,
+            8193,
+            16384,
+            1 << 32,
+            1 << 63,
+            MAX - 1,
+            MAX,
+        ];
+        for sides in pairs(list) {
+            let product = sides[0].wrapping_mul(sides[1]).wrapping_mul(3);
+            for rgb in [0, 3, product] {
+                if rgb <= SMALL {
+                    self.preprocess(of(14, 2, 28), sides, Fill::Ramp, rgb, 3000);
+                }
+            }
+        }
+        let list = vec![
+            0,
+            1,
+            2,
+            1 << 31,
+            1 << 32,
+            1 << 63,
+            MAX / 3,
+            MAX / 3 + 1,
+            MAX,
+        ];
+        for patch in [0, 1, 32, 33, 1 << 32, 1 << 63, MAX] {
+            for merge in [0, 1, 4, 5, 1 << 32, 1 << 63, MAX] {
+                for image in [0, 1, 127, 128, 2048, 2049, 1 << 63, MAX] {
+                    for sides in pairs(list.clone()) {
+                        let rgb = self.random.pick(&[0, 0, 3, 6, 12]);
+                        let out = self.random.pick(&[0, 1, 3, 12, 49152]);
+                        self.preprocess(of(patch, merge, image), sides, Fill::Ramp, rgb, out);
+                    }
+                }
+            }
+        }
+    }
+
+    /// Restore with grids at and past each limit, and lengths at and beside the right ones.
+    fn grids(&mut self) {
+        let settings = [
+            of(1, 1, 1),
+            of(1, 4, 4),
+            of(1, 2, 9),
+            of(1, 3, 2),
+            of(2, 3, 13),
+            of(5, 2, 24),
+            of(14, 2, 27),
+            of(14, 2, 28),
+            of(14, 2, 60),
+            of(32, 4, 127),
+            of(32, 4, 128),
+            of(32, 1, 64),
+            of(16, 4, 2048),
+        ];
+        for s in settings {
+            let (m, most) = (s.spatial_merge_size, s.most());
+            let mut list = vec![
+                0,
+                1,
+                m - 1,
+                m,
+                m + 1,
+                2 * m,
+                3 * m,
+                most - 1,
+                most,
+                most + 1,
+            ];
+            list.extend([most / m * m, most / m * m + m, most + m]);
+            list.extend([1 << 32, 1 << 63, MAX / m * m, MAX]);
+            for grid in pairs(list) {
+                let n = grid[0].wrapping_mul(grid[1]).wrapping_mul(s.patch_floats());
+                for floats in [0, n.wrapping_sub(1), n, n.wrapping_add(1)] {
+                    let outs: &[usize] = match floats == n {
+                        true => &[0, n.saturating_sub(1), n, n.saturating_add(40)],
+                        false => &[floats],
+                    };
+                    for out in outs.iter().filter(|_| floats <= SMALL / 8) {
+                        let source = Source::Samples(self.random.fill());
+                        self.restore(s, grid, source, floats, *out, &[]);
+                    }
+                }
+            }
+        }
+        let list = vec![0, 1, 2, 4, 1 << 32, 1 << 63, MAX];
+        for patch in [0, 1, 2, 32, 33, 1 << 32, 1 << 63, MAX] {
+            for merge in [0, 1, 4, 5, 1 << 63, MAX] {
+                for image in [0, 1, 2, 128, 2048, 2049, MAX] {
+                    for grid in pairs(list.clone()) {
+                        let floats = self.random.pick(&[0, 3, 12, 48]);
+                        let out = self.random.pick(&[0, 2, 3, 12, 48]);
+                        let source = Source::Samples(Fill::Ramp);
+                        self.restore(of(patch, merge, image), grid, source, floats, out, &[]);
+                    }
+                }
+            }
+        }
+    }
+
+    /// A picture's patches with samples changed, at the first places, the last and between.
+    fn damaged_pictures(&mut self) {
+        for (s, sides) in [
+            (of(1, 1, 1), [1, 1]),
+            (of(1, 2, 3), [2, 3]),
+            (of(14, 2, 28), [5, 9]),
+            (of(5, 1, 23), [30, 7]),
+            (of(32, 1, 64), [40, 64]),
+        ] {
+            let fill = self.random.fill();
+            let patches = picture(s, sides, fill).patches;
+            let n = patches.len();
+            let mut places = vec![0, 1, n / 3, n / 2, 2 * n / 3, n - 2, n - 1];
+            places.extend((0..5).map(|_| self.random.below(n)));
+            for place in places {
+                let bits = patches[place];
+                let channel = place * 3 / s.patch_floats() % 3;
+                let mut list = odd_bits();
+                list.extend((0..32).map(|bit| bits ^ 1 << bit));
+                list.extend([bits + 1, bits - 1]);
+                for byte in [0, 1, 100, 254, 255] {
+                    list.extend((0..3).map(|shift| value((channel + shift) % 3, byte)));
+                }
+                let mut sets: Vec<_> = list.into_iter().map(|bits| vec![(place, bits)]).collect();
+                let other = self.random.below(n);
+                sets.push(vec![(place, patches[other]), (other, bits)]);
+                sets.push(vec![(place, 0x7FC0_0000), (other, 0x8000_0000)]);
+                let source = Source::Picture(sides, fill);
+                for set in sets {
+                    for out in [n, n - 1, n + 3] {
+                        self.restore(s, s.grid(sides), source, n, out, &set);
+                    }
+                }
+            }
+        }
+    }
+
+    /// One pixel, with bits around every value and between two, and random bits.
+    fn pixels(&mut self) {
+        let plain = [value(0, 9), value(1, 99), value(2, 199)];
+        for channel in 0..3 {
+            let mut list = odd_bits();
+            for byte in 0..=255 {
+                let bits = value(channel, byte);
+                list.extend(bits - 40..=bits + 40);
+                let next = value(channel, byte.saturating_add(1));
+                let middle = ((f32::from_bits(bits) + f32::from_bits(next)) / 2.0).to_bits();
+                list.extend(middle - 1..=middle + 1);
+                list.extend((0..3).map(|other| value(other, byte)));
+            }
+            list.extend((0..MIXED / 2).map(|_| self.random.next() as u32));
+            for bits in list {
+                let mut set = [(0, plain[0]), (1, plain[1]), (2, plain[2])];
+                set[channel].1 = bits;
+                self.restore(of(1, 1, 1), [1, 1], Source::Samples(Fill::Zero), 3, 3, &set);
+            }
+        }
+    }
+
+    /// Calls in which each part by itself is sound or not, so that refusals meet.
+    fn mixed(&mut self) {
+        let odd = odd_bits();
+        for _ in 0..MIXED {
+            let random = &mut self.random;
+            let patch = random.pick(&[1, 1, 2, 2, 3, 4, 0, 33]);
+            let merge = random.pick(&[1, 1, 2, 2, 3, 4, 0, 5]);
+            let image = random.pick(&[1, 3, 4, 6, 8, 9, 12, 16, 0, 2049]);
+            let s = of(patch, merge, image);
+            let near = |random: &mut Random, n: usize| match random.below(3) {
+                0 => (n.min(1000) + random.below(3)).saturating_sub(1),
+                _ => n.min(1000),
+            };
+            let sides: Sides = [
+                random.pick(&[1, 1, 2, 3, 4, 7, 0, 8193]),
+                random.pick(&[1, 1, 2, 3, 5, 9, 0, MAX]),
+            ];
+            let rgb = near(random, sides[0].saturating_mul(sides[1]).saturating_mul(3));
+            let out = random.pick(&[0, 3, 12, 27, 48, 108, 192, 432, 768]);
+            let fill = random.fill();
+            let grid: Sides = [
+                random.pick(&[1, 2, 3, 4, 6, 0, 8, MAX]),
+                random.pick(&[1, 2, 3, 4, 6, 0, 9, 1 << 63]),
+            ];
+            let n = grid[0].saturating_mul(grid[1]);
+            let floats = near(random, n.saturating_mul(s.patch_floats()));
+            let bytes = near(random, floats);
+            let mut set = Vec::new();
+            if floats > 0 && random.below(3) == 0 {
+                set.push((random.below(floats), random.pick(&odd)));
+            }
+            self.preprocess(s, sides, fill, rgb, out);
+            self.restore(s, grid, Source::Samples(fill), floats, bytes, &set);
+        }
+    }
+
+    fn patches(&mut self) {
+        let mut sizes: Vec<usize> = vec![0, 1, 2, 3, 7, 14, 31, 32, 33, 34, 64, 1 << 16];
+        sizes.extend([
+            1 << 31,
+            1 << 32,
+            1 << 33,
+            (1 << 63) - 1,
+            1 << 63,
+            MAX - 1,
+            MAX,
+        ]);
+        for patch_size in sizes {
+            let n = patch_size.wrapping_mul(patch_size).wrapping_mul(3);
+            let mut lengths = vec![0, 1, 2, 3, 4, 5, 6, 7, 100, 3071, 3072, 3073];
+            lengths.extend([n.wrapping_sub(1), n, n.wrapping_add(1)]);
+            lengths.extend([n.wrapping_mul(2), n.wrapping_mul(5)]);
+            lengths.retain(|floats| *floats <= SMALL);
+            for floats in lengths {
+                // the count of whole patches, and where i · 3p² comes round to a small number
+                let (count, round) = (floats / n.max(1), MAX / n.max(1));
+                let mut places = vec![0, 1, 2, 3, count.saturating_sub(1), count, count + 1];
+                places.extend([1 << 31, 1 << 32, 1 << 62, 1 << 63, MAX - 1, MAX]);
+                places.extend([
+                    round - 1,
+                    round,
+                    round.wrapping_add(1),
+                    round.wrapping_add(2),
+                ]);
+                places.extend((0..3).map(|_| self.random.next() as usize));
+                for i in places {
+                    self.patch(floats, patch_size, i);
+                }
+            }
+        }
+    }
+}
+
+/// Every pair of two members of the list.
+fn pairs(mut list: Vec<usize>) -> Vec<Sides> {
+    list.sort();
+    list.dedup();
+    let with = |first: &usize| {
+        list.iter()
+            .map(|second| [*first, *second])
+            .collect::<Vec<_>>()
+    };
+    list.iter().flat_map(with).collect()
+}
+
+/// NaNs, infinities, zeros, subnormals, whole numbers, and a byte before it is a sample.
+fn odd_bits() -> Vec<u32> {
+    let mut list = vec![0x7FC0_0000, 0x7F80_0001, 0x7FBF_FFFF, 0x7FFF_FFFF];
+    list.extend([0xFFC0_0000, 0xFF80_0001, 0xFFFF_FFFF]);
+    list.extend([0x7F80_0000, 0xFF80_0000, 0x7F7F_FFFF, 0xFF7F_FFFF]);
+    list.extend([0, 0x8000_0000, 1, 0x8000_0001, 0x007F_FFFF, 0x0080_0000]);
+    list.extend([1.0, -1.0, 2.0, 255.0, 256.0, 8388608.0, -8388608.0].map(f32::to_bits));
+    list.push((100.0f32 / 255.0).to_bits());
+    list
+}
+
+fn edges_and_random() -> bool {
+    let mut all = Comparison::new();
+    all.large_pictures();
+    all.small_pictures();
+    all.random_pictures();
+    all.refused_pictures();
+    all.grids();
+    all.damaged_pictures();
+    all.pixels();
+    all.mixed();
+    all.patches();
+    all.report()
+}
+
+fn one(words: &[&str]) -> bool {
+    let mut all = Comparison::new();
+    if all.repeat(words).is_none() {
+        eprintln!("usage: picture [CALL | --bench | --sample]");
+        std::process::exit(2);
+    }
+    all.report()
+}
+
+// --- The benchmark ---
+
+/// Milliseconds of the fastest of several runs, each of the two in turn.
+fn fastest(mut ours: impl FnMut(), mut other: impl FnMut()) -> [f64; 2] {
+    let time = |run: &mut dyn FnMut()| {
+        let began = Instant::now();
+        run();
+        began.elapsed().as_secs_f64() * 1e3
+    };
+    (0..15).fold([f64::INFINITY; 2], |best, _| {
+        [best[0].min(time(&mut ours)), best[1].min(time(&mut other))]
+    })
+}
+
+fn bench() {
+    println!("{:24}{:>10}{:>10}", "milliseconds", "ours", "the Rust");
+    for [height, width] in [[1540, 1540], [1024, 768]] {
+        let made = picture(USUAL, [height, width], Fill::Random(SEED));
+        let mut out = vec![0u32; made.patches.len()];
+        let rgb = black_box(&made.rgb[..]);
+        let ours = || unsafe {
+            let (from, to) = (rgb.as_ptr(), out.as_mut_ptr());
+            black_box(kz_preprocess(
+                USUAL,
+                from,
+                rgb.len(),
+                height,
+                width,
+                to,
+                out.len(),
+            ));
+        };
+        let other = || {
+            black_box(preprocess_in_rust(USUAL, rgb, [height, width]));
+        };
+        let [ours, other] = fastest(ours, other);
+        assert!(out == made.patches, "the patches differ");
+        let name = format!("preprocess {height}x{width}");
+        println!(
+            "{name:24}{ours:10.2}{other:10.2}   {:.2} times as fast",
+            other / ours
+        );
+    }
+    let made = picture(USUAL, [1540, 1540], Fill::Random(SEED));
+    let mut out = vec![0u8; made.resized.len()];
+    let patches = black_box(&made.patches[..]);
+    let ours = || unsafe {
+        let (from, to) = (patches.as_ptr(), out.as_mut_ptr());
+        let [grid_h, grid_w] = made.grid;
+        black_box(kz_restore(
+            USUAL,
+            from,
+            patches.len(),
+            grid_h,
+            grid_w,
+            to,
+            out.len(),
+        ));
+    };
+    let [ours, _] = fastest(ours, || {});
+    assert!(out == made.resized, "the bytes are not the resized ones");
+    let speed = out.len() as f64 / ours / 1e3;
+    println!(
+        "{:24}{ours:10.2}{:>10}   {speed:.0} MB of RGB a second",
+        "restore 1540x1540", "-"
+    );
+}
+
+// --- The sample ---
+
+/// The cells of each of the replay's buffers, and the seed of their marks.
+const CELLS: usize = 12_352;
+const MARKS: u32 = 77;
+
+/// The states of the sample's generator after a seed.
+fn states(seed: u32) -> impl Iterator<Item = u32> {
+    let step = |x: &u32| Some(x.wrapping_mul(1_664_525).wrapping_add(1_013_904_223));
+    std::iter::successors(Some(seed), step).skip(1)
+}
+
+/// Two remainders side by side: a word w takes each h from h to (h · k + w) mod m; both start at 1.
+fn hash(words: &[u32]) -> u64 {
+    let lane = |k: u64, m: u64| words.iter().fold(1, |h, w| (h * k + u64::from(*w)) % m);
+    lane(2_147_483_629, 4_294_967_291) << 32 | lane(2_147_483_587, 4_294_967_279)
+}
+
+/// What a record asks: preprocess into `out` cells, then restore of the buffer's first `floats`.
+struct Asked {
+    s: Settings,
+    sides: Sides,
+    rgb: usize,
+    out: usize,
+    seed: u32,
+    grid: Sides,
+    floats: usize,
+    bytes: usize,
+    /// 0 none; 1 a flipped bit, the place modulo 32; 2 a NaN; 3 minus zero; 4 infinity.
+    damage: usize,
+    place: usize,
+}
+
+/// A record that both calls accept.
+fn asked(s: Settings, sides: Sides, seed: u32) -> Asked {
+    Asked {
+        s,
+        sides,
+        rgb: sides[0] * sides[1] * 3,
+        out: s.size(sides),
+        seed,
+        grid: s.grid(sides),
+        floats: s.size(sides),
+        bytes: s.size(sides),
+        damage: 0,
+        place: 0,
+    }
+}
+
+impl Asked {
+    /// The record's line, by the Rust and the paper's text alone.
+    fn answered(&self, bytes: &Bytes) -> String {
+        let (s, sides) = (self.s, self.sides);
+        let mut cells: Vec<u32> = states(MARKS)
+            .map(|x| (x as f32).to_bits())
+            .take(CELLS)
+            .collect();
+        let mut report = [refused(s, self.rgb, sides) as usize, 0, 0, 0];
+        if report[0] == 0 {
+            let made = picture(s, sides, Fill::Sample(self.seed));
+            let n = made.patches.len();
+            if self.out < n {
+                report[0] = 5;
+            } else {
+                report = [0, made.grid[0], made.grid[1], n];
+                cells[..n].copy_from_slice(&made.patches);
+            }
+        }
+        let floats_hash = hash(&cells[..self.out]);
+        match self.damage {
+            1 => cells[self.place] ^= 1 << (self.place % 32),
+            2 => cells[self.place] = 0x7FC0_0000,
+            3 => cells[self.place] = 0x8000_0000,
+            4 => cells[self.place] = 0x7F80_0000,
+            _ => {}
+        }
+        let mut whole = Fill::Sample(MARKS).bytes(self.bytes, [1, 1]);
+        let back = match restored(bytes, s, &cells[..self.floats], self.grid, self.bytes) {
+            Ok(bytes) => {
+                whole[..bytes.len()].copy_from_slice(&bytes);
+                [0, self.grid[0] * s.patch_size, self.grid[1] * s.patch_size]
+            }
+            Err(number) => [number as usize, 0, 0],
+        };
+        let bytes_hash = hash(&whole.into_iter().map(u32::from).collect::<Vec<_>>());
+        let mut list = vec![s.patch_size, s.spatial_merge_size, s.image_size];
+        list.extend([sides[0], sides[1], self.rgb, self.out, self.seed as usize]);
+        list.extend(report);
+        list.push(floats_hash as usize);
+        list.extend([self.grid[0], self.grid[1], self.floats, self.bytes]);
+        list.extend([self.damage, self.place]);
+        list.extend(back);
+        list.push(bytes_hash as usize);
+        list.iter()
+            .map(usize::to_string)
+            .collect::<Vec<_>>()
+            .join("\t")
+    }
+}
+
+/// Sides below, at and above each limit, under settings whose results have sides up to 64.
+fn sample_pictures(random: &mut Random, list: &mut Vec<Asked>) {
+    let settings = [
+        of(1, 1, 1),
+        of(1, 2, 2),
+        of(1, 4, 4),
+        of(1, 1, 64),
+        of(2, 3, 13),
+        of(3, 2, 20),
+        of(4, 4, 64),
+        of(5, 3, 50),
+        of(7, 2, 60),
+        of(14, 2, 28),
+        of(14, 2, 56),
+        of(14, 2, 1540),
+        of(16, 4, 64),
+        of(32, 1, 64),
+        of(32, 2, 64),
+    ];
+    for s in settings {
+        let (a, n) = (s.align(), s.image_size);
+        let mut sides = vec![1, a - 1, a, a + 1, 2 * a, n - 1, n, n + 1, 17, 61, 64];
+        sides.retain(|side| (1..=64).contains(side) && s.resized([*side, 1])[0] <= 64);
+        for _ in 0..8 {
+            let sides = [random.pick(&sides), random.pick(&sides)];
+            let mut a = asked(s, sides, random.next() as u32);
+            a.out += random.pick(&[0, 0, 1, 40]);
+            a.bytes += random.pick(&[0, 0, 1, 40]);
+            list.push(a);
+        }
+    }
+}
+
+/// Each number of either call in several ways, each damage, and refusals that meet.
+fn sample_refusals(random: &mut Random, list: &mut Vec<Asked>) {
+    let mut from = |change: &dyn Fn(&mut Asked)| {
+        let s = random.pick(&[of(14, 2, 56), of(3, 2, 20), of(2, 1, 9), of(16, 4, 64)]);
+        let sides = [1 + random.below(30), 1 + random.below(30)];
+        let mut a = asked(s, sides, random.next() as u32);
+        change(&mut a);
+        list.push(a);
+    };
+    for patch_size in [0, 33, MAX] {
+        from(&|a| a.s.patch_size = patch_size);
+    }
+    for merge in [0, 5, MAX] {
+        from(&|a| a.s.spatial_merge_size = merge);
+    }
+    for image in [0, 2049, MAX] {
+        from(&|a| a.s.image_size = image);
+    }
+    for side in [0, 8193, 1 << 32, MAX] {
+        from(&|a| a.sides[0] = side);
+        from(&|a| a.sides[1] = side);
+    }
+    from(&|a| a.rgb += 1);
+    from(&|a| a.rgb -= 1);
+    from(&|a| a.rgb = 0);
+    from(&|a| a.s.image_size = a.s.align() - 1);
+    from(&|a| a.s = of(14, 2, 27));
+    from(&|a| a.s = of(32, 4, 127));
+    from(&|a| a.out -= 1);
+    from(&|a| a.out = 0);
+    for side in [0, 1 << 32, MAX] {
+        from(&|a| a.grid[0] = side);
+        from(&|a| a.grid[1] = side);
+    }
+    from(&|a| a.grid[0] = a.s.most() + 1);
+    from(&|a| a.grid[1] = a.s.most() / a.s.spatial_merge_size * a.s.spatial_merge_size + 4);
+    from(&|a| (a.s, a.grid) = (of(14, 2, 56), [2, 3]));
+    from(&|a| a.floats += 1);
+    from(&|a| a.floats -= 1);
+    from(&|a| a.floats = 0);
+    from(&|a| a.bytes -= 1);
+    from(&|a| a.bytes = 0);
+    for bit in 0..32 {
+        from(&|a| (a.damage, a.place) = (1, (a.floats - 32) / 32 * bit / 31 * 32 + bit));
+    }
+    for damage in 2..=4 {
+        from(&|a| (a.damage, a.place) = (damage, 0));
+        from(&|a| (a.damage, a.place) = (damage, a.floats / 2));
+        from(&|a| (a.damage, a.place) = (damage, a.floats - 1));
+    }
+    from(&|a| (a.s.patch_size, a.sides[0], a.rgb, a.grid[0]) = (0, 0, 1, 0));
+    from(&|a| (a.sides[0], a.rgb, a.s.image_size, a.out) = (0, 1, 1, 0));
+    from(&|a| (a.rgb, a.s.image_size, a.out) = (1, 1, 0));
+    from(&|a| (a.s.image_size, a.out) = (1, 0));
+    from(&|a| (a.grid[1], a.floats, a.bytes) = (0, 5, 0));
+    from(&|a| (a.floats, a.bytes, a.damage) = (a.floats - 1, 0, 2));
+    from(&|a| (a.bytes, a.damage) = (a.bytes - 1, 2));
+}
+
+fn sample() -> std::io::Result<()> {
+    let mut random = Random(SEED);
+    let mut list = Vec::new();
+    sample_pictures(&mut random, &mut list);
+    sample_refusals(&mut random, &mut list);
+    let bytes = bytes_by_bits();
+    let mut out = std::io::stdout().lock();
+    list.iter()
+        .try_for_each(|a| writeln!(out, "{}", a.answered(&bytes)))
+}
+
+fn main() {
+    let words: Vec<String> = std::env::args().skip(1).collect();
+    let words: Vec<&str> = words.iter().map(String::as_str).collect();
+    let same = match words[..] {
+        [] => edges_and_random(),
+        ["--bench"] => {
+            bench();
+            true
+        }
+        ["--sample"] => sample().is_ok(),
+        _ => one(&words),
+    };
+    std::process::exit(if same { 0 } else { 1 });
+}
