@@ -1,8 +1,9 @@
 -- The worked examples of the paper that are to be proved, in one table, each computed from the definitions. Assumes nothing.
 use mathlib.Core.Path.{_≡_, refl}
 use mathlib.Core.List.{List, [], _∷_}
-use Prim.Native.Nat.{ℕ, _*_}
-use lib.Ieee.{add, sub, mul, div, lt, le, ne, ofInt, ofBits, toBits, toUnsigned, neg, round, size}
+use Prim.Native.Nat.{ℕ, _+_, _*_}
+use lib.ListN.{getD}
+use lib.Ieee.{Float, nan, add, sub, mul, div, lt, le, ne, ofInt, ofBits, toBits, toUnsigned, neg, round, size}
 use Rattle.buffers.specs.Rows.{tab, rows}
 use Rattle.number.specs.Bf16.{bf16}
 use Rattle.number.specs.Half.{subnormal, halfSize, half}
@@ -15,6 +16,7 @@ use Rattle.picture.specs.Settings.{allowed}
 use Rattle.picture.specs.Sides.{side, resized}
 use Rattle.picture.specs.Resize.{whole, near, blend, toByte, mix}
 use Rattle.picture.specs.Preprocess.{preprocessed, resizedBytes}
+use Rattle.encoder.specs.Merge.{mergeOf}
 
 -- ---- bf16, half, E, root
 
@@ -94,3 +96,10 @@ pub narrower : resizedBytes (vision 1 2 2) (10 ∷ 10 ∷ 10 ∷ 20 ∷ 20 ∷ 2
     ≡ rows 2 (λ y. 10 ∷ 10 ∷ 10 ∷ 30 ∷ 30 ∷ 30 ∷ [])
 unfolding rows tab side near mix toByte blend whole add sub mul div lt ofInt ofBits toUnsigned
 narrower = refl
+
+-- ---- the spatial merge
+
+-- grid 2 × 4, merge 2 (here of 3 channels): output token 1, channel 2, mh 1, mw 0 is token 6, at place 10
+pub merged : (x : List Float) → getD (mergeOf 2 2 4 3 x) (1 * 12 + 10) nan ≡ getD x (6 * 3 + 2) nan
+unfolding mergeOf rows tab
+merged x = refl

@@ -9,13 +9,31 @@ use Rattle.picture.specs.Settings.{within}
 use Rattle.picture.specs.Patches.{patchFloats}
 use Rattle.picture.specs.Preprocess as Pre
 use Rattle.picture.specs.Restore as Res
+use Rattle.encoder.specs.declared.EncoderSettings as E
+use Rattle.encoder.specs.declared.Encoded.{Encoded}
+use Rattle.encoder.specs.Forward as Fwd
 use Rattle.kyzgultam.specs.declared.PictureSettings as K
 use Rattle.kyzgultam.specs.declared.PreprocessReport.{PreprocessReport}
 use Rattle.kyzgultam.specs.declared.RestoreReport.{RestoreReport}
 use Rattle.kyzgultam.specs.declared.PatchPlace.{PatchPlace}
+use Rattle.kyzgultam.specs.declared.EncoderSettings as KE
+use Rattle.kyzgultam.specs.declared.ForwardReport.{ForwardReport}
 
 abbrev pub inner : K.PictureSettings → P.PictureSettings
 inner s = record { «patch_size» = s .«patch_size»; «spatial_merge_size» = s .«spatial_merge_size»; «image_size» = s .«image_size» }
+
+abbrev pub innerEncoder : KE.EncoderSettings → E.EncoderSettings
+innerEncoder s =
+    record {
+      picture = inner (s .picture);
+      «hidden_size» = s .«hidden_size»;
+      «num_heads» = s .«num_heads»;
+      «head_dim» = s .«head_dim»;
+      «num_layers» = s .«num_layers»;
+      «intermediate_size» = s .«intermediate_size»;
+      «text_hidden_size» = s .«text_hidden_size»;
+      scaling = s .scaling;
+    }
 
 -- the paper's number, and its sizes: 0 for each of a refusal
 abbrev pub preprocessReport : Preprocessed → PreprocessReport
@@ -23,6 +41,9 @@ preprocessReport a = record { number = Pre.number a; «grid_h» = Pre.gridH a; �
 
 abbrev pub restoreReport : Restored → RestoreReport
 restoreReport a = record { number = Res.number a; height = Res.height a; width = Res.width a }
+
+abbrev pub forwardReport : Encoded → ForwardReport
+forwardReport a = record { number = Fwd.number a; tokens = Fwd.tokens a }
 
 -- place i·3p² and length 3p² in patches of length n, where p is in 1..32 and the whole patch lies inside
 unfoldable pub placeOf : ℕ → ℕ → ℕ → PatchPlace

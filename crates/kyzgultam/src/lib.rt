@@ -1,12 +1,14 @@
-// The C face: thin functions over `picture`, with structs of their own, so that what users linked stays
+// The C face: thin functions over `picture` and `encoder`, with structs of their own, so that what users linked stays
 // as it is when the settings inside grow.
+use encoder::Encoded;
 use picture::Preprocessed;
 use picture::Restored;
 ghost use mathlib.Core.Path.{_≡_};
 ghost use lib.ListN.{length};
 ghost use Rattle.picture.specs.Preprocess.{preprocessed, patchesOf, patchesLeft};
 ghost use Rattle.picture.specs.Restore.{restored, bytesOf, bytesLeft};
-ghost use Rattle.kyzgultam.specs.Face.{inner, preprocessReport, restoreReport, placeOf};
+ghost use Rattle.kyzgultam.specs.Face.{inner, innerEncoder, preprocessReport, restoreReport, forwardReport, placeOf};
+ghost use Rattle.encoder.specs.Forward.{encodedOf, outOf, scratchOf};
 
 #[repr(C)]
 pub struct PictureSettings {
@@ -37,6 +39,24 @@ pub struct PatchPlace {
     pub len: usize,
 }
 
+#[repr(C)]
+pub struct EncoderSettings {
+    pub picture: PictureSettings,
+    pub hidden_size: usize,
+    pub num_heads: usize,
+    pub head_dim: usize,
+    pub num_layers: usize,
+    pub intermediate_size: usize,
+    pub text_hidden_size: usize,
+    pub scaling: f32,
+}
+
+#[repr(C)]
+pub struct ForwardReport {
+    pub number: u32,
+    pub tokens: usize,
+}
+
 fn settings(s: PictureSettings) -> picture::PictureSettings
     ensures { λ r. ⌜ r ≡ inner s ⌝ }
 {
@@ -44,6 +64,21 @@ fn settings(s: PictureSettings) -> picture::PictureSettings
         patch_size: s.patch_size,
         spatial_merge_size: s.spatial_merge_size,
         image_size: s.image_size,
+    }
+}
+
+fn encoder_settings(s: EncoderSettings) -> encoder::EncoderSettings
+    ensures { λ r. ⌜ r ≡ innerEncoder s ⌝ }
+{
+    encoder::EncoderSettings {
+        picture: settings(s.picture),
+        hidden_size: s.hidden_size,
+        num_heads: s.num_heads,
+        head_dim: s.head_dim,
+        num_layers: s.num_layers,
+        intermediate_size: s.intermediate_size,
+        text_hidden_size: s.text_hidden_size,
+        scaling: s.scaling,
     }
 }
 
@@ -116,5 +151,44 @@ pub extern "C" fn kz_patch(patches: &[f32], patch_size: usize, i: usize) -> Patc
     PatchPlace {
         start: i * len,
         len,
+    }
+}
+
+#[no_mangle]
+pub extern "C" fn kz_forward(
+    s: EncoderSettings,
+    patches: &[f32],
+    grid_h: usize,
+    grid_w: usize,
+    weights: &[f32],
+    rope_cos: &[f32],
+    rope_sin: &[f32],
+    scratch: &mut [f32],
+    out: &mut [f32],
+) -> ForwardReport
+    ensures answer { λ r. ⌜ r ≡ forwardReport (encodedOf (innerEncoder s) «grid_h» «grid_w» (now (weights .entry)) (now («rope_cos» .entry)) (now («rope_sin» .entry)) (now (patches .entry)) (length (now (out .entry))) (length (now (scratch .entry)))) ⌝ }
+    ensures output { λ _. ⌜ now (out .exit) ≡ outOf (innerEncoder s) «grid_h» «grid_w» (now (weights .entry)) (now («rope_cos» .entry)) (now («rope_sin» .entry)) (now (patches .entry)) (length (now (scratch .entry))) (now (out .entry)) ⌝ }
+    ensures work { λ _. ⌜ now (scratch .exit) ≡ scratchOf (innerEncoder s) «grid_h» «grid_w» (now (weights .entry)) (now («rope_cos» .entry)) (now («rope_sin» .entry)) (now (patches .entry)) (length (now (out .entry))) (now (scratch .entry)) ⌝ }
+{
+    let found = encoder::forward::forward(
+        encoder_settings(s),
+        patches,
+        grid_h,
+        grid_w,
+        weights,
+        rope_cos,
+        rope_sin,
+        scratch,
+        out,
+    );
+    match found {
+        Encoded::Tokens { count } => ForwardReport {
+            number: 0,
+            tokens: count,
+        },
+        Encoded::Refused(r) => ForwardReport {
+            number: picture::settings::number(r),
+            tokens: 0,
+        },
     }
 }

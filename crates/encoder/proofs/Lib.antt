@@ -1,0 +1,14 @@
+pub mod Sums
+pub mod Steps
+pub mod Finites
+pub mod Turn
+pub mod Attends
+pub mod Lives
+pub mod Turns
+pub mod Merges
+pub mod Projects
+pub mod Bounds
+pub mod Embeds
+pub mod Runs
+pub mod Ready
+pub mod Unique

@@ -1,0 +1,39 @@
+-- Any two results that satisfy the contract of forward are equal, and the count of token vectors is o. Assumes nothing.
+use mathlib.Core.Path.{_≡_, refl, sym, _∙_}
+use mathlib.Core.List.{List}
+use Prim.Native.Nat.{ℕ, _*_, _/_}
+use native.Mathlib.Omega.{arith}
+use lib.ListN.{length}
+use lib.Ieee.{Float}
+use Rattle.picture.proofs.Unique.{one}
+use Rattle.encoder.specs.declared.EncoderSettings.{EncoderSettings}
+use Rattle.encoder.specs.declared.Checked.{Checked}
+use Rattle.encoder.specs.declared.Checked.the-variants as C
+use Rattle.encoder.specs.declared.Encoded.{Encoded}
+use Rattle.encoder.specs.declared.Encoded.the-variants.{Tokens}
+use Rattle.encoder.specs.Settings.{mergeArea, checkedOf}
+use Rattle.encoder.specs.Run.{Run, stopped, went}
+use Rattle.encoder.specs.Forward.{forwardRun, encodedBy, encodedOf, outOf, scratchOf}
+use Rattle.encoder.proofs.Ready.{accepted-says}
+
+module _ (s : EncoderSettings) (gh gw : ℕ) (w cos sin x : List Float) where
+  -- the contract, as a type of an answer and of output and scratch at exit
+  abbrev pub Forwards : List Float → List Float → Encoded → List Float → List Float → Type 0
+  Forwards out scratch r out′ scratch′ =
+      (r ≡ encodedOf s gh gw w cos sin x (length out) (length scratch)) × (out′ ≡ outOf s gh gw w cos sin x (length scratch) out)
+      × (scratch′ ≡ scratchOf s gh gw w cos sin x (length out) scratch)
+
+  pub forward-unique : (out scratch : List Float) (r q : Encoded) (a b c d : List Float)
+      → Forwards out scratch r a c → Forwards out scratch q b d → (r ≡ q) × (a ≡ b) × (c ≡ d)
+  forward-unique out scratch r q a b c d f g = (one _ (f .0) (g .0), one _ (f .1) (g .1), one _ (f .2) (g .2))
+
+  pub count-is : (out scratch n : ℕ) → encodedOf s gh gw w cos sin x out scratch ≡ Tokens n → n ≡ gh * gw / mergeArea (s .picture)
+  unfolding encodedOf
+  count-is out scratch n e = go (checkedOf s gh gw (length x) (length w) (length cos) (length sin) out scratch) refl (forwardRun s gh gw w cos sin x) e
+    where
+      go : (k : Checked) → checkedOf s gh gw (length x) (length w) (length cos) (length sin) out scratch ≡ k
+          → (r : Run) → encodedBy k r ≡ Tokens n → n ≡ gh * gw / mergeArea (s .picture)
+      go (C.Accepted t o) d (went l) e =
+          let h : n ≡ o = cc in h ∙ accepted-says s (length w) (length cos) (length sin) out scratch gh gw (length x) t o d .0 .count-is
+      go (C.Accepted t o) d stopped e = let z : _≡_ {A = ℕ} 0 1 = cc in absurd (omega arith)
+      go (C.Refused r) d q e = let z : _≡_ {A = ℕ} 0 1 = cc in absurd (omega arith)

@@ -1,0 +1,30 @@
+-- `encoder::stage::add_fine` meets its contract. Assumes nothing.
+use borrow.Author.Needs.{needs}
+use Rattle.buffers.specs.Region.{region}
+use Rattle.encoder.specs.Element.{added}
+use Rattle.encoder.proofs.Sums.{length-added}
+use Rattle.encoder.proofs.Lives.{wrote}
+use Rattle.encoder.proofs.stage.add_fine.Statement.{statement}
+use Rattle.encoder.proofs.stage.add_fine.Tie as tie
+
+add-into-requires : tie.Need-add-into-requires
+add-into-requires c κs = search needs
+
+part-requires : tie.Need-part-requires
+part-requires c κs = search needs
+
+finite-requires : tie.Need-finite-requires
+finite-requires c κs = search needs
+
+same-length : tie.Need-same-length
+same-length c = search needs
+
+returns : tie.Need-returns
+returns c =
+    let a = c .before .before .before .before .before .before .before .before .args in
+    wrote (a .s .now) (c .before .before .before .before .before .add-into .last .0) (a .y) (a .n) (added (a .n) (region (a .s .now) (a .y) (a .n)) (region (a .s .now) (a .z) (a .n))) (c .before .part .result .now) (a .ok) (c .finite .result)
+    (c .before .before .before .before .before .add-into .ensures) (length-added (a .n) (region (a .s .now) (a .y) (a .n)) (region (a .s .now) (a .z) (a .n))) (c .before .before .before .before .before .before .before .before .pre .yin) (c .before .part .ensures) (c .finite .ensures)
+
+pub add-fine-spec : {M : Type 1} → statement M
+add-fine-spec =
+    tie.close (tie.spec add-into-requires part-requires finite-requires same-length returns)

@@ -1,0 +1,63 @@
+-- `encoder::stage::rotate_fine` meets its contract. Assumes nothing.
+use borrow.Author.Needs.{needs}
+use Rattle.buffers.specs.Region.{region}
+use Rattle.encoder.specs.Sizes.{nOf}
+use Rattle.encoder.specs.Block.{turnedAll}
+use Rattle.encoder.proofs.Lives.{wrote, length-turned-all}
+use Rattle.encoder.proofs.stage.rotate_fine.Statement.{statement}
+use Rattle.encoder.proofs.stage.rotate_fine.Tie as tie
+
+rotate-requires : tie.Need-rotate-requires
+rotate-requires c κs =
+    let g = c .before .before .before .before .pre in
+    let f = g .fits in
+    record {
+      narrow = f .narrow;
+      tables = f .tables;
+      dimin = f .dimIn;
+      xin = g .xIn;
+      some = f .some;
+      wide = f .wide;
+      high = f .high;
+      cin = f .cosines;
+      sin′ = f .sines;
+    }
+
+add-n : tie.Need-add-n
+add-n c = search needs
+
+mul-n : tie.Need-mul-n
+mul-n c = search needs
+
+mul-n-2 : tie.Need-mul-n-2
+mul-n-2 c = search needs
+
+part-requires : tie.Need-part-requires
+part-requires c κs = search needs
+
+finite-requires : tie.Need-finite-requires
+finite-requires c κs = search needs
+
+same-length : tie.Need-same-length
+same-length c = search needs
+
+returns : tie.Need-returns
+unfolding turnedAll
+returns c =
+    let a = c .before .before .before .before .before .before .before .before .before .before .args in
+    let x = region (a .s .now) (a .x) (nOf (a .z)) in
+    wrote (a .s .now) (c .before .before .before .before .before .rotate .last .0) (a .x) (nOf (a .z)) (turnedAll (a .z) (a .cos .now) (a .sin .now) x) (c .before .part .result .now) (a .ok) (c .finite .result)
+    (c .before .before .before .before .before .rotate .ensures) (length-turned-all (a .z) (a .cos .now) (a .sin .now) x) (c .before .before .before .before .before .before .before .before .before .before .pre .xIn) (c .before .part .ensures) (c .finite .ensures)
+
+pub rotate-fine-spec : {M : Type 1} → statement M
+rotate-fine-spec =
+    tie.close
+    (tie.spec
+    rotate-requires
+    add-n
+    mul-n
+    mul-n-2
+    part-requires
+    finite-requires
+    same-length
+    returns)

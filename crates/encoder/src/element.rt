@@ -1,0 +1,68 @@
+// One value after another: the residual, silu, gelu, bf16.
+ghost use mathlib.Core.Path.{_≡_};
+ghost use Prim.Native.Nat.{_+_, _≤_};
+ghost use lib.ListN.{length};
+ghost use Rattle.buffers.specs.Region.{region, put};
+ghost use Rattle.encoder.specs.Element.{siluOf, geluOf, added, gated, rounded, gelued};
+ghost use Rattle.encoder.specs.Fits.{PairFits};
+use number::bf16::bf16_f32;
+use number::exp::exp_f32;
+use number::tanh::tanh_f32;
+
+pub(crate) fn silu(x: f32) -> f32
+    ensures { λ r. ⌜ r ≡ siluOf x ⌝ }
+{
+    x / (1.0 + exp_f32(-x))
+}
+
+pub(crate) fn gelu_quick(x: f32) -> f32
+    ensures { λ r. ⌜ r ≡ geluOf x ⌝ }
+{
+    0.5 * x * (1.0 + tanh_f32(0.7978846f32 * (x + 0.044715 * x * x * x)))
+}
+
+// s[y + i] + s[z + i] at y + i.
+pub(crate) fn add_into(s: &mut [f32], y: usize, z: usize, n: usize)
+    requires { ⌜ PairFits (length (now s)) y z n ⌝ }
+    ensures { λ _. ⌜ now (s .exit) ≡ put (now (s .entry)) y (added n (region (now (s .entry)) y n) (region (now (s .entry)) z n)) ⌝ }
+{
+    let mut i = 0usize;
+    while i < n {
+        s[y + i] = s[y + i] + s[z + i];
+        i += 1;
+    }
+}
+
+// silu s[y + i] * s[z + i] at y + i.
+pub(crate) fn gate(s: &mut [f32], y: usize, z: usize, n: usize)
+    requires { ⌜ PairFits (length (now s)) y z n ⌝ }
+    ensures { λ _. ⌜ now (s .exit) ≡ put (now (s .entry)) y (gated n (region (now (s .entry)) y n) (region (now (s .entry)) z n)) ⌝ }
+{
+    let mut i = 0usize;
+    while i < n {
+        s[y + i] = silu(s[y + i]) * s[z + i];
+        i += 1;
+    }
+}
+
+pub(crate) fn truncate_to_bf16_inplace(s: &mut [f32], y: usize, n: usize)
+    requires { ⌜ y + n ≤ length (now s) ⌝ }
+    ensures { λ _. ⌜ now (s .exit) ≡ put (now (s .entry)) y (rounded n (region (now (s .entry)) y n)) ⌝ }
+{
+    let mut i = 0usize;
+    while i < n {
+        s[y + i] = bf16_f32(s[y + i]);
+        i += 1;
+    }
+}
+
+pub(crate) fn gelu_inplace(s: &mut [f32], y: usize, n: usize)
+    requires { ⌜ y + n ≤ length (now s) ⌝ }
+    ensures { λ _. ⌜ now (s .exit) ≡ put (now (s .entry)) y (gelued n (region (now (s .entry)) y n)) ⌝ }
+{
+    let mut i = 0usize;
+    while i < n {
+        s[y + i] = gelu_quick(s[y + i]);
+        i += 1;
+    }
+}

@@ -1,0 +1,61 @@
+// The Pixtral encoder: from patches to token vectors.
+mod attention;
+mod block;
+mod element;
+mod finite;
+pub mod forward;
+mod layers;
+mod linear;
+mod norm;
+mod projector;
+mod rotate;
+mod settings;
+mod stage;
+
+use picture::PictureSettings;
+use picture::Refusal;
+
+// The sizes of a call: half is half of the head width, side is P, the most patches on a side.
+pub(crate) struct Sizes {
+    pub tokens: usize,
+    pub grid_w: usize,
+    pub side: usize,
+    pub heads: usize,
+    pub half: usize,
+    pub inter: usize,
+    pub scaling: f32,
+}
+
+// Where things stand: in the weights the layers and the projector, with its size; the floats of a patch and the
+// width of a merged row; in the scratch linear_1's result, and the score row.
+pub(crate) struct Places {
+    pub floats: usize,
+    pub layers: usize,
+    pub projector: usize,
+    pub wide: usize,
+    pub size: usize,
+    pub linear: usize,
+    pub row: usize,
+}
+
+pub struct EncoderSettings {
+    pub picture: PictureSettings,
+    pub hidden_size: usize,
+    pub num_heads: usize,
+    pub head_dim: usize,
+    pub num_layers: usize,
+    pub intermediate_size: usize,
+    pub text_hidden_size: usize,
+    pub scaling: f32,
+}
+
+// What the settings and the lengths say: the tokens, of which count are left, or a refusal.
+pub(crate) enum Checked {
+    Accepted { tokens: usize, count: usize },
+    Refused(Refusal),
+}
+
+pub enum Encoded {
+    Tokens { count: usize },
+    Refused(Refusal),
+}
