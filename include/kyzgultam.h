@@ -10,14 +10,15 @@ extern "C" {
 #endif
 
 /*
- * Pictures (libkyzgultam.a). A call takes any numbers and returns. What a caller owes, and nothing checks: each
+ * Pictures and the encoder (libkyzgultam.a). A call takes any numbers and returns. What a caller owes, and nothing checks: each
  * length is true of its buffer, no output overlaps another buffer, and a pointer is null only where its length is 0.
  *
  * A call answers with a number: 0 accepted; 1 a setting is not allowed; 2 height or width not in 1..8192; 3 the RGB
  * length is not height * width * 3; 4 the image size is below patch * merge; 5 the output is too short; 6 a grid side
  * is 0, above image size / patch, or not divisible by merge; 7 the patches' length does not fit the grid; 8 a sample
- * has bits that no byte has in its channel. With any number but 0 every size is 0 and the output is as it was. An
- * output longer than the result keeps its tail.
+ * has bits that no byte has in its channel; 9 the weights' length is not that of the settings; 10 a table's length is
+ * not; 11 the scratch is too short; 12 a value is not finite. With any number but 0 every size is 0 and the output is
+ * as it was. An output longer than the result keeps its tail.
  */
 
 struct kz_picture_settings {
@@ -51,6 +52,36 @@ struct kz_restore_report kz_restore(struct kz_picture_settings settings, const f
 
 /* Where patch i lies in the patches. */
 struct kz_patch_place kz_patch(const float *patches, size_t patches_len, size_t patch_size, size_t i);
+
+struct kz_encoder_settings {
+    struct kz_picture_settings picture;
+    size_t hidden_size;       /* 4..2048, num_heads * head_dim */
+    size_t num_heads;         /* 1..64 */
+    size_t head_dim;          /* 4..256, a multiple of 4 */
+    size_t num_layers;        /* 0..48 */
+    size_t intermediate_size; /* 1..8192 */
+    size_t text_hidden_size;  /* 1..8192 */
+    float scaling;            /* finite and above zero */
+};
+
+struct kz_forward_report {
+    uint32_t number;
+    size_t tokens; /* token vectors of text_hidden_size floats, written to the output */
+};
+
+/*
+ * The token vectors of patches. With t = grid_h * grid_w, o = t / merge^2, H, I and X the hidden, intermediate and text
+ * sizes, P = image size / patch: the weights are patch_conv, ln_pre; for each layer attention_norm, q, k, v, o,
+ * ffn_norm, gate, up, down; then the projector's norm, merging_layer, linear_1, linear_2; matrices row-major, [out, in].
+ * Each table has P * P * head_dim floats, the row of (h, w) at h * P + w. The scratch has at least
+ * 7*t*H + 2*t*I + t + 2*o*X floats; after 0 and 12 all of it is +0, after any other number it is as it was. The output
+ * has at least o * X floats.
+ */
+struct kz_forward_report kz_forward(struct kz_encoder_settings settings, const float *patches, size_t patches_len,
+                                    size_t grid_h, size_t grid_w, const float *weights, size_t weights_len,
+                                    const float *rope_cos, size_t rope_cos_len, const float *rope_sin,
+                                    size_t rope_sin_len, float *scratch, size_t scratch_len, float *out,
+                                    size_t out_len);
 
 /* The number rules, on bit patterns (libnumber.a). Each takes any pattern and returns; none writes anything. */
 

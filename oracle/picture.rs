@@ -505,7 +505,7 @@ impl Comparison {
 
     /// Makes the picture the last one.
     fn ask(&mut self, s: Settings, sides: Sides, fill: Fill) -> &Picture {
-        if self.last.as_ref().is_none_or(|p| p.of != (s, sides, fill)) {
+        if !self.last.as_ref().is_some_and(|p| p.of == (s, sides, fill)) {
             self.last = Some(picture(s, sides, fill));
         }
         self.last.as_ref().expect("a picture was made")
