@@ -12,3 +12,4 @@ pub mod Embeds
 pub mod Runs
 pub mod Ready
 pub mod Unique
+pub mod Constants

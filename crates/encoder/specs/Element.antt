@@ -14,9 +14,9 @@ one32 = ofBits binary32 0x3F800000
 abbrev pub half32 : Float
 half32 = ofBits binary32 0x3F000000
 
--- the root of 2 / π, and 0.044715
+-- the root of 2 / π, each rounded to an f32 (`proofs/Constants.antt`), and 0.044715
 abbrev pub rootTwoOverPi : Float
-rootTwoOverPi = ofBits binary32 0x3F4C422A
+rootTwoOverPi = ofBits binary32 0x3F4C4229
 
 abbrev pub cubic : Float
 cubic = ofBits binary32 0x3D372713

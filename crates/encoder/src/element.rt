@@ -18,7 +18,7 @@ pub(crate) fn silu(x: f32) -> f32
 pub(crate) fn gelu_quick(x: f32) -> f32
     ensures { λ r. ⌜ r ≡ geluOf x ⌝ }
 {
-    0.5 * x * (1.0 + tanh_f32(0.7978846f32 * (x + 0.044715 * x * x * x)))
+    0.5 * x * (1.0 + tanh_f32(0.7978845f32 * (x + 0.044715 * x * x * x)))
 }
 
 // s[y + i] + s[z + i] at y + i.
