@@ -1,0 +1,652 @@
+//! Compares libkyzgultam's kz_forward with the Rust, byte for byte.
+//!
+//! The Rust's functions are cut from its source, with E and T in the place of the platform's exp and tanh
+//! (`run` does it) and one thread. The order of stages that are examined for finite values, and the
+//! refusals, are stated here from the text of the paper.
+//!
+//!     encoder            edges, and random calls with a fixed seed
+
+#[allow(dead_code)]
+mod rust {
+    pub struct RmsNorm {
+        pub weight: Vec<f32>,
+        pub dim: usize,
+        pub eps: f32,
+    }
+    pub struct LinearNoBias {
+        pub weight: Vec<f32>,
+        pub in_f: usize,
+        pub out_f: usize,
+    }
+    pub struct PixtralAttention {
+        pub q_proj: LinearNoBias,
+        pub k_proj: LinearNoBias,
+        pub v_proj: LinearNoBias,
+        pub o_proj: LinearNoBias,
+        pub num_heads: usize,
+        pub head_dim: usize,
+        pub scaling: f32,
+    }
+    pub struct PixtralMLP {
+        pub gate_proj: LinearNoBias,
+        pub up_proj: LinearNoBias,
+        pub down_proj: LinearNoBias,
+    }
+    pub struct PixtralBlock {
+        pub attention_norm: RmsNorm,
+        pub attn: PixtralAttention,
+        pub ffn_norm: RmsNorm,
+        pub ffn: PixtralMLP,
+    }
+    pub struct MultiModalProjector {
+        pub norm: RmsNorm,
+        pub merging_layer: LinearNoBias,
+        pub linear_1: LinearNoBias,
+        pub linear_2: LinearNoBias,
+        pub spatial_merge_size: usize,
+    }
+
+    fn num_threads() -> usize {
+        1
+    }
+
+    #[derive(Clone, Copy)]
+    struct SendMutPtr(*mut f32);
+    unsafe impl Send for SendMutPtr {}
+    unsafe impl Sync for SendMutPtr {}
+    impl SendMutPtr {
+        unsafe fn write(self, offset: usize, val: f32) {
+            *self.0.add(offset) = val;
+        }
+    }
+
+    fn f(x: f64) -> f64 {
+        let l = f64::from_bits(0x3FE6_2E42_FEFA_39EF);
+        let k = (x / l + 0.5).floor();
+        let r = x - k * l;
+        let mut p = 1.0;
+        for i in (1..=10).rev() {
+            p = 1.0 + (r * p) / f64::from(i);
+        }
+        p * f64::from_bits(((1023 + k as i64) as u64) << 52)
+    }
+
+    pub fn exp_rule(x: f32) -> f32 {
+        if x.is_nan() {
+            f32::NAN
+        } else if x >= 89.0 {
+            f32::INFINITY
+        } else if x <= -104.0 {
+            0.0
+        } else {
+            f(f64::from(x)) as f32
+        }
+    }
+
+    fn tanh_rule(y: f32) -> f32 {
+        if y.is_nan() {
+            f32::NAN
+        } else if y >= 10.0 {
+            1.0
+        } else if y <= -10.0 {
+            -1.0
+        } else {
+            let f = f(2.0 * f64::from(y));
+            ((f - 1.0) / (f + 1.0)) as f32
+        }
+    }
+
+    include!(env!("KZ_CUT"));
+
+    /// The functions that the stages call, which the Rust keeps to itself.
+    pub mod open {
+        use super::*;
+        pub fn bf16(x: &mut [f32]) {
+            truncate_to_bf16_inplace(x)
+        }
+        pub fn norm(x: &[f32], n: &RmsNorm) -> Vec<f32> {
+            let mut y = vec![0.0; x.len()];
+            rms_norm(x, n, &mut y);
+            y
+        }
+        pub fn linear(x: &[f32], l: &LinearNoBias) -> Vec<f32> {
+            let mut y = vec![0.0; x.len() / l.in_f * l.out_f];
+            linear_no_bias_forward(x, l, &mut y);
+            y
+        }
+        pub fn rotate(x: &mut [f32], cos: &[f32], sin: &[f32]) {
+            rotate_half_inplace(x, cos, sin)
+        }
+        pub fn gate(g: f32, u: f32) -> f32 {
+            silu(g) * u
+        }
+        pub fn gelu(x: &mut [f32]) {
+            gelu_inplace(x)
+        }
+        pub fn attention(a: &PixtralAttention, h: &[f32], c: &[f32], s: &[f32], p: &[usize]) -> Vec<f32> {
+            let mut y = vec![0.0; h.len()];
+            pixtral_attention_forward(a, h, c, s, p, p.len(), &mut y);
+            y
+        }
+        pub fn block(b: &PixtralBlock, h: &mut [f32], c: &[f32], s: &[f32], p: &[usize]) {
+            let dim = h.len() / p.len();
+            pixtral_block_forward(b, h, c, s, p, p.len(), dim)
+        }
+        pub fn projector(m: &MultiModalProjector, h: &[f32], t: usize, grid: [usize; 2]) -> Vec<f32> {
+            projector_forward(m, h, t, h.len() / t, grid[0], grid[1])
+        }
+    }
+}
+
+use rust::open;
+use rust::{LinearNoBias, MultiModalProjector, PixtralAttention, PixtralBlock, PixtralMLP, RmsNorm};
+
+#[repr(C)]
+#[derive(Clone, Copy, Debug)]
+struct Settings {
+    patch_size: usize,
+    spatial_merge_size: usize,
+    image_size: usize,
+    hidden_size: usize,
+    num_heads: usize,
+    head_dim: usize,
+    num_layers: usize,
+    intermediate_size: usize,
+    text_hidden_size: usize,
+    scaling: f32,
+}
+
+#[repr(C)]
+#[derive(Debug, PartialEq)]
+struct Report {
+    number: u32,
+    tokens: usize,
+}
+
+#[link(name = "kyzgultam", kind = "static")]
+extern "C" {
+    fn kz_forward(
+        s: Settings,
+        patches: *const f32,
+        patches_len: usize,
+        grid_h: usize,
+        grid_w: usize,
+        weights: *const f32,
+        weights_len: usize,
+        rope_cos: *const f32,
+        rope_cos_len: usize,
+        rope_sin: *const f32,
+        rope_sin_len: usize,
+        scratch: *mut f32,
+        scratch_len: usize,
+        out: *mut f32,
+        out_len: usize,
+    ) -> Report;
+}
+
+struct Random(u64);
+
+impl Random {
+    fn next(&mut self) -> u64 {
+        self.0 ^= self.0 << 13;
+        self.0 ^= self.0 >> 7;
+        self.0 ^= self.0 << 17;
+        self.0
+    }
+    fn from(&mut self, low: usize, high: usize) -> usize {
+        low + (self.next() % ((high - low + 1) as u64)) as usize
+    }
+    /// Between -size and size, now and then -0.
+    fn float(&mut self, size: f32) -> f32 {
+        let x = ((self.next() >> 40) as f32 / 8388608.0 - 1.0) * size;
+        if self.next() % 50 == 0 { -0.0 } else { x }
+    }
+    fn floats(&mut self, n: usize, size: f32) -> Vec<f32> {
+        (0..n).map(|_| self.float(size)).collect()
+    }
+}
+
+#[derive(Clone, Debug)]
+struct Call {
+    s: Settings,
+    grid: [usize; 2],
+    patches: Vec<f32>,
+    weights: Vec<f32>,
+    cos: Vec<f32>,
+    sin: Vec<f32>,
+    scratch: Vec<f32>,
+    out: Vec<f32>,
+}
+
+fn layer_floats(s: &Settings) -> usize {
+    let (h, i) = (s.hidden_size, s.intermediate_size);
+    2 * h + 4 * h * h + 3 * h * i
+}
+
+fn weight_floats(s: &Settings) -> usize {
+    let (h, x, mm) = (s.hidden_size, s.text_hidden_size, s.spatial_merge_size * s.spatial_merge_size);
+    h * 3 * s.patch_size * s.patch_size + h + s.num_layers * layer_floats(s) + h + h * h * mm + x * h + x * x
+}
+
+fn scratch_floats(s: &Settings, t: usize, o: usize) -> usize {
+    7 * t * s.hidden_size + 2 * t * s.intermediate_size + t + 2 * o * s.text_hidden_size
+}
+
+/// 1, 6, 7, 9, 10, 5, 11, in that order; 0 where none applies.
+fn refusal(c: &Call) -> u32 {
+    let s = &c.s;
+    let allowed = (1..=32).contains(&s.patch_size)
+        && (1..=4).contains(&s.spatial_merge_size)
+        && (1..=2048).contains(&s.image_size)
+        && (4..=2048).contains(&s.hidden_size)
+        && (1..=64).contains(&s.num_heads)
+        && (4..=256).contains(&s.head_dim)
+        && s.head_dim % 4 == 0
+        && s.num_heads * s.head_dim == s.hidden_size
+        && s.num_layers <= 48
+        && (1..=8192).contains(&s.intermediate_size)
+        && (1..=8192).contains(&s.text_hidden_size)
+        && s.scaling > 0.0
+        && s.scaling < f32::INFINITY;
+    if !allowed {
+        return 1;
+    }
+    let most = s.image_size / s.patch_size;
+    if c.grid.iter().any(|g| !(1..=most).contains(g) || g % s.spatial_merge_size != 0) {
+        return 6;
+    }
+    let t = c.grid[0] * c.grid[1];
+    let o = t / (s.spatial_merge_size * s.spatial_merge_size);
+    if c.patches.len() != t * 3 * s.patch_size * s.patch_size {
+        return 7;
+    }
+    if c.weights.len() != weight_floats(s) {
+        return 9;
+    }
+    if [&c.cos, &c.sin].iter().any(|table| table.len() != most * most * s.head_dim) {
+        return 10;
+    }
+    if c.out.len() < o * s.text_hidden_size {
+        return 5;
+    }
+    if c.scratch.len() < scratch_floats(s, t, o) {
+        return 11;
+    }
+    0
+}
+
+struct Model {
+    conv: LinearNoBias,
+    pre: RmsNorm,
+    blocks: Vec<PixtralBlock>,
+    projector: MultiModalProjector,
+}
+
+fn model(s: &Settings, weights: &[f32]) -> Model {
+    let (h, i, x) = (s.hidden_size, s.intermediate_size, s.text_hidden_size);
+    let mut at = 0;
+    let mut take = |n: usize| {
+        at += n;
+        weights[at - n..at].to_vec()
+    };
+    let norm = |weight| RmsNorm { weight, dim: h, eps: 1e-5 };
+    let linear = |weight, out_f, in_f| LinearNoBias { weight, in_f, out_f };
+    let f = 3 * s.patch_size * s.patch_size;
+    let conv = linear(take(h * f), h, f);
+    let pre = norm(take(h));
+    let mut blocks = Vec::new();
+    for _ in 0..s.num_layers {
+        let attention_norm = norm(take(h));
+        let attn = PixtralAttention {
+            q_proj: linear(take(h * h), h, h),
+            k_proj: linear(take(h * h), h, h),
+            v_proj: linear(take(h * h), h, h),
+            o_proj: linear(take(h * h), h, h),
+            num_heads: s.num_heads,
+            head_dim: s.head_dim,
+            scaling: s.scaling,
+        };
+        let ffn_norm = norm(take(h));
+        let ffn = PixtralMLP {
+            gate_proj: linear(take(i * h), i, h),
+            up_proj: linear(take(i * h), i, h),
+            down_proj: linear(take(h * i), h, i),
+        };
+        blocks.push(PixtralBlock { attention_norm, attn, ffn_norm, ffn });
+    }
+    let wide = h * s.spatial_merge_size * s.spatial_merge_size;
+    let projector = MultiModalProjector {
+        norm: norm(take(h)),
+        merging_layer: linear(take(h * wide), h, wide),
+        linear_1: linear(take(x * h), x, h),
+        linear_2: linear(take(x * x), x, x),
+        spatial_merge_size: s.spatial_merge_size,
+    };
+    Model { conv, pre, blocks, projector }
+}
+
+fn positions(c: &Call) -> Vec<usize> {
+    let most = c.s.image_size / c.s.patch_size;
+    (0..c.grid[0]).flat_map(|h| (0..c.grid[1]).map(move |w| h * most + w)).collect()
+}
+
+/// The Rust's forward.
+fn forward(c: &Call, m: &Model) -> Vec<f32> {
+    let p = positions(c);
+    let mut h = open::linear(&c.patches, &m.conv);
+    open::bf16(&mut h);
+    h = open::norm(&h, &m.pre);
+    open::bf16(&mut h);
+    for b in &m.blocks {
+        open::block(b, &mut h, &c.cos, &c.sin, &p);
+        open::bf16(&mut h);
+    }
+    open::projector(&m.projector, &h, p.len(), c.grid)
+}
+
+/// The stage at which a value is not finite, by its name.
+fn stops(c: &Call, m: &Model) -> Option<&'static str> {
+    let fine = |name: &'static str, x: &[f32]| if x.iter().all(|v| v.is_finite()) { Ok(()) } else { Err(name) };
+    let run = || -> Result<(), &'static str> {
+        for (name, x) in [("patches", &c.patches), ("weights", &c.weights), ("cos", &c.cos), ("sin", &c.sin)] {
+            fine(name, x)?;
+        }
+        let p = positions(c);
+        let (d, dim, t) = (c.s.head_dim, c.s.hidden_size, p.len());
+        let mut h = open::linear(&c.patches, &m.conv);
+        fine("patch projection", &h)?;
+        open::bf16(&mut h);
+        fine("its bf16", &h)?;
+        h = open::norm(&h, &m.pre);
+        fine("ln_pre", &h)?;
+        open::bf16(&mut h);
+        fine("ln_pre's bf16", &h)?;
+        for b in &m.blocks {
+            let x = open::norm(&h, &b.attention_norm);
+            fine("norm", &x)?;
+            let mut q = open::linear(&x, &b.attn.q_proj);
+            fine("q", &q)?;
+            let mut k = open::linear(&x, &b.attn.k_proj);
+            fine("k", &k)?;
+            fine("v", &open::linear(&x, &b.attn.v_proj))?;
+            for (i, at) in p.iter().enumerate() {
+                let (cos, sin) = (&c.cos[at * d..(at + 1) * d], &c.sin[at * d..(at + 1) * d]);
+                for head in 0..c.s.num_heads {
+                    let place = i * dim + head * d;
+                    open::rotate(&mut q[place..place + d], cos, sin);
+                    open::rotate(&mut k[place..place + d], cos, sin);
+                }
+            }
+            fine("rotated q", &q)?;
+            fine("rotated k", &k)?;
+            for i in 0..t {
+                for j in 0..t {
+                    for head in 0..c.s.num_heads {
+                        let mut dot = 0.0f32;
+                        for e in 0..d {
+                            dot += q[i * dim + head * d + e] * k[j * dim + head * d + e];
+                        }
+                        fine("scores", &[dot * c.s.scaling])?;
+                    }
+                }
+            }
+            // The attention's sums, through an o that hands its input on.
+            let mut one = vec![0.0; dim * dim];
+            (0..dim).for_each(|i| one[i * dim + i] = 1.0);
+            let through = |m: &LinearNoBias| LinearNoBias { weight: m.weight.clone(), in_f: m.in_f, out_f: m.out_f };
+            let plain = PixtralAttention {
+                q_proj: through(&b.attn.q_proj),
+                k_proj: through(&b.attn.k_proj),
+                v_proj: through(&b.attn.v_proj),
+                o_proj: LinearNoBias { weight: one, in_f: dim, out_f: dim },
+                ..b.attn
+            };
+            fine("attention sums", &open::attention(&plain, &x, &c.cos, &c.sin, &p))?;
+            let o = open::attention(&b.attn, &x, &c.cos, &c.sin, &p);
+            fine("o", &o)?;
+            h.iter_mut().zip(&o).for_each(|(a, b)| *a += b);
+            fine("residual", &h)?;
+            let x = open::norm(&h, &b.ffn_norm);
+            fine("second norm", &x)?;
+            let g = open::linear(&x, &b.ffn.gate_proj);
+            fine("gate", &g)?;
+            let u = open::linear(&x, &b.ffn.up_proj);
+            fine("up", &u)?;
+            let a: Vec<f32> = g.iter().zip(&u).map(|(g, u)| open::gate(*g, *u)).collect();
+            fine("silu * up", &a)?;
+            let y = open::linear(&a, &b.ffn.down_proj);
+            fine("down", &y)?;
+            h.iter_mut().zip(&y).for_each(|(a, b)| *a += b);
+            fine("second residual", &h)?;
+            open::bf16(&mut h);
+            fine("bf16", &h)?;
+        }
+        let x = open::norm(&h, &m.projector.norm);
+        fine("projector norm", &x)?;
+        // The merge moves values; what follows it is the projector's own, through linear layers cut off one by one.
+        let (merge, gw) = (c.s.spatial_merge_size, c.grid[1]);
+        let mut merged = Vec::new();
+        for bh in 0..c.grid[0] / merge {
+            for bw in 0..gw / merge {
+                for e in 0..dim {
+                    for mh in 0..merge {
+                        for mw in 0..merge {
+                            merged.push(x[((bh * merge + mh) * gw + bw * merge + mw) * dim + e]);
+                        }
+                    }
+                }
+            }
+        }
+        let a = open::linear(&merged, &m.projector.merging_layer);
+        fine("merging_layer", &a)?;
+        let mut b = open::linear(&a, &m.projector.linear_1);
+        fine("linear_1", &b)?;
+        open::gelu(&mut b);
+        fine("gelu", &b)?;
+        fine("linear_2", &open::linear(&b, &m.projector.linear_2))
+    };
+    run().err()
+}
+
+#[derive(Default)]
+struct Tally {
+    calls: usize,
+    accepted: usize,
+    differ: usize,
+    numbers: std::collections::BTreeMap<u32, usize>,
+    stages: std::collections::BTreeMap<&'static str, usize>,
+}
+
+impl Tally {
+    fn compare(&mut self, c: &Call) {
+        let mut number = refusal(c);
+        let mut want = None;
+        if number == 0 {
+            let m = model(&c.s, &c.weights);
+            match stops(c, &m) {
+                Some(stage) => {
+                    number = 12;
+                    *self.stages.entry(stage).or_default() += 1;
+                }
+                None => want = Some(forward(c, &m)),
+            }
+        }
+        let (mut scratch, mut out) = (c.scratch.clone(), c.out.clone());
+        let report = unsafe {
+            kz_forward(
+                c.s,
+                c.patches.as_ptr(),
+                c.patches.len(),
+                c.grid[0],
+                c.grid[1],
+                c.weights.as_ptr(),
+                c.weights.len(),
+                c.cos.as_ptr(),
+                c.cos.len(),
+                c.sin.as_ptr(),
+                c.sin.len(),
+                scratch.as_mut_ptr(),
+                scratch.len(),
+                out.as_mut_ptr(),
+                out.len(),
+            )
+        };
+        let mut left = c.out.clone();
+        let mut tokens = 0;
+        if let Some(rows) = &want {
+            tokens = rows.len() / c.s.text_hidden_size;
+            left[..rows.len()].copy_from_slice(rows);
+            self.accepted += 1;
+        }
+        let work = if number == 0 || number == 12 { vec![0.0; scratch.len()] } else { c.scratch.clone() };
+        let bits = |x: &[f32]| x.iter().map(|v| v.to_bits()).collect::<Vec<_>>();
+        self.calls += 1;
+        *self.numbers.entry(number).or_default() += 1;
+        if report != (Report { number, tokens }) || bits(&out) != bits(&left) || bits(&scratch) != bits(&work) {
+            self.differ += 1;
+            if self.differ <= 5 {
+                println!("encoder: {:?} grid {:?}: {report:?}, expected {number} with {tokens}", c.s, c.grid);
+            }
+        }
+    }
+}
+
+/// A call of small sizes that is accepted, up to 12.
+fn small(r: &mut Random) -> Call {
+    let (heads, d, merge, patch) = (r.from(1, 4), 4 * r.from(1, 4), r.from(1, 4), r.from(1, 8));
+    let grid = [merge * r.from(1, 3), merge * r.from(1, 3)];
+    let s = Settings {
+        patch_size: patch,
+        spatial_merge_size: merge,
+        image_size: (grid[0].max(grid[1]) + r.from(0, 2)) * patch + r.from(0, patch - 1),
+        hidden_size: heads * d,
+        num_heads: heads,
+        head_dim: d,
+        num_layers: r.from(0, 4),
+        intermediate_size: r.from(1, 64),
+        text_hidden_size: r.from(1, 64),
+        scaling: 1.0 / (d as f32).sqrt(),
+    };
+    sized(r, s, grid, 1.0)
+}
+
+/// Buffers that fit, with weights up to a size.
+fn sized(r: &mut Random, s: Settings, grid: [usize; 2], size: f32) -> Call {
+    let t = grid[0] * grid[1];
+    let o = t / (s.spatial_merge_size * s.spatial_merge_size);
+    let most = s.image_size / s.patch_size;
+    let (more, room) = (r.from(0, 3), r.from(0, 5));
+    Call {
+        s,
+        grid,
+        patches: r.floats(t * 3 * s.patch_size * s.patch_size, 2.0),
+        weights: r.floats(weight_floats(&s), size),
+        cos: r.floats(most * most * s.head_dim, 1.0),
+        sin: r.floats(most * most * s.head_dim, 1.0),
+        scratch: r.floats(scratch_floats(&s, t, o) + more, 1.0),
+        out: r.floats(o * s.text_hidden_size + room, 1.0),
+    }
+}
+
+fn shorter(x: &mut Vec<f32>) {
+    x.pop();
+}
+
+/// One integer or length of a call changed, or one value of a buffer that is not finite.
+fn changed(r: &mut Random, c: &mut Call) {
+    let end = [0, 1, 2, 3, 5, 33, 65, 257, 2049, 8193, usize::MAX, usize::MAX - 3, 1 << 63, 1 << 32];
+    let n = end[r.from(0, end.len() - 1)];
+    let odd = [f32::NAN, f32::INFINITY, f32::NEG_INFINITY, 3.0e38, -3.0e38];
+    let v = odd[r.from(0, odd.len() - 1)];
+    match r.from(0, 22) {
+        0 => c.s.patch_size = n,
+        1 => c.s.spatial_merge_size = n,
+        2 => c.s.image_size = n,
+        3 => c.s.hidden_size = n,
+        4 => c.s.num_heads = n,
+        5 => c.s.head_dim = n,
+        6 => c.s.num_layers = n,
+        7 => c.s.intermediate_size = n,
+        8 => c.s.text_hidden_size = n,
+        9 => c.s.scaling = [0.0, -0.0, -1.0, f32::NAN, f32::INFINITY, 1e-45, 3.0e38][r.from(0, 6)],
+        10 => c.grid[0] = n,
+        11 => c.grid[1] = n,
+        12 => shorter(&mut c.patches),
+        13 => c.weights.push(0.0),
+        14 => shorter(&mut c.weights),
+        15 => shorter(&mut c.cos),
+        16 => c.sin.push(0.0),
+        17 => c.out.truncate(r.from(0, c.out.len())),
+        18 => c.scratch.truncate(c.scratch.len() - r.from(0, 4)),
+        k => {
+            let buffer = match k {
+                19 => &mut c.patches,
+                20 => &mut c.cos,
+                21 => &mut c.sin,
+                _ => &mut c.weights,
+            };
+            if !buffer.is_empty() {
+                let at = r.from(0, buffer.len() - 1);
+                buffer[at] = v;
+            }
+        }
+    }
+}
+
+fn main() {
+    let mut r = Random(88_172_645_463_325_252);
+    let mut tally = Tally::default();
+    for i in 0..4000 {
+        let mut c = small(&mut r);
+        // Large weights in one part after another, so that each stage in turn overflows.
+        if i % 4 == 1 {
+            let part = c.weights.len() / 8 + 1;
+            let (at, size) = (r.from(0, c.weights.len() - 1), [1e19, 1e30, 3e38][r.from(0, 2)]);
+            let to = (at + part).min(c.weights.len());
+            c.weights[at..to].iter_mut().for_each(|w| *w *= size);
+        }
+        if i % 4 >= 2 {
+            changed(&mut r, &mut c);
+        }
+        if i % 4 == 3 {
+            changed(&mut r, &mut c);
+        }
+        tally.compare(&c);
+    }
+    // The settings of 1540: a grid too tall, and one that merge does not divide.
+    for grid in [[112, 2], [3, 2], [2, 112], [2, 3], [0, 2], [2, 0], [110, 2], [2, 2]] {
+        let s = Settings {
+            patch_size: 14,
+            spatial_merge_size: 2,
+            image_size: 1540,
+            hidden_size: 8,
+            num_heads: 1,
+            head_dim: 8,
+            num_layers: 1,
+            intermediate_size: 8,
+            text_hidden_size: 8,
+            scaling: 0.5,
+        };
+        tally.compare(&sized(&mut r, s, grid, 1.0));
+    }
+    // Real width.
+    let wide = Settings {
+        patch_size: 14,
+        spatial_merge_size: 2,
+        image_size: 56,
+        hidden_size: 1024,
+        num_heads: 16,
+        head_dim: 64,
+        num_layers: 2,
+        intermediate_size: 4096,
+        text_hidden_size: 1024,
+        scaling: 0.125,
+    };
+    tally.compare(&sized(&mut r, wide, [2, 2], 0.05));
+    eprintln!("encoder: numbers {:?}, stages {:?}", tally.numbers, tally.stages);
+    println!(
+        "encoder: {} forward calls compared with the Rust, {} accepted; {} differ",
+        tally.calls, tally.accepted, tally.differ
+    );
+    std::process::exit(i32::from(tally.differ != 0));
+}
