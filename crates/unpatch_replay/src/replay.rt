@@ -1,0 +1,42 @@
+// A text of records, one after another.
+ghost use mathlib.Core.Path.{_≡_};
+ghost use Prim.Native.Nat.{_+_, _<_};
+ghost use lib.ListN.{length};
+ghost use Rattle.unpatch_replay.specs.Record.{none, counted, tally};
+
+pub struct Counts {
+    pub agree: u64,
+    pub differ: u64,
+}
+
+fn count(c: Counts, same: bool) -> Counts
+    requires { ⌜ c .agree + c .differ < 18446744073709551615 ⌝ }
+    ensures { λ r. ⌜ r ≡ counted same c ⌝ }
+{
+    if same {
+        return Counts {
+            agree: c.agree + 1,
+            differ: c.differ,
+        };
+    }
+    Counts {
+        agree: c.agree,
+        differ: c.differ + 1,
+    }
+}
+
+pub(crate) fn replay(text: &[u8]) -> Counts
+    ensures { λ r. ⌜ r ≡ tally (length (now (text .entry))) none (now (text .entry)) ⌝ }
+{
+    let mut c = Counts {
+        agree: 0,
+        differ: 0,
+    };
+    let mut at = 0usize;
+    while at < text.len() {
+        let s = crate::record::first(&text[at..]);
+        c = count(c, s.same);
+        at += s.len;
+    }
+    c
+}

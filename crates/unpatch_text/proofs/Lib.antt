@@ -1,0 +1,13 @@
+pub mod Answers
+pub mod Pieces
+pub mod Decimals
+pub mod Hexes
+pub mod Fields
+pub mod Limits
+pub mod Rows
+pub mod Writes
+pub mod Short
+pub mod Rooms
+pub mod Left
+pub mod Back
+pub mod Laws

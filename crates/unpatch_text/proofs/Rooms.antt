@@ -1,0 +1,138 @@
+-- Rooms that are enough, and what preprocess and restore answer with them where no side is above 64. Assumes nothing.
+use mathlib.Core.Path.{_≡_, refl, sym, ap, _∙_}
+use mathlib.Core.Bool.{Bool, true, false}
+use mathlib.Core.List.{List}
+use Prim.Native.Nat.{ℕ, _+_, _*_, _/_, _≤_}
+use native.Mathlib.Nat.{le-refl, div-mul-le-self, mul-assoc}
+use native.Mathlib.Omega.{arith}
+use borrow.Author.Tests.{le-leb}
+use lib.Dec.{leb}
+use lib.ListN.{length, take, replicate, length-replicate}
+use lib.Seq.{take-at}
+use lib.Ieee.{Float}
+use Rattle.picture.specs.declared.PictureSettings.{PictureSettings}
+use Rattle.picture.specs.declared.Refusal.{Refusal}
+use Rattle.picture.specs.declared.Shape.{Shape}
+use Rattle.picture.specs.declared.Shape.the-variants.{Shaped, Unshaped}
+use Rattle.picture.specs.declared.Preprocessed.{Preprocessed}
+use Rattle.picture.specs.declared.Preprocessed.the-variants as P
+use Rattle.picture.specs.declared.Restored.{Restored}
+use Rattle.picture.specs.declared.Restored.the-variants.{Picture, Refused}
+use Rattle.picture.specs.Settings.{align}
+use Rattle.picture.specs.Sides.{side, resized, gridOf}
+use Rattle.picture.specs.Patches.{patchFloats}
+use Rattle.picture.specs.Shape.{shaped}
+use Rattle.picture.specs.Preprocess.{floatsOf, preprocessed, resizedPixel, patchesOf, patchesLeft}
+use Rattle.picture.specs.Restore.{known, unless, decided, restored, bytesOf, bytesLeft}
+use Rattle.picture.specs.Samples.{sample, sampleBits}
+use Rattle.picture.proofs.Places.{times, length-picture, length-patches}
+use Rattle.picture.proofs.Sides.{side-le}
+use Rattle.picture.proofs.Shapes.{Grids, shaped-says}
+use Rattle.picture.proofs.Accepts.{acceptance}
+use Rattle.unpatch_text.specs.Print.{refusedLine}
+use Rattle.unpatch_text.specs.Answer.{restoredText, preprocessedText, ran}
+use Rattle.unpatch_text.proofs.Short.{refused-short, shown-short}
+
+-- any room that is enough
+pub preprocess-room : (s : PictureSettings) (len h w room : ℕ) → floatsOf s h w ≤ room → preprocessed s len h w room ≡ preprocessed s len h w (floatsOf s h w)
+unfolding preprocessed
+preprocess-room s len h w room e = rw (le-leb (floatsOf s h w) room e, le-leb (floatsOf s h w) (floatsOf s h w) (le-refl (floatsOf s h w))) refl
+
+-- a grid spans no more than the image size
+pub grid-span : (s : PictureSettings) (x : ℕ) → s .«image_size» ≤ 64 → gridOf s x * s .«patch_size» ≤ 64
+grid-span s x h = omega (arith, div-mul-le-self (resized s x) (s .«patch_size»), side-le (align s) (s .«image_size») x)
+
+pub floats-le : (s : PictureSettings) (h w : ℕ) → s .«image_size» ≤ 64 → floatsOf s h w ≤ 12288
+floats-le s h w e =
+    let p = s .«patch_size» in
+    omega (arith, times (gridOf s h * p) (gridOf s w * p) 64 64 (grid-span s h e) (grid-span s w e))
+
+-- as much as the local arrays have
+pub bytes-fit : (p gh gw : ℕ) → gh * p ≤ 64 → gw * p ≤ 64 → gh * p * (gw * p) * 3 ≤ length (replicate {A = ℕ} 12288 0)
+bytes-fit p gh gw a b = rw (length-replicate {A = ℕ} 12288 0) (omega (arith, times (gh * p) (gw * p) 64 64 a b))
+
+module _ (s : PictureSettings) (l : List Float) (gh gw : ℕ) where
+  abbrev pub need : ℕ
+  need = gh * s .«patch_size» * (gw * s .«patch_size») * 3
+
+  pub restore-room : (room : ℕ) → need ≤ room → restored s l gh gw room ≡ restored s l gh gw need
+  unfolding restored
+  restore-room room e = go (shaped s gh gw (length l))
+    where
+      go : (d : Shape) → decided s l gh gw room d ≡ decided s l gh gw need d
+      go (Unshaped r) = refl
+      go (Shaped t) = rw (le-leb need room e, le-leb need need (le-refl need)) refl
+
+  pub length-bytes : length (bytesOf s l gh gw) ≡ gh * s .«patch_size» * (gw * s .«patch_size» * 3)
+  length-bytes = length-picture (gh * s .«patch_size») (gw * s .«patch_size») _
+
+  -- what a restored picture says
+  pub record Back (h w : ℕ) : Type 0 where
+    pub tall : h ≡ gh * s .«patch_size»
+    pub wide : w ≡ gw * s .«patch_size»
+    pub grids : Grids s gh gw
+
+  passed : (b : Bool) (r : Refusal) (x : Restored) (h w : ℕ) → unless b r x ≡ Picture h w → x ≡ Picture h w
+  passed true r x h w e = e
+  passed false r x h w e = absurd (let z : _≡_ {A = ℕ} 0 1 = cc in omega arith)
+
+  pub back-says : (room h w : ℕ) → restored s l gh gw room ≡ Picture h w → Back h w
+  unfolding restored
+  back-says room h w e = go (shaped s gh gw (length l)) refl e
+    where
+      go : (d : Shape) → shaped s gh gw (length l) ≡ d → decided s l gh gw room d ≡ Picture h w → Back h w
+      go (Unshaped r) f g = absurd (let z : _≡_ {A = ℕ} 0 1 = cc in omega arith)
+      go (Shaped t) f g =
+          let a = passed (leb need room) _ _ h w g in
+          let b = passed (known sampleBits (s .«patch_size») (gh * gw) l) _ _ h w a in
+          record { tall = cc (b); wide = cc (b); grids = shaped-says s gh gw (length l) t f .grids }
+
+  -- the restored bytes, at the front of what was left
+  pub bytes-back : (room h w : ℕ) (old : List ℕ) → restored s l gh gw room ≡ Picture h w → take (h * (w * 3)) (bytesLeft (restored s l gh gw room) (bytesOf s l gh gw) old) ≡ bytesOf s l gh gw
+  bytes-back room h w old e =
+      let k = back-says room h w e in
+      rw (e, k .tall, k .wide) (take-at (bytesOf s l gh gw) _ _ length-bytes)
+
+  -- the sides of the grid and of the picture, where the picture's are at most 64
+  pub record Small (h w : ℕ) : Type 0 where
+    pub grid-tall : gh ≤ 64
+    pub grid-wide : gw ≤ 64
+    pub tall : h ≤ 64
+    pub wide : w * 3 ≤ 192
+
+  pub back-small : gh * s .«patch_size» ≤ 64 → gw * s .«patch_size» ≤ 64 → (h w : ℕ) → Back h w → Small h w
+  back-small a b h w k =
+      let p = s .«patch_size» in
+      let o = k .grids .settings .patch-low in
+      record {
+        grid-tall = omega (arith, times gh 1 gh p (le-refl gh) o);
+        grid-wide = omega (arith, times gw 1 gw p (le-refl gw) o);
+        tall = omega (arith, k .tall);
+        wide = omega (arith, k .wide);
+      }
+
+  pub restored-short : gh * s .«patch_size» ≤ 64 → gw * s .«patch_size» ≤ 64 → (bs : List ℕ) (room : ℕ) → length (restoredText s gh gw bs (restored s l gh gw room)) ≤ 25094
+  restored-short a b bs room = go (restored s l gh gw room) refl
+    where
+      go : (o : Restored) → restored s l gh gw room ≡ o → length (restoredText s gh gw bs o) ≤ 25094
+      go (Refused r) e = refused-short r
+      go (Picture h w) e =
+          let k = back-small a b h w (back-says room h w e) in
+          shown-short gh gw (s .«spatial_merge_size») h (w * 3) bs (k .grid-tall) (k .grid-wide) (k .tall) (k .wide)
+
+pub ran-short : (s : PictureSettings) (rgb : List ℕ) (h w : ℕ) → s .«image_size» ≤ 64 → length (ran s rgb h w) ≤ 25094
+unfolding ran
+ran-short s rgb h w i = go (preprocessed s (length rgb) h w (floatsOf s h w)) refl
+  where
+    go : (o : Preprocessed) → preprocessed s (length rgb) h w (floatsOf s h w) ≡ o → length (preprocessedText s rgb h w o) ≤ 25094
+    go (P.Refused r) e = refused-short r
+    go (P.Patches gh gw n) e =
+        let t = acceptance s (length rgb) h w (floatsOf s h w) gh gw n e in
+        restored-short s (patchesOf s rgb h w) gh gw (rw (t .tall) (grid-span s h i)) (rw (t .wide) (grid-span s w i)) (bytesOf s (patchesOf s rgb h w) gh gw) (gh * s .«patch_size» * (gw * s .«patch_size») * 3)
+
+-- the patches, at the front of what was left
+pub patches-front : (s : PictureSettings) (rgb : List ℕ) (h w room gh gw n : ℕ) (old : List Float) → preprocessed s (length rgb) h w room ≡ P.Patches gh gw n
+    → take n (patchesLeft (preprocessed s (length rgb) h w room) (patchesOf s rgb h w) old) ≡ patchesOf s rgb h w
+patches-front s rgb h w room gh gw n old e =
+    let t = acceptance s (length rgb) h w room gh gw n e in
+    rw (e, t .count) (take-at (patchesOf s rgb h w) _ _ (length-patches (s .«patch_size») (λ y x c. sample c (resizedPixel s rgb h w y x c)) (gridOf s h) (gridOf s w) ∙ sym (mul-assoc (gridOf s h) (gridOf s w) (patchFloats (s .«patch_size»)))))

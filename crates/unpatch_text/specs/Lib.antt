@@ -1,0 +1,7 @@
+pub mod Words
+pub mod Decimal
+pub mod Hex
+pub mod Form
+pub mod Print
+pub mod Answer
+pub mod Steps
