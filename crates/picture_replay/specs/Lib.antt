@@ -1,7 +1,2 @@
-pub mod Decimal
-pub mod Pieces
-pub mod Line
-pub mod Hash
-pub mod Marks
 pub mod Run
 pub mod Record

@@ -3,13 +3,13 @@ use Prim.Native.Nat.{ℕ, _+_}
 use mathlib.Core.Bool.{Bool, cond, _&&_}
 use mathlib.Core.List.{List, [], _∷_}
 use lib.Dec.{eqb, leb, ltb}
-use lib.ListN.{getD, set}
 use lib.Ieee.{Float}
 use Rattle.picture_replay.specs.declared.run.Made.{Made}
 use Rattle.picture_replay.specs.declared.run.Back.{Back}
 use Rattle.picture_replay.specs.declared.record.Places.{Places}
-use Rattle.picture_replay.specs.Line.{Numbers, unread, numbers, numbersOf}
-use Rattle.picture_replay.specs.Marks.{marks, floats}
+use Rattle.replay.specs.Line.{Read, readOf}
+use Rattle.replay.specs.Marks.{marks, floats}
+use Rattle.replay.specs.Counts.{bump}
 use Rattle.picture_replay.specs.Run.{room, at, firstOf, cellsLeft, secondOf}
 
 -- a call that answers as the record says is counted at its number; 6 and 9 count what differs
@@ -39,17 +39,13 @@ marked = floats marks room
 unfoldable pub bothOf : List ℕ → Places
 bothOf v = record { first = madePlace (firstOf v marked) v; second = backPlace (secondOf v (cellsLeft v marked)) v }
 
-unfoldable pub placesFrom : Numbers → Places
-placesFrom unread = neither
-placesFrom (numbers v) = cond (smallOf v) (bothOf v) neither
+unfoldable pub placesFrom : Read → Places
+placesFrom r = cond (r .whole && smallOf (r .list)) (bothOf (r .list)) neither
 
 abbrev pub placesOf : List ℕ → Places
-placesOf line = placesFrom (numbersOf line)
+placesOf line = placesFrom (readOf 23 line)
 
 -- the counts after each of the lines
-abbrev pub bump : List ℕ → ℕ → List ℕ
-bump c k = set c k (getD c k 0 + 1)
-
 unfoldable pub tally : List ℕ → List (List ℕ) → List ℕ
 tally c [] = c
 tally c (l ∷ ls) = let p = placesOf l in tally (bump (bump c (p .first)) (p .second + 7)) ls

@@ -1,11 +1,8 @@
 -- What the two calls of a record answer and leave. Assumes nothing.
-use Prim.Native.Nat.{ℕ, _^_, _%_}
-use mathlib.Core.Bool.{cond}
+use Prim.Native.Nat.{ℕ}
 use mathlib.Core.List.{List, _++_}
-use lib.Bits.{bitXor}
-use lib.Dec.{eqb, ltb}
-use lib.ListN.{length, getD, take, drop, set}
-use lib.Ieee.{Float, nan, binary32, ofBits, toBits}
+use lib.ListN.{length, getD, take, drop}
+use lib.Ieee.{Float}
 use Rattle.picture.specs.declared.PictureSettings.{PictureSettings}
 use Rattle.picture.specs.declared.Preprocessed.{Preprocessed}
 use Rattle.picture.specs.declared.Restored.{Restored}
@@ -15,8 +12,9 @@ use Rattle.picture.specs.Restore as Res
 use Rattle.picture.specs.Restore.{restored, bytesOf, bytesLeft}
 use Rattle.picture_replay.specs.declared.run.Made.{Made}
 use Rattle.picture_replay.specs.declared.run.Back.{Back}
-use Rattle.picture_replay.specs.Hash.{byteHash, floatHash}
-use Rattle.picture_replay.specs.Marks.{seeded, marks, bytes}
+use Rattle.replay.specs.Hash.{byteHash, floatHash}
+use Rattle.replay.specs.Marks.{seeded, marks, bytes}
+use Rattle.replay.specs.Damage.{damaged}
 
 -- ---- one call
 
@@ -41,22 +39,6 @@ brought s l gh gw out = restored s l gh gw (length out)
 
 unfoldable pub backOf : PictureSettings → List Float → ℕ → ℕ → List ℕ → Back
 backOf s l gh gw out = backFrom (brought s l gh gw out) (byteHash (bytesLeft (brought s l gh gw out) (bytesOf s l gh gw) out))
-
--- ---- damage: 1 flips a bit, 2 is a NaN, 3 minus zero, 4 infinity
-
-unfoldable pub damagedBits : ℕ → ℕ → ℕ → ℕ
-damagedBits bits code place =
-    cond (eqb code 1) (bitXor bits (2 ^ (place % 32)))
-    (cond (eqb code 2) 0x7FC0_0000
-    (cond (eqb code 3) 0x8000_0000
-    (cond (eqb code 4) 0x7F80_0000
-    bits)))
-
-unfoldable pub damaged : List Float → ℕ → ℕ → List Float
-damaged l code place =
-    cond (ltb place (length l))
-    (set l place (ofBits binary32 (damagedBits (toBits binary32 (getD l place nan)) code place)))
-    l
 
 -- ---- a record of 23 numbers
 

@@ -8,13 +8,9 @@
 // the patches' length, the output's length, and a damage with its place; and 4 are its answer: the
 // number, height, width, and the hash of the output. `oracle/run target/staticlib picture --sample`
 // made the file stdin from the Rust alone.
-mod decimal;
-mod hash;
-mod line;
-mod marks;
 mod record;
-mod replay;
 mod run;
+mod text;
 
 use libc::STDIN_FILENO;
 use libc::STDOUT_FILENO;
@@ -30,7 +26,7 @@ fn main() {
     if n == 65536 {
         io::write_all(STDOUT_FILENO, b"the input fills the buffer\n");
     }
-    let counts = replay::replay(&text[..n]);
+    let counts = text::replay(&text[..n]);
     put(b"preprocess 0:", counts[0]);
     put(b" 1:", counts[1]);
     put(b" 2:", counts[2]);

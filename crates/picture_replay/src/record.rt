@@ -2,12 +2,13 @@
 ghost use mathlib.Core.Path.{_≡_};
 ghost use Prim.Native.Nat.{_<_};
 ghost use Rattle.picture_replay.specs.Record.{madePlace, backPlace, neither, smallOf, placesOf};
-use crate::marks::MARKS;
-use crate::marks::ROOM;
-use crate::marks::fill_floats;
 use crate::run::Back;
 use crate::run::Made;
+use crate::run::ROOM;
 use libc::STDOUT_FILENO;
+use replay::line::read_line;
+use replay::marks::MARKS;
+use replay::marks::fill_floats;
 
 // Where a record's calls are counted: each by its number, and past these where it differs.
 pub struct Places {
@@ -89,7 +90,7 @@ pub(crate) fn judge(line: &[u8]) -> Places
     ensures { λ r. ⌜ (r ≡ placesOf (now (line .entry))) × (r .first < 7) × (r .second < 10) ⌝ }
 {
     let mut v = [0usize; 23];
-    if !crate::line::read_line(line, &mut v) {
+    if !read_line(line, &mut v) {
         return bad(line);
     }
     if !small(&v) {

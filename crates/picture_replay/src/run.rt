@@ -2,13 +2,18 @@
 ghost use mathlib.Core.Path.{_≡_};
 ghost use Prim.Native.Nat.{_≤_};
 ghost use lib.ListN.{length};
-ghost use Rattle.picture_replay.specs.Run.{room, at, madeOf, left, backOf, damagedBits, damaged, settingsOf, firstOf, cellsLeft, secondOf};
-use crate::marks::MARKS;
-use crate::marks::ROOM;
-use crate::marks::fill_bytes;
+ghost use Rattle.picture_replay.specs.Run.{room, at, madeOf, left, backOf, settingsOf, firstOf, cellsLeft, secondOf};
 use picture::PictureSettings;
 use picture::Preprocessed;
 use picture::Restored;
+use replay::damage::damage;
+use replay::hash::hash_bytes;
+use replay::hash::hash_floats;
+use replay::marks::MARKS;
+use replay::marks::fill_bytes;
+
+// The cells of each buffer.
+pub const ROOM: usize = 12352;
 
 // What a preprocess answers, and the hash of its output afterwards.
 pub struct Made {
@@ -32,7 +37,7 @@ fn make(s: PictureSettings, rgb: &[u8], height: usize, width: usize, out: &mut [
     ensures output { λ _. ⌜ now (out .exit) ≡ left s (now (rgb .entry)) height width (now (out .entry)) ⌝ }
 {
     let found = picture::preprocess::pixtral_preprocess(s, rgb, height, width, out);
-    let hash = crate::hash::hash_floats(out) as usize;
+    let hash = hash_floats(out) as usize;
     match found {
         Preprocessed::Patches {
             grid_h,
@@ -59,7 +64,7 @@ fn bring(s: PictureSettings, patches: &[f32], grid_h: usize, grid_w: usize, out:
     ensures { λ r. ⌜ r ≡ backOf s (now (patches .entry)) «grid_h» «grid_w» (now (out .entry)) ⌝ }
 {
     let found = picture::restore::restore(s, patches, grid_h, grid_w, out);
-    let hash = crate::hash::hash_bytes(out) as usize;
+    let hash = hash_bytes(out) as usize;
     match found {
         Restored::Picture { height, width } => Back {
             number: 0,
@@ -73,29 +78,6 @@ fn bring(s: PictureSettings, patches: &[f32], grid_h: usize, grid_w: usize, out:
             width: 0,
             hash,
         },
-    }
-}
-
-// Damage 1 flips the bit whose number is the place modulo 32.
-fn damaged_bits(bits: u32, code: usize, place: usize) -> u32
-    ensures { λ r. ⌜ r ≡ damagedBits bits code place ⌝ }
-{
-    match code {
-        1 => bits ^ (1u32 << (place % 32)),
-        2 => 0x7FC0_0000,
-        3 => 0x8000_0000,
-        4 => 0x7F80_0000,
-        _ => bits,
-    }
-}
-
-// Nothing happens where there is no such place.
-fn damage(cells: &mut [f32], code: usize, place: usize)
-    ensures { λ _. ⌜ now (cells .exit) ≡ damaged (now (cells .entry)) code place ⌝ }
-{
-    if place < cells.len() {
-        let bits = number::pattern::bits_of_f32(cells[place]);
-        cells[place] = number::pattern::f32_of_bits(damaged_bits(bits, code, place));
     }
 }
 

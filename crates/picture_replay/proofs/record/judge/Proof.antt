@@ -4,31 +4,34 @@ use borrow.Author.Tests.{leb-true, not-false, not-true}
 use Prim.Native.Nat.{ℕ, _≤_}
 use native.Mathlib.Omega.{arith}
 use mathlib.Core.Bool.{Bool, true, false, _&&_}
-use mathlib.Core.Path.{_≡_, sym, _∙_}
+use mathlib.Core.Path.{_≡_, refl, sym, _∙_}
 use mathlib.Core.List.{List}
 use lib.Dec.{leb}
 use lib.Ieee.{Float}
-use lib.ListN.{length, length-replicate}
+use lib.ListN.{length, replicate, length-replicate}
+use Rattle.buffers.specs.Region.{over}
 use Rattle.buffers.proofs.Lists.{and-left, and-right}
-use Rattle.picture_replay.specs.Line.{answer, numbersOf}
+use Rattle.replay.specs.Line.{readOf}
+use Rattle.replay.proofs.Lines.{read-whole}
 use Rattle.picture_replay.specs.Run.{room, at, firstOf, cellsLeft, secondOf}
 use Rattle.picture_replay.specs.Record.{madePlace, backPlace, neither, smallOf, marked, bothOf, placesFrom, placesOf}
 use Rattle.picture_replay.proofs.record.judge.Statement.{statement}
 use Rattle.picture_replay.proofs.record.judge.Tie as tie
 
 -- a line that was not read
-unread : (line l : List ℕ) (t : Bool) → answer t l ≡ numbersOf line → t ≡ false → neither ≡ placesOf line
-unfolding answer placesFrom
-unread line l t e f = rw (← e, f)
+unread : (line : List ℕ) (t : Bool) → t ≡ readOf 23 line .whole → t ≡ false → neither ≡ placesOf line
+unfolding placesFrom
+unread line t e f = rw (← e, f)
 
 -- a line that was, by whether its lengths fit
-large : (line v : List ℕ) (t : Bool) → answer t v ≡ numbersOf line → t ≡ true → smallOf v ≡ false → neither ≡ placesOf line
-unfolding answer placesFrom
-large line v t e f s = rw (← e, f, s)
+module _ (line v : List ℕ) (t : Bool) (e : t ≡ readOf 23 line .whole) (o : v ≡ over (readOf 23 line .list) (replicate 23 0)) (f : t ≡ true) where
+  large : smallOf v ≡ false → neither ≡ placesOf line
+  unfolding placesFrom
+  large s = rw (read-whole 23 line (replicate 23 0) v t refl e o f, s)
 
-fitting : (line v : List ℕ) (t : Bool) → answer t v ≡ numbersOf line → t ≡ true → smallOf v ≡ true → bothOf v ≡ placesOf line
-unfolding answer placesFrom
-fitting line v t e f s = rw (← e, f, s)
+  fitting : smallOf v ≡ true → bothOf v ≡ placesOf line
+  unfolding placesFrom
+  fitting s = rw (read-whole 23 line (replicate 23 0) v t refl e o f, s)
 
 pub record Fit (v : List ℕ) : Type 0 where
   pub rgb : at v 5 ≤ room
@@ -75,7 +78,7 @@ returns : tie.Need-returns
 returns c =
     let r = c .before .before .before .read-line in
     let e = c .bad .ensures in
-    (e ∙ unread _ _ _ (r .ensures) (not-true _ (c .before .if1 .taken)), rw e (omega arith), rw e (omega arith))
+    (e ∙ unread _ _ (r .ensures .0) (not-true _ (c .before .if1 .taken)), rw e (omega arith), rw e (omega arith))
 
 small-requires : tie.Need-small-requires
 small-requires c κs = search needs
@@ -88,8 +91,9 @@ returns-2 c =
     let d = c .before .before in
     let t = d .before .before in
     let e = c .bad2 .ensures in
-    let g : smallOf (t .before .before .read-line .last .1 .0) ≡ false = sym (d .small .ensures) ∙ not-true _ (c .before .if2 .taken) in
-    (e ∙ large _ _ _ (t .before .before .read-line .ensures) (not-false _ (t .if1 .left)) g, rw e (omega arith), rw e (omega arith))
+    let r = t .before .before .read-line in
+    let g : smallOf (r .last .1 .0) ≡ false = sym (d .small .ensures) ∙ not-true _ (c .before .if2 .taken) in
+    (e ∙ large _ _ _ (r .ensures .0) (r .ensures .1) (not-false _ (t .if1 .left)) g, rw e (omega arith), rw e (omega arith))
 
 slice-aggregate-fill-floats : tie.Need-slice-aggregate-fill-floats
 slice-aggregate-fill-floats c = search needs
@@ -140,7 +144,7 @@ returns-3 c =
     let filled : l .fill-floats .last .1 .0 ≡ marked = simp length-replicate at (l .fill-floats .ensures) in
     let x = rw (f .first .ensures .0) at (m .made-place .ensures .0) in
     let y = rw (s .second .ensures) at (b .back-place .ensures .0) in (
-      both v _ _ _ _ filled (f .first .ensures .1) x y ∙ fitting _ v _ (r .ensures) (not-false _ (d .before .before .before .if1 .left)) (small d),
+      both v _ _ _ _ filled (f .first .ensures .1) x y ∙ fitting _ v _ (r .ensures .0) (r .ensures .1) (not-false _ (d .before .before .before .if1 .left)) (small d),
       m .made-place .ensures .1,
       b .back-place .ensures .1,
     )

@@ -7,7 +7,7 @@ use lib.Ieee.{Float}
 use Rattle.picture.specs.declared.PictureSettings.{PictureSettings}
 use Rattle.picture.specs.declared.Restored.{Restored}
 use Rattle.picture.specs.Restore.{bytesOf, bytesLeft}
-use Rattle.picture_replay.specs.Hash.{byteHash}
+use Rattle.replay.specs.Hash.{byteHash}
 use Rattle.picture_replay.specs.Run.{brought, backFrom, backOf}
 use Rattle.picture_replay.proofs.run.bring.Statement.{statement}
 use Rattle.picture_replay.proofs.run.bring.Tie as tie

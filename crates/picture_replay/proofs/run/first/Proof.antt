@@ -6,9 +6,9 @@ use mathlib.Core.List.{List, _++_}
 use lib.Ieee.{Float}
 use lib.ListN.{length, take, drop, length-replicate}
 use lib.Seq.{length-take-le}
-use Rattle.picture_replay.specs.Marks.{seeded, byteAt, bytes}
+use Rattle.replay.specs.Marks.{seeded, byteAt, bytes}
 use Rattle.picture_replay.specs.Run.{room, at, rgbOf, firstOf, cellsLeft}
-use Rattle.picture_replay.proofs.Turns.{take-tab}
+use Rattle.replay.proofs.Turns.{take-tab}
 use Rattle.picture_replay.proofs.run.first.Statement.{statement}
 use Rattle.picture_replay.proofs.run.first.Tie as tie
 

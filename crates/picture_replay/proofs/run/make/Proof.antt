@@ -6,7 +6,7 @@ use mathlib.Core.List.{List}
 use lib.Ieee.{Float}
 use Rattle.picture.specs.declared.PictureSettings.{PictureSettings}
 use Rattle.picture.specs.declared.Preprocessed.{Preprocessed}
-use Rattle.picture_replay.specs.Hash.{floatHash}
+use Rattle.replay.specs.Hash.{floatHash}
 use Rattle.picture_replay.specs.Run.{made, madeFrom, madeOf, left}
 use Rattle.picture_replay.proofs.run.make.Statement.{statement}
 use Rattle.picture_replay.proofs.run.make.Tie as tie

@@ -4,9 +4,9 @@ use Prim.Native.Nat.{_≤_}
 use mathlib.Core.Path.{_≡_, sym, _∙_}
 use lib.ListN.{length, take, length-replicate}
 use lib.Seq.{length-take-le}
-use Rattle.picture_replay.specs.Marks.{marks, byteAt, bytes}
+use Rattle.replay.specs.Marks.{marks, byteAt, bytes}
 use Rattle.picture_replay.specs.Run.{room, at, secondOf}
-use Rattle.picture_replay.proofs.Turns.{take-tab}
+use Rattle.replay.proofs.Turns.{take-tab}
 use Rattle.picture_replay.proofs.run.second.Statement.{statement}
 use Rattle.picture_replay.proofs.run.second.Tie as tie
 

@@ -1,0 +1,4 @@
+pub mod Turns
+pub mod Cuts
+pub mod Counted
+pub mod Lines
