@@ -5,6 +5,13 @@
 //! refusals, are stated here from the text of the paper.
 //!
 //!     encoder            edges, and random calls with a fixed seed
+//!     encoder --sample   prints the Rust's answers as crates/encoder_replay/stdin holds them
+
+use std::collections::BTreeMap;
+use std::io::Write;
+
+#[path = "sample.rs"]
+mod sample;
 
 #[allow(dead_code)]
 mod rust {
@@ -183,6 +190,8 @@ extern "C" {
         out_len: usize,
     ) -> Report;
 }
+
+const SEED: u64 = 88_172_645_463_325_252;
 
 struct Random(u64);
 
@@ -448,28 +457,55 @@ fn stops(c: &Call, m: &Model) -> Option<&'static str> {
     run().err()
 }
 
+/// What the Rust answers: the number, with the stage at which a value is not finite, or the rows.
+struct Answer {
+    number: u32,
+    stage: Option<&'static str>,
+    rows: Option<Vec<f32>>,
+}
+
+fn answer(c: &Call) -> Answer {
+    let number = refusal(c);
+    if number != 0 {
+        return Answer { number, stage: None, rows: None };
+    }
+    let m = model(&c.s, &c.weights);
+    match stops(c, &m) {
+        Some(stage) => Answer { number: 12, stage: Some(stage), rows: None },
+        None => Answer { number: 0, stage: None, rows: Some(forward(c, &m)) },
+    }
+}
+
+/// The tokens, and the output and the scratch afterwards.
+fn left(c: &Call, a: &Answer) -> (usize, Vec<f32>, Vec<f32>) {
+    let (mut out, mut tokens) = (c.out.clone(), 0);
+    if let Some(rows) = &a.rows {
+        tokens = rows.len() / c.s.text_hidden_size;
+        out[..rows.len()].copy_from_slice(rows);
+    }
+    let work = if a.number == 0 || a.number == 12 { vec![0.0; c.scratch.len()] } else { c.scratch.clone() };
+    (tokens, out, work)
+}
+
+fn bits(x: &[f32]) -> Vec<u32> {
+    x.iter().map(|v| v.to_bits()).collect()
+}
+
 #[derive(Default)]
 struct Tally {
     calls: usize,
     accepted: usize,
     differ: usize,
-    numbers: std::collections::BTreeMap<u32, usize>,
-    stages: std::collections::BTreeMap<&'static str, usize>,
+    numbers: BTreeMap<u32, usize>,
+    stages: BTreeMap<&'static str, usize>,
 }
 
 impl Tally {
     fn compare(&mut self, c: &Call) {
-        let mut number = refusal(c);
-        let mut want = None;
-        if number == 0 {
-            let m = model(&c.s, &c.weights);
-            match stops(c, &m) {
-                Some(stage) => {
-                    number = 12;
-                    *self.stages.entry(stage).or_default() += 1;
-                }
-                None => want = Some(forward(c, &m)),
-            }
+        let a = answer(c);
+        let number = a.number;
+        if let Some(stage) = a.stage {
+            *self.stages.entry(stage).or_default() += 1;
         }
         let (mut scratch, mut out) = (c.scratch.clone(), c.out.clone());
         let report = unsafe {
@@ -491,15 +527,8 @@ impl Tally {
                 out.len(),
             )
         };
-        let mut left = c.out.clone();
-        let mut tokens = 0;
-        if let Some(rows) = &want {
-            tokens = rows.len() / c.s.text_hidden_size;
-            left[..rows.len()].copy_from_slice(rows);
-            self.accepted += 1;
-        }
-        let work = if number == 0 || number == 12 { vec![0.0; scratch.len()] } else { c.scratch.clone() };
-        let bits = |x: &[f32]| x.iter().map(|v| v.to_bits()).collect::<Vec<_>>();
+        let (tokens, left, work) = left(c, &a);
+        self.accepted += usize::from(number == 0);
         self.calls += 1;
         *self.numbers.entry(number).or_default() += 1;
         if report != (Report { number, tokens }) || bits(&out) != bits(&left) || bits(&scratch) != bits(&work) {
@@ -593,8 +622,8 @@ fn changed(r: &mut Random, c: &mut Call) {
     }
 }
 
-fn main() {
-    let mut r = Random(88_172_645_463_325_252);
+fn edges_and_random() -> bool {
+    let mut r = Random(SEED);
     let mut tally = Tally::default();
     for i in 0..4000 {
         let mut c = small(&mut r);
@@ -648,5 +677,217 @@ fn main() {
         "encoder: {} forward calls compared with the Rust, {} accepted; {} differ",
         tally.calls, tally.accepted, tally.differ
     );
-    std::process::exit(i32::from(tally.differ != 0));
+    tally.differ == 0
+}
+
+// --- The sample ---
+
+/// The cells of the replay's inputs, and where patches, weights, cosines and sines start in them.
+const CELLS: usize = 8_192;
+const STARTS: [usize; 4] = [0, 1_024, 7_168, 7_680];
+
+/// What a record asks.
+struct Asked {
+    s: Settings,
+    grid: [usize; 2],
+    /// Of patches, weights, cosines, sines, scratch and output.
+    lengths: [usize; 6],
+    seed: u32,
+    /// As `sample::damage` numbers it, at a place among the cells.
+    damage: usize,
+    place: usize,
+}
+
+impl Asked {
+    /// The call: from the seed floats from -1 to 1, damaged, and marks in scratch and output.
+    fn call(&self) -> Call {
+        let unit = |x: u32| ((x >> 8) as f32 / 8_388_608.0 - 1.0).to_bits();
+        let mut cells: Vec<u32> = sample::states(self.seed).map(unit).take(CELLS).collect();
+        sample::damage(&mut cells, self.damage, self.place);
+        let part = |k: usize| {
+            let cells = &cells[STARTS[k]..STARTS[k] + self.lengths[k]];
+            cells.iter().map(|x| f32::from_bits(*x)).collect()
+        };
+        let marks = |n: usize| sample::marks().map(f32::from_bits).take(n).collect();
+        Call {
+            s: self.s,
+            grid: self.grid,
+            patches: part(0),
+            weights: part(1),
+            cos: part(2),
+            sin: part(3),
+            scratch: marks(self.lengths[4]),
+            out: marks(self.lengths[5]),
+        }
+    }
+
+    /// The record's line, by the Rust and the paper's text alone.
+    fn answered(&self) -> String {
+        let s = &self.s;
+        let c = self.call();
+        let a = answer(&c);
+        let (tokens, out, work) = left(&c, &a);
+        let hash = |x: &[f32]| sample::hash(&bits(x)) as usize;
+        let mut list = vec![s.patch_size, s.spatial_merge_size, s.image_size];
+        list.extend([s.hidden_size, s.num_heads, s.head_dim, s.num_layers]);
+        list.extend([s.intermediate_size, s.text_hidden_size, s.scaling.to_bits() as usize]);
+        list.extend(self.grid);
+        list.extend(self.lengths);
+        list.extend([self.seed as usize, self.damage, self.place]);
+        list.extend([a.number as usize, tokens, hash(&out), hash(&work)]);
+        sample::line(&list)
+    }
+}
+
+/// A record that is accepted, if its values are finite; the model's parts are small enough for the cells.
+fn asked(r: &mut Random, layers: usize) -> Asked {
+    let (merge, patch, [heads, d]) = (r.from(1, 2), r.from(1, 3), [[1, 4], [2, 4], [1, 8], [2, 8], [4, 4]][r.from(0, 4)]);
+    let most = 4 - merge;
+    let grid = [merge * r.from(1, most), merge * r.from(1, most)];
+    let s = Settings {
+        patch_size: patch,
+        spatial_merge_size: merge,
+        image_size: (grid[0].max(grid[1]) + r.from(0, 1)) * patch + r.from(0, patch - 1),
+        hidden_size: heads * d,
+        num_heads: heads,
+        head_dim: d,
+        num_layers: layers,
+        intermediate_size: r.from(1, 16),
+        text_hidden_size: r.from(1, 16),
+        scaling: 1.0 / (d as f32).sqrt(),
+    };
+    let (t, most) = (grid[0] * grid[1], s.image_size / patch);
+    let o = t / (merge * merge);
+    let table = most * most * d;
+    let lengths = [
+        t * 3 * patch * patch,
+        weight_floats(&s),
+        table,
+        table,
+        scratch_floats(&s, t, o),
+        o * s.text_hidden_size,
+    ];
+    Asked { s, grid, lengths, seed: r.next() as u32, damage: 0, place: 0 }
+}
+
+/// 0 to 2 layers; scratch and output as long as needed, or longer; now and then -0 or a flipped low bit.
+fn sample_accepted(r: &mut Random, list: &mut Vec<Asked>) {
+    for i in 0..24 {
+        let mut a = asked(r, i % 3);
+        a.lengths[4] += [0, 1, 40][r.from(0, 2)];
+        a.lengths[5] += [0, 1, 40][r.from(0, 2)];
+        let k = r.from(0, 3);
+        let place = STARTS[k] + r.from(0, a.lengths[k] - 1);
+        if i >= 12 && place % 32 < 24 {
+            (a.damage, a.place) = ([1, 3][i % 2], place);
+        }
+        list.push(a);
+    }
+}
+
+/// Each number but 12 in several ways, and refusals that meet.
+fn sample_refused(r: &mut Random, list: &mut Vec<Asked>) {
+    const MAX: usize = usize::MAX;
+    let mut from = |change: &dyn Fn(&mut Asked)| {
+        let mut a = asked(r, 1);
+        change(&mut a);
+        list.push(a);
+    };
+    for n in [0, 33] {
+        from(&|a| a.s.patch_size = n);
+    }
+    for n in [0, 5] {
+        from(&|a| a.s.spatial_merge_size = n);
+    }
+    for n in [0, 2049] {
+        from(&|a| a.s.image_size = n);
+    }
+    for n in [0, 3, 2052] {
+        from(&|a| (a.s.hidden_size, a.s.num_heads, a.s.head_dim) = (n, 1, n));
+    }
+    from(&|a| (a.s.hidden_size, a.s.num_heads, a.s.head_dim) = (260, 65, 4));
+    from(&|a| (a.s.hidden_size, a.s.num_heads, a.s.head_dim) = (6, 1, 6));
+    from(&|a| a.s.num_heads += 1);
+    from(&|a| a.s.num_layers = 49);
+    for n in [0, 8193, MAX] {
+        from(&|a| a.s.intermediate_size = n);
+        from(&|a| a.s.text_hidden_size = n);
+    }
+    for x in [0.0, -0.0, -1.0, f32::NAN, f32::INFINITY] {
+        from(&|a| a.s.scaling = x);
+    }
+    from(&|a| a.grid[0] = 0);
+    from(&|a| a.grid[1] = MAX);
+    from(&|a| a.grid[1] = a.s.image_size / a.s.patch_size / a.s.spatial_merge_size * a.s.spatial_merge_size + a.s.spatial_merge_size);
+    from(&|a| (a.s.spatial_merge_size, a.grid[0]) = (2, 1));
+    // One buffer too short or too long: patches, weights, either table, scratch, output.
+    for k in 0..6 {
+        from(&|a| a.lengths[k] -= 1);
+    }
+    for k in 0..4 {
+        from(&|a| a.lengths[k] += 1);
+    }
+    from(&|a| a.lengths = [0; 6]);
+    // Two at once, in the order in which they are looked at: 1, 6, 7, 9, 10, 5, 11, 12.
+    from(&|a| (a.s.num_layers, a.grid[0]) = (49, 0));
+    from(&|a| (a.grid[0], a.lengths[0]) = (0, 1));
+    from(&|a| (a.lengths[0], a.lengths[1]) = (1, 1));
+    from(&|a| (a.lengths[1], a.lengths[2]) = (1, 1));
+    from(&|a| (a.lengths[3], a.lengths[5]) = (1, 0));
+    from(&|a| (a.lengths[5], a.lengths[4]) = (0, 0));
+    from(&|a| (a.lengths[4], a.damage, a.place) = (0, 2, 0));
+}
+
+/// An input that is not finite, in each buffer; and for each stage that a large value stops, one record.
+fn sample_stopped(r: &mut Random, list: &mut Vec<Asked>) {
+    for k in 0..4 {
+        let mut a = asked(r, k % 3);
+        (a.damage, a.place) = (2 + 2 * (k % 2), STARTS[k] + r.from(0, a.lengths[k] - 1));
+        list.push(a);
+    }
+    let mut seen = vec!["patches", "weights", "cos", "sin"];
+    for i in 0..40_000 {
+        let mut a = asked(r, 1 + i % 2);
+        if i % 8 == 0 {
+            a.s.scaling = 3.0e38;
+        }
+        let k = r.from(0, 3);
+        // Bit 30 of a float below 1 makes it large.
+        let places: Vec<usize> = (STARTS[k]..STARTS[k] + a.lengths[k]).filter(|p| p % 32 == 30).collect();
+        if places.is_empty() {
+            continue;
+        }
+        (a.damage, a.place) = (1, places[r.from(0, places.len() - 1)]);
+        if let Some(stage) = answer(&a.call()).stage {
+            if !seen.contains(&stage) {
+                seen.push(stage);
+                list.push(a);
+            }
+        }
+    }
+    eprintln!("encoder: stages {seen:?}");
+}
+
+fn sample() -> std::io::Result<()> {
+    let mut r = Random(SEED);
+    let mut list = Vec::new();
+    sample_accepted(&mut r, &mut list);
+    sample_refused(&mut r, &mut list);
+    sample_stopped(&mut r, &mut list);
+    let mut out = std::io::stdout().lock();
+    list.iter().try_for_each(|a| writeln!(out, "{}", a.answered()))
+}
+
+fn main() {
+    let words: Vec<String> = std::env::args().skip(1).collect();
+    let words: Vec<&str> = words.iter().map(String::as_str).collect();
+    let same = match words[..] {
+        [] => edges_and_random(),
+        ["--sample"] => sample().is_ok(),
+        _ => {
+            eprintln!("usage: encoder [--sample]");
+            std::process::exit(2);
+        }
+    };
+    std::process::exit(i32::from(!same));
 }

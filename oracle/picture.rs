@@ -14,6 +14,10 @@ use std::hint::black_box;
 use std::io::Write;
 use std::time::Instant;
 
+#[path = "sample.rs"]
+mod sample;
+use sample::{hash, states, MARKS};
+
 /// The functions that were cut, and the types that they name.
 mod rust {
     pub struct PixtralVisionConfig {
@@ -1153,21 +1157,8 @@ fn bench() {
 
 // --- The sample ---
 
-/// The cells of each of the replay's buffers, and the seed of their marks.
+/// The cells of each of the replay's buffers.
 const CELLS: usize = 12_352;
-const MARKS: u32 = 77;
-
-/// The states of the sample's generator after a seed.
-fn states(seed: u32) -> impl Iterator<Item = u32> {
-    let step = |x: &u32| Some(x.wrapping_mul(1_664_525).wrapping_add(1_013_904_223));
-    std::iter::successors(Some(seed), step).skip(1)
-}
-
-/// Two remainders side by side: a word w takes each h from h to (h · k + w) mod m; both start at 1.
-fn hash(words: &[u32]) -> u64 {
-    let lane = |k: u64, m: u64| words.iter().fold(1, |h, w| (h * k + u64::from(*w)) % m);
-    lane(2_147_483_629, 4_294_967_291) << 32 | lane(2_147_483_587, 4_294_967_279)
-}
 
 /// What a record asks: preprocess into `out` cells, then restore of the buffer's first `floats`.
 struct Asked {
@@ -1179,7 +1170,7 @@ struct Asked {
     grid: Sides,
     floats: usize,
     bytes: usize,
-    /// 0 none; 1 a flipped bit, the place modulo 32; 2 a NaN; 3 minus zero; 4 infinity.
+    /// As `sample::damage` numbers it.
     damage: usize,
     place: usize,
 }
@@ -1204,10 +1195,7 @@ impl Asked {
     /// The record's line, by the Rust and the paper's text alone.
     fn answered(&self, bytes: &Bytes) -> String {
         let (s, sides) = (self.s, self.sides);
-        let mut cells: Vec<u32> = states(MARKS)
-            .map(|x| (x as f32).to_bits())
-            .take(CELLS)
-            .collect();
+        let mut cells: Vec<u32> = sample::marks().take(CELLS).collect();
         let mut report = [refused(s, self.rgb, sides) as usize, 0, 0, 0];
         if report[0] == 0 {
             let made = picture(s, sides, Fill::Sample(self.seed));
@@ -1220,13 +1208,7 @@ impl Asked {
             }
         }
         let floats_hash = hash(&cells[..self.out]);
-        match self.damage {
-            1 => cells[self.place] ^= 1 << (self.place % 32),
-            2 => cells[self.place] = 0x7FC0_0000,
-            3 => cells[self.place] = 0x8000_0000,
-            4 => cells[self.place] = 0x7F80_0000,
-            _ => {}
-        }
+        sample::damage(&mut cells, self.damage, self.place);
         let mut whole = Fill::Sample(MARKS).bytes(self.bytes, [1, 1]);
         let back = match restored(bytes, s, &cells[..self.floats], self.grid, self.bytes) {
             Ok(bytes) => {
@@ -1244,10 +1226,7 @@ impl Asked {
         list.extend([self.damage, self.place]);
         list.extend(back);
         list.push(bytes_hash as usize);
-        list.iter()
-            .map(usize::to_string)
-            .collect::<Vec<_>>()
-            .join("\t")
+        sample::line(&list)
     }
 }
 
