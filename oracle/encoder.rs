@@ -741,7 +741,8 @@ impl Asked {
 
 /// A record that is accepted, if its values are finite; the model's parts are small enough for the cells.
 fn asked(r: &mut Random, layers: usize) -> Asked {
-    let (merge, patch, [heads, d]) = (r.from(1, 2), r.from(1, 3), [[1, 4], [2, 4], [1, 8], [2, 8], [4, 4]][r.from(0, 4)]);
+    let (merge, patch) = (r.from(1, 2), r.from(1, 3));
+    let [heads, d] = [[1, 4], [2, 4], [1, 8], [2, 8], [4, 4]][r.from(0, 4)];
     let most = 4 - merge;
     let grid = [merge * r.from(1, most), merge * r.from(1, most)];
     let s = Settings {
@@ -818,7 +819,10 @@ fn sample_refused(r: &mut Random, list: &mut Vec<Asked>) {
     }
     from(&|a| a.grid[0] = 0);
     from(&|a| a.grid[1] = MAX);
-    from(&|a| a.grid[1] = a.s.image_size / a.s.patch_size / a.s.spatial_merge_size * a.s.spatial_merge_size + a.s.spatial_merge_size);
+    from(&|a| {
+        let (most, merge) = (a.s.image_size / a.s.patch_size, a.s.spatial_merge_size);
+        a.grid[1] = most / merge * merge + merge
+    });
     from(&|a| (a.s.spatial_merge_size, a.grid[0]) = (2, 1));
     // One buffer too short or too long: patches, weights, either table, scratch, output.
     for k in 0..6 {

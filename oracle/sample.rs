@@ -33,5 +33,9 @@ pub fn hash(words: &[u32]) -> u64 {
 
 /// A record's line.
 pub fn line(numbers: &[usize]) -> String {
-    numbers.iter().map(usize::to_string).collect::<Vec<_>>().join("\t")
+    numbers
+        .iter()
+        .map(usize::to_string)
+        .collect::<Vec<_>>()
+        .join("\t")
 }
