@@ -5,6 +5,7 @@
 //! refusals, are stated here from the text of the paper.
 //!
 //!     encoder            edges, and random calls with a fixed seed
+//!     encoder --bench    times ours and the Rust, on one thread
 //!     encoder --sample   prints the Rust's answers as crates/encoder_replay/stdin holds them
 
 use std::collections::BTreeMap;
@@ -491,6 +492,29 @@ fn bits(x: &[f32]) -> Vec<u32> {
     x.iter().map(|v| v.to_bits()).collect()
 }
 
+/// The port's forward.
+fn ours(c: &Call, scratch: &mut [f32], out: &mut [f32]) -> Report {
+    unsafe {
+        kz_forward(
+            c.s,
+            c.patches.as_ptr(),
+            c.patches.len(),
+            c.grid[0],
+            c.grid[1],
+            c.weights.as_ptr(),
+            c.weights.len(),
+            c.cos.as_ptr(),
+            c.cos.len(),
+            c.sin.as_ptr(),
+            c.sin.len(),
+            scratch.as_mut_ptr(),
+            scratch.len(),
+            out.as_mut_ptr(),
+            out.len(),
+        )
+    }
+}
+
 #[derive(Default)]
 struct Tally {
     calls: usize,
@@ -508,25 +532,7 @@ impl Tally {
             *self.stages.entry(stage).or_default() += 1;
         }
         let (mut scratch, mut out) = (c.scratch.clone(), c.out.clone());
-        let report = unsafe {
-            kz_forward(
-                c.s,
-                c.patches.as_ptr(),
-                c.patches.len(),
-                c.grid[0],
-                c.grid[1],
-                c.weights.as_ptr(),
-                c.weights.len(),
-                c.cos.as_ptr(),
-                c.cos.len(),
-                c.sin.as_ptr(),
-                c.sin.len(),
-                scratch.as_mut_ptr(),
-                scratch.len(),
-                out.as_mut_ptr(),
-                out.len(),
-            )
-        };
+        let report = ours(c, &mut scratch, &mut out);
         let (tokens, left, work) = left(c, &a);
         self.accepted += usize::from(number == 0);
         self.calls += 1;
@@ -557,6 +563,22 @@ fn small(r: &mut Random) -> Call {
         scaling: 1.0 / (d as f32).sqrt(),
     };
     sized(r, s, grid, 1.0)
+}
+
+/// The settings of a model of real width, with two layers and a side of at most so many patches.
+fn real(side: usize) -> Settings {
+    Settings {
+        patch_size: 14,
+        spatial_merge_size: 2,
+        image_size: 14 * side,
+        hidden_size: 1024,
+        num_heads: 16,
+        head_dim: 64,
+        num_layers: 2,
+        intermediate_size: 4096,
+        text_hidden_size: 1024,
+        scaling: 0.125,
+    }
 }
 
 /// Buffers that fit, with weights up to a size.
@@ -658,26 +680,47 @@ fn edges_and_random() -> bool {
         };
         tally.compare(&sized(&mut r, s, grid, 1.0));
     }
-    // Real width.
-    let wide = Settings {
-        patch_size: 14,
-        spatial_merge_size: 2,
-        image_size: 56,
-        hidden_size: 1024,
-        num_heads: 16,
-        head_dim: 64,
-        num_layers: 2,
-        intermediate_size: 4096,
-        text_hidden_size: 1024,
-        scaling: 0.125,
-    };
-    tally.compare(&sized(&mut r, wide, [2, 2], 0.05));
+    tally.compare(&sized(&mut r, real(4), [2, 2], 0.05));
     eprintln!("encoder: numbers {:?}, stages {:?}", tally.numbers, tally.stages);
     println!(
         "encoder: {} forward calls compared with the Rust, {} accepted; {} differ",
         tally.calls, tally.accepted, tally.differ
     );
     tally.differ == 0
+}
+
+// --- The benchmark ---
+
+/// The processor's time that this process took, which other processes lengthen less than the clock's.
+fn processor_seconds() -> f64 {
+    extern "C" {
+        fn clock() -> std::ffi::c_long;
+    }
+    unsafe { clock() as f64 / 1e6 }
+}
+
+/// Each grid's forward by the port and by the Rust, in turn, three times; the fastest of each.
+fn bench() -> bool {
+    println!("{:24}{:>10}{:>10}", "processor seconds", "ours", "the Rust");
+    let mut same = true;
+    for side in [4, 16] {
+        let c = sized(&mut Random(SEED), real(side), [side, side], 0.05);
+        let m = model(&c.s, &c.weights);
+        let (mut best, mut rows, mut out) = ([f64::INFINITY; 2], Vec::new(), c.out.clone());
+        for _ in 0..3 {
+            let mut scratch = c.scratch.clone();
+            let began = processor_seconds();
+            ours(&c, &mut scratch, &mut out);
+            let between = processor_seconds();
+            rows = forward(&c, &m);
+            best[0] = best[0].min(between - began);
+            best[1] = best[1].min(processor_seconds() - between);
+        }
+        same &= bits(&out[..rows.len()]) == bits(&rows);
+        let name = format!("forward {side}x{side}");
+        println!("{name:24}{:10.3}{:10.3}   {:.2} times as fast", best[0], best[1], best[1] / best[0]);
+    }
+    same
 }
 
 // --- The sample ---
@@ -887,9 +930,10 @@ fn main() {
     let words: Vec<&str> = words.iter().map(String::as_str).collect();
     let same = match words[..] {
         [] => edges_and_random(),
+        ["--bench"] => bench(),
         ["--sample"] => sample().is_ok(),
         _ => {
-            eprintln!("usage: encoder [--sample]");
+            eprintln!("usage: encoder [--bench | --sample]");
             std::process::exit(2);
         }
     };
