@@ -5,7 +5,7 @@ use Prim.Native.Nat.{ℕ, zero, suc, _+_, _-_, _≤_, _<_}
 use native.Mathlib.Nat.{add-zero, zero-add, add-sub-of-le}
 use native.Mathlib.Omega.{arith}
 use lib.ListN.{length, getD, take, drop, set, length-set, length-drop, drop-of-length-le}
-use lib.Seq.{sets-eq, length-sets, sets, drop-at, take-at, length-take-le, drop-set-lt, drop-set-add, take-set-le, take-take, drop-drop, getD-take, getD-drop, set-comm, set-set}
+use lib.Seq.{sets-eq, length-sets, sets, drop-at, take-at, take-all, take-nil, length-take-le, drop-set-lt, drop-set-add, take-set-le, take-take, drop-drop, getD-take, getD-drop, set-comm, set-set}
 use Rattle.buffers.specs.Region.{Apart, before, after, region, put, over}
 
 pub apart-sym : {x n at m : ℕ} → Apart x n at m → Apart at m x n
@@ -129,3 +129,10 @@ module _ {A : Type 0} where
 
   pub getD-region : (s : List A) (x n i : ℕ) (d : A) → i < n → getD (region s x n) i d ≡ getD s (x + i) d
   getD-region s x n i d h = getD-take n (drop x s) i d h ∙ getD-drop x s i d
+
+  -- past the end there is nothing, and less than asked where the end is near
+  pub region-past : (s : List A) (x n : ℕ) → length s ≤ x → region s x n ≡ []
+  region-past s x n h = rw (drop-of-length-le s {i = x} h) (take-nil n)
+
+  pub region-rest : (s : List A) (x n : ℕ) → length s - x ≤ n → region s x n ≡ drop x s
+  region-rest s x n h = take-all n (drop x s) (rw length-drop h)

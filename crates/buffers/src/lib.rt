@@ -1,7 +1,7 @@
 // Lent buffers. What stands at a place and what is written over it is said in specs/, with its laws
-// in proofs/; here are the two functions that the crates above share.
+// in proofs/; here are the functions that the crates above share.
 ghost use mathlib.Core.Path.{_≡_};
-ghost use Rattle.buffers.specs.Region.{copied, cleared};
+ghost use Rattle.buffers.specs.Region.{region, copied, cleared};
 
 // All of s becomes +0.
 pub fn clear(s: &mut [f32])
@@ -25,4 +25,18 @@ pub fn copy(x: &[f32], out: &mut [f32])
             i += 1;
         }
     }
+}
+
+// The n elements of s from a on, or as many of them as s has.
+pub fn part(s: &[f32], a: usize, n: usize) -> &[f32]
+    ensures { λ r. ⌜ now r ≡ region (now (s .entry)) a n ⌝ }
+{
+    if s.len() <= a {
+        return &s[0..0];
+    }
+    if s.len() - a <= n {
+        return &s[a..];
+    }
+    let e = a + n;
+    &s[a..e]
 }

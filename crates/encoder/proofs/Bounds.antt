@@ -1,7 +1,7 @@
 -- What allowed settings and an allowed grid say of the sizes and their products. Assumes nothing.
-use mathlib.Core.Path.{_≡_, refl}
-use mathlib.Core.Bool.{Bool, true, false, _&&_}
-use Prim.Native.Nat.{ℕ, _+_, _*_, _/_, _%_, _≤_}
+use mathlib.Core.Path.{_≡_}
+use mathlib.Core.Bool.{Bool, true, _&&_}
+use Prim.Native.Nat.{ℕ, _*_, _%_, _≤_}
 use native.Mathlib.Nat.{div-le-self}
 use native.Mathlib.Omega.{arith}
 use borrow.Author.Tests.{leb-true, eqb-true}
@@ -16,7 +16,7 @@ use Rattle.picture.proofs.Sides as Sides
 use Rattle.picture.proofs.Sides.{within-says}
 use Rattle.encoder.specs.declared.EncoderSettings.{EncoderSettings}
 use Rattle.encoder.specs.Weights.{layerFloats}
-use Rattle.encoder.specs.Settings.{ranged, scalingAllowed, allowed, mergeArea, Bounded, Counted}
+use Rattle.encoder.specs.Settings.{ranged, scalingAllowed, allowed, Bounded, Counted}
 
 both : (a b : Bool) → a && b ≡ true → (a ≡ true) × (b ≡ true)
 both a b e = (and-left a b e, and-right a b e)

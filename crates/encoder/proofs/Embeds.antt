@@ -1,20 +1,19 @@
 -- The embedding from its stages, and the whole run from its pieces. Assumes nothing.
-use mathlib.Core.Bool.{Bool, true, _&&_}
-use mathlib.Core.Path.{_≡_, refl, sym, ap, _∙_}
+use mathlib.Core.Bool.{Bool, _&&_}
+use mathlib.Core.Path.{_≡_, ap, _∙_}
 use mathlib.Core.List.{List}
-use Prim.Native.Nat.{ℕ, _+_, _*_, _≤_}
+use Prim.Native.Nat.{ℕ, _*_, _≤_}
 use native.Mathlib.Omega.{arith}
 use lib.ListN.{length}
 use lib.Ieee.{Float}
 use Rattle.buffers.specs.Region.{region}
 use Rattle.encoder.specs.declared.Sizes.{Sizes}
 use Rattle.encoder.specs.Sizes.{dimOf, nOf}
-use Rattle.encoder.specs.Finite.{sound}
-use Rattle.encoder.specs.Element.{rounded}
+use Rattle.kernels.specs.Element.{rounded}
 use Rattle.encoder.specs.Run.{Run, fine, answer, thenRun}
 use Rattle.encoder.specs.Embed.{patchConv, lnPre, inputsFine, embedRun}
 use Rattle.encoder.specs.Live.{Wrote, hAt, Embedded}
-use Rattle.encoder.proofs.Sums.{length-linear, length-norm, length-rounded}
+use Rattle.kernels.proofs.Sums.{length-linear, length-norm, length-rounded}
 use Rattle.encoder.proofs.Lives.{answer-then, got, long}
 
 module _ (z : Sizes) (f : ℕ) (w x s : List Float) (room : 2 * nOf z ≤ length s) where

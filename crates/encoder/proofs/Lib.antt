@@ -1,8 +1,3 @@
-pub mod Sums
-pub mod Steps
-pub mod Finites
-pub mod Turn
-pub mod Attends
 pub mod Lives
 pub mod Turns
 pub mod Merges
@@ -12,4 +7,3 @@ pub mod Embeds
 pub mod Runs
 pub mod Ready
 pub mod Unique
-pub mod Constants

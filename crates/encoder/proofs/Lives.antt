@@ -4,24 +4,26 @@ use mathlib.Core.Path.{_≡_, refl, sym, ap, _∙_}
 use mathlib.Core.List.{List}
 use Prim.Native.Nat.{ℕ, _+_, _*_, _≤_, _<_}
 use native.Mathlib.Omega.{arith}
-use lib.ListN.{length, replicate}
+use lib.ListN.{length}
 use lib.Ieee.{Float}
+use Rattle.buffers.specs.Rows.{tab}
 use Rattle.buffers.specs.Region.{Apart, before, after, region, put, zero32}
 use Rattle.buffers.proofs.Regions.{length-put, region-put, region-put-same}
 use Rattle.encoder.specs.declared.Sizes.{Sizes}
 use Rattle.encoder.specs.Sizes.{hdOf, dimOf, nOf, mOf}
 use Rattle.encoder.specs.Weights.{norm1W, squareW, norm2W, gateW, upW, downW}
-use Rattle.encoder.specs.Each.{blank}
-use Rattle.encoder.specs.Finite.{sound}
-use Rattle.encoder.specs.Element.{added, gated, rounded}
+use Rattle.kernels.specs.Each.{blank}
+use Rattle.kernels.specs.Finite.{sound}
+use Rattle.kernels.specs.Element.{added, gated, rounded}
 use Rattle.encoder.specs.Run.{Run, fine, answer, thenRun}
 use Rattle.encoder.specs.Block.{squareOf, normed1, normed2, turnedAll, mixed, scored, gateOf, upOf, downOf, attnRun, feedRun, blockRun}
 use Rattle.encoder.specs.Live.{Wrote, hAt, qAt, kAt, vAt, gAt, uAt, AttnIn, AttnTurn, AttnMix, FeedIn, FeedOut}
-use Rattle.encoder.specs.Fits.{AttendFits, BlockFits, ScoreRow, SquareAt}
-use Rattle.encoder.proofs.Sums.{length-linear, length-norm, length-added, length-gated, length-rounded}
-use Rattle.encoder.proofs.Steps.{blank-region, blank-rest}
-use Rattle.encoder.proofs.Turn.{length-rotate}
-use Rattle.encoder.proofs.Attends.{length-attention}
+use Rattle.encoder.specs.Fits.{BlockFits, ScoreRow, SquareAt}
+use Rattle.kernels.specs.Fits.{AttendFits}
+use Rattle.kernels.proofs.Sums.{length-linear, length-norm, length-added, length-gated, length-rounded}
+use Rattle.kernels.proofs.Steps.{blank-region}
+use Rattle.kernels.proofs.Turn.{length-rotate}
+use Rattle.kernels.proofs.Attends.{length-attention}
 
 pub answer-then : (a b : Bool) (l m : List Float) (f : List Float → Run) → f l ≡ answer b m → answer (a && b) m ≡ thenRun (answer a l) f
 answer-then true b l m f e = sym e
@@ -134,7 +136,7 @@ module _ (z : Sizes) (w s : List Float) (f : 7 * nOf z + 2 * mOf z ≤ length s)
 
   pub attn-mix : (row : ℕ) → 7 * n + 2 * m ≤ row → row + z .tokens ≤ length s → (s₁ s₂ s₃ : List Float) (ok f₁ f₂ b r : Bool)
       → f₁ ≡ sound (scored z (qAt z s) (kAt z s))
-      → blank zero32 row (z .tokens) s₁ ≡ put (blank zero32 row (z .tokens) s) (5 * n) (mixed z (qAt z s) (kAt z s) (vAt z s))
+      → s₁ ≡ put (blank zero32 row (z .tokens) s) (5 * n) (mixed z (qAt z s) (kAt z s) (vAt z s))
       → length s₁ ≡ length s
       → f₂ ≡ sound (region s₁ (5 * n) n)
       → Wrote s₁ s₂ (6 * n) (squareOf z 3 w (region s₁ (5 * n) n)) ((ok && f₁) && f₂) b
@@ -149,9 +151,9 @@ module _ (z : Sizes) (w s : List Float) (f : 7 * nOf z + 2 * mOf z ≤ length s)
       let k₂ = long w₁ n l₁ in
       let l₂ = length-added n (hAt z s₂) (region s₂ (6 * n) n) in
       let a₁ : region s₁ (5 * n) n ≡ A =
-      sym (blank-region zero32 row t s₁ (5 * n) n (before (omega arith))) ∙ ap (λ u. region u (5 * n) n) e₂
-      ∙ region-put-same (blank zero32 row t s) (5 * n) A n (sym la) (rw (la, length-put s row (replicate t zero32)) (omega arith)) in
-      let h₁ : hAt z s₁ ≡ hAt z s = blank-rest zero32 row t s s₁ (5 * n) A e₂ 0 n (before (omega arith)) (rw la (before (omega arith))) in
+      ap (λ u. region u (5 * n) n) e₂ ∙ region-put-same (blank zero32 row t s) (5 * n) A n (sym la) (rw (la, length-put s row (tab t (λ _. zero32))) (omega arith)) in
+      let h₁ : hAt z s₁ ≡ hAt z s =
+      ap (λ u. region u 0 n) e₂ ∙ region-put (blank zero32 row t s) (5 * n) A 0 n (rw la (before (omega arith))) ∙ blank-region zero32 row t s 0 n (before (omega arith)) in
       let h₂ : hAt z s₂ ≡ hAt z s = left w₁ n l₁ 0 n (before (omega arith)) ∙ h₁ in
       let o₂ : region s₂ (6 * n) n ≡ squareOf z 3 w A = got w₁ n l₁ (omega arith) ∙ ap (squareOf z 3 w) a₁ in
       record {

@@ -1,14 +1,14 @@
 -- Laws of the spatial merge: where a place takes its value from lies inside the tokens; place by place it is the
 -- nested definition. Assumes nothing.
-use mathlib.Core.Path.{_≡_, sym, ap, _∙_}
+use mathlib.Core.Path.{_≡_, ap, _∙_}
 use mathlib.Core.List.{List}
 use Prim.Native.Nat.{ℕ, _+_, _*_, _/_, _%_, _<_}
-use native.Mathlib.Nat.{div-lt-iff-lt-mul, mod-lt, mul-add-div-right, div-eq-of-lt, add-zero, add-comm, add-mul-mod-self-right, mod-eq-of-lt, mul-pos}
+use native.Mathlib.Nat.{div-lt-iff-lt-mul, mod-lt, mul-add-div-right, div-eq-of-lt, add-zero, add-comm, add-mul-mod-self-right, mod-eq-of-lt}
 use native.Mathlib.Omega.{arith}
 use lib.ListN.{length, getD, set}
 use lib.Ieee.{Float, nan}
 use Rattle.buffers.specs.Rows.{tab, rows}
-use Rattle.buffers.specs.Region.{Apart, region, put}
+use Rattle.buffers.specs.Region.{region, put}
 use Rattle.buffers.proofs.Regions.{getD-put, getD-region, apart-sub}
 use Rattle.buffers.proofs.Lists.{fit, length-tab, put-tab, tab-ext, rows-ext, tab-mul, rows-mul}
 use Rattle.encoder.specs.Merge.{placeOf, mergedToken, mergeOf, sourceOf, mergedFirst}

@@ -11,14 +11,14 @@ use Rattle.buffers.specs.Rows.{tab, rows}
 use Rattle.buffers.specs.Region.{region, put}
 use Rattle.buffers.proofs.Regions.{length-put, region-put-same}
 use Rattle.buffers.proofs.Lists.{length-tab, length-rows}
-use Rattle.encoder.specs.Finite.{sound}
-use Rattle.encoder.specs.Element.{gelued}
+use Rattle.kernels.specs.Finite.{sound}
+use Rattle.kernels.specs.Element.{gelued}
 use Rattle.encoder.specs.Merge.{placeOf, mergedToken, mergeOf}
 use Rattle.encoder.specs.Run.{fine, answer}
 use Rattle.encoder.specs.Project.{projNorm, mergingLayer, linear1, linear2, projectRun}
 use Rattle.encoder.specs.Live.{Wrote}
 use Rattle.encoder.specs.Fits.{ProjFits}
-use Rattle.encoder.proofs.Sums.{length-linear, length-norm, length-gelued}
+use Rattle.kernels.proofs.Sums.{length-linear, length-norm, length-gelued}
 use Rattle.encoder.proofs.Lives.{got, long}
 
 -- the merged rows of o output tokens

@@ -16,18 +16,16 @@ use Rattle.picture.specs.declared.Shape.{Shape}
 use Rattle.picture.specs.declared.Shape.the-variants.{Shaped, Unshaped}
 use Rattle.picture.specs.Patches.{patchFloats}
 use Rattle.picture.specs.Shape.{most, shaped}
-use Rattle.picture.proofs.Places.{times}
 use Rattle.picture.proofs.Shapes as Shapes
 use Rattle.picture.proofs.Shapes.{shaped-says}
 use Rattle.encoder.specs.declared.EncoderSettings.{EncoderSettings}
 use Rattle.encoder.specs.declared.Sizes.{Sizes}
 use Rattle.encoder.specs.declared.Checked.{Checked}
-use Rattle.encoder.specs.declared.Checked.the-variants.{Accepted, Refused}
-use Rattle.encoder.specs.Sizes.{hdOf, dimOf, nOf, mOf}
-use Rattle.encoder.specs.Weights.{layerFloats, layerOf, projectorFloats}
+use Rattle.encoder.specs.declared.Checked.the-variants.{Accepted}
+use Rattle.encoder.specs.Sizes.{hdOf, dimOf}
 use Rattle.encoder.specs.Settings.{mergeArea, allowed, weightFloats, tableFloats, scratchFloats, unless, onward, lengths, checkedOf, Bounded, Counted}
 use Rattle.encoder.specs.Forward.{sizesOf, placesOf, runOf, forwardRun}
-use Rattle.encoder.specs.Fits.{PlacesFit, EmbedFits, TurnFits, ScoreRow, LayersFits, SourceFits, MergeFits, ProjFits, RunFits}
+use Rattle.encoder.specs.Fits.{PlacesFit, EmbedFits, TurnFits, LayersFits, SourceFits, MergeFits, ProjFits, RunFits}
 use Rattle.encoder.proofs.Bounds.{Allowed, allowed-says, bounded, counted}
 
 passed : (b : Bool) (r : Refusal) (a : Checked) (t o : ℕ) → unless b r a ≡ Accepted t o → (b ≡ true) × (a ≡ Accepted t o)
@@ -210,7 +208,7 @@ module _ (s : EncoderSettings) (gh gw lenx lenw lenc lenn out lens t o : ℕ) (r
         small = rw dim-is (r .bounds .hidden-high);
         narrow = rw head-is (r .settings .ranges .width .1);
         dimIn = rw dim-is (omega (arith, l .scratch-holds, hiddens));
-        tables = r .bounds .positions;
+        tables = r .bounds .most-high;
         some = r .grid .wide .low;
         wide = side-holds gw (r .grid .wide .high);
         high = omega (arith, r .tokens-are, mul-le-mul-right gw (side-holds gh (r .grid .tall .high)));

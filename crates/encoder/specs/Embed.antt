@@ -6,10 +6,10 @@ use lib.Ieee.{Float}
 use Rattle.buffers.specs.Region.{region}
 use Rattle.encoder.specs.declared.Sizes.{Sizes}
 use Rattle.encoder.specs.Sizes.{dimOf, nOf}
-use Rattle.encoder.specs.Linear.{linearOf}
-use Rattle.encoder.specs.Finite.{sound}
-use Rattle.encoder.specs.Element.{rounded}
-use Rattle.encoder.specs.Norm.{normOf}
+use Rattle.kernels.specs.Linear.{linearOf}
+use Rattle.kernels.specs.Finite.{sound}
+use Rattle.kernels.specs.Element.{rounded}
+use Rattle.kernels.specs.Norm.{normOf}
 use Rattle.encoder.specs.Run.{Run, checked}
 
 unfoldable pub patchConv : Sizes → ℕ → List Float → List Float → List Float

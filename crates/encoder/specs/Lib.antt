@@ -1,10 +1,3 @@
-pub mod Each
-pub mod Linear
-pub mod Finite
-pub mod Element
-pub mod Norm
-pub mod Rotate
-pub mod Attention
 pub mod Sizes
 pub mod Weights
 pub mod Run

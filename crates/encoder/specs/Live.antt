@@ -7,8 +7,8 @@ use lib.Ieee.{Float}
 use Rattle.buffers.specs.Region.{region, put}
 use Rattle.encoder.specs.declared.Sizes.{Sizes}
 use Rattle.encoder.specs.Sizes.{nOf, mOf}
-use Rattle.encoder.specs.Finite.{sound}
-use Rattle.encoder.specs.Element.{added, gated, rounded}
+use Rattle.kernels.specs.Finite.{sound}
+use Rattle.kernels.specs.Element.{added, gated, rounded}
 use Rattle.encoder.specs.Run.{fine}
 use Rattle.encoder.specs.Embed.{patchConv, lnPre}
 use Rattle.encoder.specs.Block.{squareOf, normed1, normed2, turnedAll, mixed, scored, gateOf, upOf, downOf}

@@ -4,9 +4,9 @@ use mathlib.Core.List.{List, [], _∷_}
 use Prim.Native.Nat.{ℕ, _+_, _*_}
 use lib.Ieee.{Float}
 use Rattle.buffers.specs.Region.{region}
-use Rattle.encoder.specs.Linear.{linearOf}
-use Rattle.encoder.specs.Norm.{normOf}
-use Rattle.encoder.specs.Element.{gelued}
+use Rattle.kernels.specs.Linear.{linearOf}
+use Rattle.kernels.specs.Norm.{normOf}
+use Rattle.kernels.specs.Element.{gelued}
 use Rattle.encoder.specs.Merge.{mergeOf}
 use Rattle.encoder.specs.Run.{Run, checked}
 

@@ -2,7 +2,7 @@
 use mathlib.Core.Bool.{Bool, true, false, _&&_}
 use mathlib.Core.List.{List, [], _∷_}
 use lib.Ieee.{Float}
-use Rattle.encoder.specs.Finite.{sound}
+use Rattle.kernels.specs.Finite.{sound}
 
 pub data Run : Type 0 where
   stopped : Run

@@ -9,9 +9,6 @@ ghost use Rattle.encoder.specs.Block.{blockRun, normed1, normed2, square
 ghost use Rattle.encoder.specs.Live.{Wrote, hAt, AttnIn, AttnTurn, AttnMix, FeedIn, FeedOut};
 ghost use Rattle.encoder.specs.Fits.{BlockFits, TurnFits, ScoreRow, SquareAt};
 use crate::Sizes;
-use crate::attention::attend;
-use crate::finite::finite;
-use crate::finite::part;
 use crate::stage::add_fine;
 use crate::stage::gate_fine;
 use crate::stage::linear_fine;
@@ -19,6 +16,9 @@ use crate::stage::matrix;
 use crate::stage::norm_fine;
 use crate::stage::rotate_fine;
 use crate::stage::round_fine;
+use buffers::part;
+use kernels::attention::attend;
+use kernels::finite::finite;
 
 // The norm before the attention, of h.
 pub(crate) fn norm1(s: &mut [f32], z: Sizes, w: &[f32], ok: bool) -> bool

@@ -5,9 +5,8 @@ ghost use lib.ListN.{length};
 ghost use Rattle.buffers.specs.Region.{region, cleared};
 ghost use Rattle.encoder.specs.declared.Checked.the-variants as C;
 ghost use Rattle.encoder.specs.Run.{answer};
-ghost use Rattle.encoder.specs.Live.{hAt, Embedded};
+ghost use Rattle.encoder.specs.Live.{Embedded};
 ghost use Rattle.encoder.specs.Embed.{inputsFine};
-ghost use Rattle.encoder.specs.Settings.{checkedOf};
 ghost use Rattle.encoder.specs.Forward.{sizesOf, placesOf, runOf, answered, outLeft, encodedOf, outOf, scratchOf};
 ghost use Rattle.encoder.specs.Fits.{EmbedFits, PlacesFit, RunFits};
 use crate::Checked;
@@ -15,8 +14,6 @@ use crate::Encoded;
 use crate::EncoderSettings;
 use crate::Places;
 use crate::Sizes;
-use crate::finite::finite;
-use crate::finite::part;
 use crate::layers::layers;
 use crate::projector::projector_forward;
 use crate::settings::checked;
@@ -25,6 +22,8 @@ use crate::stage::norm_fine;
 use crate::stage::round_fine;
 use buffers::clear;
 use buffers::copy;
+use buffers::part;
+use kernels::finite::finite;
 use picture::Refusal;
 
 pub(crate) fn sizes_of(s: EncoderSettings, t: usize, gw: usize) -> Sizes

@@ -7,7 +7,7 @@ ghost use Rattle.encoder.specs.Live.{hAt};
 ghost use Rattle.encoder.specs.Fits.{LayersFits};
 use crate::Sizes;
 use crate::block::pixtral_block_forward;
-use crate::finite::part;
+use buffers::part;
 
 // The layers, whose weights start at place at of w.
 pub(crate) fn layers(

@@ -1,14 +1,8 @@
 // The Pixtral encoder: from patches to token vectors.
-mod attention;
 mod block;
-mod element;
-mod finite;
 pub mod forward;
 mod layers;
-mod linear;
-mod norm;
 mod projector;
-mod rotate;
 mod settings;
 mod stage;
 

@@ -7,10 +7,10 @@ ghost use Rattle.encoder.specs.Run.{answer};
 ghost use Rattle.encoder.specs.Merge.{sourceOf, mergeOf};
 ghost use Rattle.encoder.specs.Project.{projectRun};
 ghost use Rattle.encoder.specs.Fits.{SourceFits, MergeFits, ProjFits};
-use crate::finite::part;
 use crate::stage::gelu_fine;
 use crate::stage::matrix;
 use crate::stage::norm_fine;
+use buffers::part;
 
 // Where place p of the merged rows takes its value from.
 pub(crate) fn source(p: usize, merge: usize, gh: usize, gw: usize, dim: usize) -> usize

@@ -1,26 +1,26 @@
 // The stages that are examined: each writes its result in the scratch and says whether all is finite up to here.
-ghost use mathlib.Core.Path.{_≡_};
 ghost use Prim.Native.Nat.{_+_, _*_, _≤_};
 ghost use lib.ListN.{length};
 ghost use Rattle.buffers.specs.Region.{region};
 ghost use Rattle.encoder.specs.Sizes.{nOf};
-ghost use Rattle.encoder.specs.Linear.{linearOf};
-ghost use Rattle.encoder.specs.Element.{added, gated, gelued, rounded};
-ghost use Rattle.encoder.specs.Norm.{normOf};
+ghost use Rattle.kernels.specs.Linear.{linearOf};
+ghost use Rattle.kernels.specs.Element.{added, gated, gelued, rounded};
+ghost use Rattle.kernels.specs.Norm.{normOf};
 ghost use Rattle.encoder.specs.Block.{turnedAll};
 ghost use Rattle.encoder.specs.Live.{Wrote};
-ghost use Rattle.encoder.specs.Fits.{LinearFits, NormFits, PairFits, TurnAt, MatrixAt, FromFits};
+ghost use Rattle.encoder.specs.Fits.{TurnAt, MatrixAt};
+ghost use Rattle.kernels.specs.Fits.{LinearFits, NormFits, PairFits, FromFits};
 use crate::Sizes;
-use crate::element::add_into;
-use crate::element::gate;
-use crate::element::gelu_inplace;
-use crate::element::truncate_to_bf16_inplace;
-use crate::finite::finite;
-use crate::finite::part;
-use crate::linear::linear_from;
-use crate::linear::linear_no_bias_forward;
-use crate::norm::rms_norm;
-use crate::rotate::rotate;
+use buffers::part;
+use kernels::element::add_into;
+use kernels::element::gate;
+use kernels::element::gelu_inplace;
+use kernels::element::truncate_to_bf16_inplace;
+use kernels::finite::finite;
+use kernels::linear::linear_from;
+use kernels::linear::linear_no_bias_forward;
+use kernels::norm::rms_norm;
+use kernels::rotate::rotate;
 
 // A linear layer of the scratch, and whether all is finite up to here.
 pub(crate) fn linear_fine(

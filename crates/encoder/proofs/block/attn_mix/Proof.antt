@@ -6,7 +6,8 @@ use borrow.Author.Needs.{needs}
 use Rattle.buffers.specs.Region.{before, after}
 use Rattle.encoder.specs.Block.{mixed, scored}
 use Rattle.encoder.specs.Sizes.{nOf}
-use Rattle.encoder.specs.Finite.{sound}
+use Rattle.kernels.specs.Finite.{sound}
+use Rattle.kernels.proofs.Rooms.{attend-fits}
 use Rattle.encoder.proofs.Lives.{attn-mix, square-at, attend-at}
 use Rattle.encoder.proofs.block.attn_mix.Statement.{statement}
 use Rattle.encoder.proofs.block.attn_mix.Tie as tie
@@ -36,7 +37,7 @@ add-attend : tie.Need-add-attend
 add-attend c = search needs
 
 attend-requires : tie.Need-attend-requires
-attend-requires c κs = attend-at (c .before .before .before .args .z) (c .before .before .before .pre .0) (c .before .before .before .pre .1)
+attend-requires c κs = search needs
 
 mul-part : tie.Need-mul-part
 mul-part c = search needs
@@ -74,8 +75,9 @@ returns : tie.Need-returns
 unfolding scored mixed
 returns c =
     let a = c .before .before .before .before .before .before .before .before .before .before .before .before .before .before .before .before .before .args in
+    let fits = attend-fits (attend-at (a .z) (c .before .before .before .before .before .before .before .before .before .before .before .before .before .before .before .before .before .pre .0) (c .before .before .before .before .before .before .before .before .before .before .before .before .before .before .before .before .before .pre .1)) in
     attn-mix (a .z) (a .w .now) (a .s .now) (c .before .before .before .before .before .before .before .before .before .before .before .before .before .before .before .before .before .pre .0 .scratch) (a .row) (c .before .before .before .before .before .before .before .before .before .before .before .before .before .before .before .before .before .pre .1 .behind) (c .before .before .before .before .before .before .before .before .before .before .before .before .before .before .before .before .before .pre .1 .inside) (c .before .before .before .before .before .before .before .before .before .before .before .before .before .attend .last .0) (c .before .before .before .before .before .before .square .last .0) (c .before .before .add-fine .last .0) (a .ok) (c .before .before .before .before .before .before .before .before .before .before .before .before .before .attend .result) (c .before .before .before .before .before .before .before .before .finite .result) (c .before .before .before .before .before .before .square .result) (c .before .before .add-fine .result)
-    (c .before .before .before .before .before .before .before .before .before .before .before .before .before .attend .ensures .0) (c .before .before .before .before .before .before .before .before .before .before .before .before .before .attend .ensures .1) (c .before .before .before .before .before .before .before .before .before .before .before .before .before .attend .kept .0) (c .before .before .before .before .before .before .before .before .finite .ensures ∙ ap sound (c .before .before .before .before .before .before .before .before .before .part .ensures)) (c .before .before .before .before .before .before .square .ensures) (c .before .before .add-fine .ensures)
+    (rw fits at (c .before .before .before .before .before .before .before .before .before .before .before .before .before .attend .ensures .0)) (rw fits at (c .before .before .before .before .before .before .before .before .before .before .before .before .before .attend .ensures .1)) (c .before .before .before .before .before .before .before .before .before .before .before .before .before .attend .kept .0) (c .before .before .before .before .before .before .before .before .finite .ensures ∙ ap sound (c .before .before .before .before .before .before .before .before .before .part .ensures)) (c .before .before .before .before .before .before .square .ensures) (c .before .before .add-fine .ensures)
 
 pub attn-mix-spec : {M : Type 1} → statement M
 attn-mix-spec =

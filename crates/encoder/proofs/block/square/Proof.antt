@@ -27,7 +27,7 @@ add-part : tie.Need-add-part
 add-part c = omega (arith, fit (dimOf (c .before .before .before .before .args .z) * dimOf (c .before .before .before .before .args .z)) (c .before .before .before .before .pre .which), c .before .before .before .before .pre .fits)
 
 part-requires : tie.Need-part-requires
-part-requires c κs = omega (arith, fit (dimOf (c .before .before .before .before .args .z) * dimOf (c .before .before .before .before .args .z)) (c .before .before .before .before .pre .which), c .before .before .before .before .pre .fits)
+part-requires c κs = search needs
 
 linear-fine-requires : tie.Need-linear-fine-requires
 linear-fine-requires c κs =

@@ -32,13 +32,13 @@ from-fine-requires c κs =
     let a = c .before .before .before .before .before .before .args in
     let g = c .before .before .before .before .before .before .pre in
     let e : length (c .part .result .now) ≡ dimOf (a .z) * a .f = ap length (c .part .ensures) ∙ length-region (a .w .now) 0 (dimOf (a .z) * a .f) (omega (arith, g .weights)) in
-    record { xin = g .xin; yin = omega (arith, g .room); win = omega (arith, e) }
+    record { xin = omega (arith, g .xin); yin = omega (arith, g .room); win = omega (arith, e) }
 
 round-fine-requires : tie.Need-round-fine-requires
 round-fine-requires c κs = omega (arith, c .before .before .before .before .before .before .before .before .before .before .pre .room, c .before .before .before .from-fine .kept .1 .0)
 
 part-requires-2 : tie.Need-part-requires-2
-part-requires-2 c κs = omega (arith, c .before .before .before .before .before .before .before .before .before .before .before .before .before .before .pre .weights)
+part-requires-2 c κs = search needs
 
 norm-fine-requires : tie.Need-norm-fine-requires
 norm-fine-requires c κs =

@@ -32,7 +32,7 @@ layers-requires : tie.Need-layers-requires
 layers-requires c κs = rw (c .before .before .before .embed .kept .1 .0, c .before .before .before .before .before .before .before .places .ensures, c .before .before .before .before .before .before .before .before .sizes-of .ensures) (c .before .before .before .before .before .before .before .before .before .before .before .before .before .before .before .pre .1 .layers)
 
 part-requires : tie.Need-part-requires
-part-requires c κs = rw (c .before .before .before .before .before .before .before .before .before .before .places .ensures, c .before .before .before .before .before .before .before .before .before .before .before .sizes-of .ensures) (c .before .before .before .before .before .before .before .before .before .before .before .before .before .before .before .before .before .before .pre .1 .part)
+part-requires c κs = search needs
 
 projector-forward-requires : tie.Need-projector-forward-requires
 projector-forward-requires c κs =

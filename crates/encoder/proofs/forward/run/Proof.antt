@@ -37,11 +37,7 @@ encode-requires : tie.Need-encode-requires
 encode-requires c κs = (c .before .before .before .before .before .before .before .before .before .pre .0, c .before .before .before .before .before .before .before .before .before .pre .1 .0)
 
 part-requires : tie.Need-part-requires
-part-requires c κs =
-    let a = c .before .before .before .before .before .before .before .before .before .before .before .before .before .before .args in
-    let g = c .before .before .before .before .before .before .before .before .before .before .before .before .before .before .pre .1 .0 in
-    let h = ap (λ (d : ℕ). 7 * (a .t * d) + 2 * (a .t * a .s .«intermediate_size») + a .o * a .s .«text_hidden_size») (sym (g .dim-is)) in
-    omega (arith, h, g .projects .room, c .before .before .before .before .encode .kept .1 .1 .1 .1 .1 .1 .1 .1 .1 .0)
+part-requires c κs = search needs
 
 copy-requires : tie.Need-copy-requires
 copy-requires c κs = search needs

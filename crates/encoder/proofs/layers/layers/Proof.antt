@@ -63,7 +63,7 @@ unfolding layersRun
 loop-holds c = (omega arith, omega arith, refl, refl)
 
 part-requires : tie.Need-part-requires Inv-loop μ-loop
-part-requires c κs = omega (arith, fit (layerOf (c .before .before .before .before .before .before .before .before .args .z)) (c .before .loop-test .taken), c .before .before .before .before .before .before .before .before .pre .weights)
+part-requires c κs = search needs
 
 pixtral-block-forward-requires : tie.Need-pixtral-block-forward-requires Inv-loop μ-loop
 pixtral-block-forward-requires c κs =

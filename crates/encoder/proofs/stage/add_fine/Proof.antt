@@ -1,8 +1,9 @@
 -- `encoder::stage::add_fine` meets its contract. Assumes nothing.
 use borrow.Author.Needs.{needs}
 use Rattle.buffers.specs.Region.{region}
-use Rattle.encoder.specs.Element.{added}
-use Rattle.encoder.proofs.Sums.{length-added}
+use Rattle.kernels.specs.Element.{added}
+use Rattle.kernels.proofs.Sums.{length-added}
+use Rattle.kernels.proofs.Rooms.{pair-fits}
 use Rattle.encoder.proofs.Lives.{wrote}
 use Rattle.encoder.proofs.stage.add_fine.Statement.{statement}
 use Rattle.encoder.proofs.stage.add_fine.Tie as tie
@@ -23,7 +24,7 @@ returns : tie.Need-returns
 returns c =
     let a = c .before .before .before .before .before .before .before .before .args in
     wrote (a .s .now) (c .before .before .before .before .before .add-into .last .0) (a .y) (a .n) (added (a .n) (region (a .s .now) (a .y) (a .n)) (region (a .s .now) (a .z) (a .n))) (c .before .part .result .now) (a .ok) (c .finite .result)
-    (c .before .before .before .before .before .add-into .ensures) (length-added (a .n) (region (a .s .now) (a .y) (a .n)) (region (a .s .now) (a .z) (a .n))) (c .before .before .before .before .before .before .before .before .pre .yin) (c .before .part .ensures) (c .finite .ensures)
+    (rw (pair-fits (c .before .before .before .before .before .before .before .before .pre)) at (c .before .before .before .before .before .add-into .ensures)) (length-added (a .n) (region (a .s .now) (a .y) (a .n)) (region (a .s .now) (a .z) (a .n))) (c .before .before .before .before .before .before .before .before .pre .yin) (c .before .part .ensures) (c .finite .ensures)
 
 pub add-fine-spec : {M : Type 1} → statement M
 add-fine-spec =

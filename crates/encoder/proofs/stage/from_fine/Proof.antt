@@ -1,9 +1,9 @@
 -- `encoder::stage::from_fine` meets its contract. Assumes nothing.
 use Prim.Native.Nat.{_*_}
-use native.Mathlib.Omega.{arith}
 use borrow.Author.Needs.{needs}
-use Rattle.encoder.specs.Linear.{linearOf}
-use Rattle.encoder.proofs.Sums.{length-linear}
+use Rattle.kernels.specs.Linear.{linearOf}
+use Rattle.kernels.proofs.Sums.{length-linear}
+use Rattle.kernels.proofs.Rooms.{from-fits}
 use Rattle.encoder.proofs.Lives.{wrote}
 use Rattle.encoder.proofs.stage.from_fine.Statement.{statement}
 use Rattle.encoder.proofs.stage.from_fine.Tie as tie
@@ -15,7 +15,7 @@ mul-e : tie.Need-mul-e
 mul-e c = search needs
 
 part-requires : tie.Need-part-requires
-part-requires c κs = omega (arith, c .before .before .before .before .before .before .before .before .pre .yin, c .before .before .before .linear-from .kept .1 .0)
+part-requires c κs = search needs
 
 finite-requires : tie.Need-finite-requires
 finite-requires c κs = search needs
@@ -27,7 +27,7 @@ returns : tie.Need-returns
 returns c =
     let a = c .before .before .before .before .before .before .before .before .before .before .args in
     wrote (a .s .now) (c .before .before .before .before .before .linear-from .last .1 .0) (a .y) (a .n * a .nout) (linearOf (a .n) (a .nin) (a .nout) (a .w .now) (a .x .now)) (c .before .part .result .now) (a .ok) (c .finite .result)
-    (c .before .before .before .before .before .linear-from .ensures) (length-linear (a .n) (a .nin) (a .nout) (a .w .now) (a .x .now)) (c .before .before .before .before .before .before .before .before .before .before .pre .yin) (c .before .part .ensures) (c .finite .ensures)
+    (rw (from-fits (c .before .before .before .before .before .before .before .before .before .before .pre)) at (c .before .before .before .before .before .linear-from .ensures)) (length-linear (a .n) (a .nin) (a .nout) (a .w .now) (a .x .now)) (c .before .before .before .before .before .before .before .before .before .before .pre .yin) (c .before .part .ensures) (c .finite .ensures)
 
 pub from-fine-spec : {M : Type 1} → statement M
 from-fine-spec =

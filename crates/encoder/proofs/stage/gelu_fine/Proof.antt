@@ -1,8 +1,11 @@
 -- `encoder::stage::gelu_fine` meets its contract. Assumes nothing.
+use Prim.Native.Nat.{_+_}
 use borrow.Author.Needs.{needs}
+use borrow.Author.Tests.{le-leb}
+use lib.ListN.{length}
 use Rattle.buffers.specs.Region.{region}
-use Rattle.encoder.specs.Element.{gelued}
-use Rattle.encoder.proofs.Sums.{length-gelued}
+use Rattle.kernels.specs.Element.{gelued}
+use Rattle.kernels.proofs.Sums.{length-gelued}
 use Rattle.encoder.proofs.Lives.{wrote}
 use Rattle.encoder.proofs.stage.gelu_fine.Statement.{statement}
 use Rattle.encoder.proofs.stage.gelu_fine.Tie as tie
@@ -23,7 +26,7 @@ returns : tie.Need-returns
 returns c =
     let a = c .before .before .before .before .before .before .before .before .args in
     wrote (a .s .now) (c .before .before .before .before .before .gelu-inplace .last .0) (a .y) (a .n) (gelued (a .n) (region (a .s .now) (a .y) (a .n))) (c .before .part .result .now) (a .ok) (c .finite .result)
-    (c .before .before .before .before .before .gelu-inplace .ensures) (length-gelued (a .n) (region (a .s .now) (a .y) (a .n))) (c .before .before .before .before .before .before .before .before .pre) (c .before .part .ensures) (c .finite .ensures)
+    (rw (le-leb (a .y + a .n) (length (a .s .now)) (c .before .before .before .before .before .before .before .before .pre)) at (c .before .before .before .before .before .gelu-inplace .ensures)) (length-gelued (a .n) (region (a .s .now) (a .y) (a .n))) (c .before .before .before .before .before .before .before .before .pre) (c .before .part .ensures) (c .finite .ensures)
 
 pub gelu-fine-spec : {M : Type 1} → statement M
 gelu-fine-spec =

@@ -2,9 +2,10 @@
 use Prim.Native.Nat.{_*_}
 use borrow.Author.Needs.{needs}
 use Rattle.buffers.specs.Region.{region}
-use Rattle.encoder.specs.Linear.{linearOf}
+use Rattle.kernels.specs.Linear.{linearOf}
 use Rattle.encoder.proofs.Lives.{wrote}
-use Rattle.encoder.proofs.Sums.{length-linear}
+use Rattle.kernels.proofs.Sums.{length-linear}
+use Rattle.kernels.proofs.Rooms.{linear-fits}
 use Rattle.encoder.proofs.stage.linear_fine.Statement.{statement}
 use Rattle.encoder.proofs.stage.linear_fine.Tie as tie
 
@@ -27,7 +28,7 @@ returns : tie.Need-returns
 returns c =
     let a = c .before .before .before .before .before .before .before .before .before .args in
     wrote (a .s .now) (c .before .before .before .before .before .linear-no-bias-forward .last .0) (a .y) (a .n * a .nout) (linearOf (a .n) (a .nin) (a .nout) (a .w .now) (region (a .s .now) (a .x) (a .n * a .nin))) (c .before .part .result .now) (a .ok) (c .finite .result)
-    (c .before .before .before .before .before .linear-no-bias-forward .ensures) (length-linear (a .n) (a .nin) (a .nout) (a .w .now) (region (a .s .now) (a .x) (a .n * a .nin))) (c .before .before .before .before .before .before .before .before .before .pre .yin) (c .before .part .ensures) (c .finite .ensures)
+    (rw (linear-fits (c .before .before .before .before .before .before .before .before .before .pre)) at (c .before .before .before .before .before .linear-no-bias-forward .ensures)) (length-linear (a .n) (a .nin) (a .nout) (a .w .now) (region (a .s .now) (a .x) (a .n * a .nin))) (c .before .before .before .before .before .before .before .before .before .pre .yin) (c .before .part .ensures) (c .finite .ensures)
 
 pub linear-fine-spec : {M : Type 1} → statement M
 linear-fine-spec =

@@ -2,9 +2,10 @@
 use Prim.Native.Nat.{_*_}
 use borrow.Author.Needs.{needs}
 use Rattle.buffers.specs.Region.{region}
-use Rattle.encoder.specs.Norm.{normOf}
+use Rattle.kernels.specs.Norm.{normOf}
 use Rattle.encoder.proofs.Lives.{wrote}
-use Rattle.encoder.proofs.Sums.{length-norm}
+use Rattle.kernels.proofs.Sums.{length-norm}
+use Rattle.kernels.proofs.Rooms.{norm-fits}
 use Rattle.encoder.proofs.stage.norm_fine.Statement.{statement}
 use Rattle.encoder.proofs.stage.norm_fine.Tie as tie
 
@@ -28,7 +29,7 @@ returns c =
     let a = c .before .before .before .before .before .before .before .before .before .args in
     let x = region (a .s .now) (a .x) (a .n * a .dim) in
     wrote (a .s .now) (c .before .before .before .before .before .rms-norm .last .0) (a .y) (a .n * a .dim) (normOf (a .n) (a .dim) (a .w .now) x) (c .before .part .result .now) (a .ok) (c .finite .result)
-    (c .before .before .before .before .before .rms-norm .ensures) (length-norm (a .n) (a .dim) (a .w .now) x) (c .before .before .before .before .before .before .before .before .before .pre .yin) (c .before .part .ensures) (c .finite .ensures)
+    (rw (norm-fits (c .before .before .before .before .before .before .before .before .before .pre)) at (c .before .before .before .before .before .rms-norm .ensures)) (length-norm (a .n) (a .dim) (a .w .now) x) (c .before .before .before .before .before .before .before .before .before .pre .yin) (c .before .part .ensures) (c .finite .ensures)
 
 pub norm-fine-spec : {M : Type 1} → statement M
 norm-fine-spec =

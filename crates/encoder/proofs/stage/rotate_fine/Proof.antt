@@ -1,15 +1,19 @@
 -- `encoder::stage::rotate_fine` meets its contract. Assumes nothing.
+use Prim.Native.Nat.{ℕ}
 use borrow.Author.Needs.{needs}
 use Rattle.buffers.specs.Region.{region}
+use Rattle.kernels.specs.Fits.{RotateFits}
+use Rattle.kernels.proofs.Rooms.{rotate-fits}
+use Rattle.encoder.specs.declared.Sizes.{Sizes}
 use Rattle.encoder.specs.Sizes.{nOf}
+use Rattle.encoder.specs.Fits.{TurnAt}
 use Rattle.encoder.specs.Block.{turnedAll}
 use Rattle.encoder.proofs.Lives.{wrote, length-turned-all}
 use Rattle.encoder.proofs.stage.rotate_fine.Statement.{statement}
 use Rattle.encoder.proofs.stage.rotate_fine.Tie as tie
 
-rotate-requires : tie.Need-rotate-requires
-rotate-requires c κs =
-    let g = c .before .before .before .before .pre in
+rotates : (z : Sizes) {lens lenc lenn x : ℕ} → TurnAt z lens lenc lenn x → RotateFits lens lenc lenn x (z .tokens) (z .heads) (z .half) (z .«grid_w») (z .side)
+rotates z g =
     let f = g .fits in
     record {
       narrow = f .narrow;
@@ -22,6 +26,9 @@ rotate-requires c κs =
       cin = f .cosines;
       sin′ = f .sines;
     }
+
+rotate-requires : tie.Need-rotate-requires
+rotate-requires c κs = search needs
 
 add-n : tie.Need-add-n
 add-n c = search needs
@@ -47,7 +54,7 @@ returns c =
     let a = c .before .before .before .before .before .before .before .before .before .before .args in
     let x = region (a .s .now) (a .x) (nOf (a .z)) in
     wrote (a .s .now) (c .before .before .before .before .before .rotate .last .0) (a .x) (nOf (a .z)) (turnedAll (a .z) (a .cos .now) (a .sin .now) x) (c .before .part .result .now) (a .ok) (c .finite .result)
-    (c .before .before .before .before .before .rotate .ensures) (length-turned-all (a .z) (a .cos .now) (a .sin .now) x) (c .before .before .before .before .before .before .before .before .before .before .pre .xIn) (c .before .part .ensures) (c .finite .ensures)
+    (rw (rotate-fits (rotates (a .z) (c .before .before .before .before .before .before .before .before .before .before .pre))) at (c .before .before .before .before .before .rotate .ensures)) (length-turned-all (a .z) (a .cos .now) (a .sin .now) x) (c .before .before .before .before .before .before .before .before .before .before .pre .xIn) (c .before .part .ensures) (c .finite .ensures)
 
 pub rotate-fine-spec : {M : Type 1} → statement M
 rotate-fine-spec =

@@ -1,0 +1,7 @@
+pub mod Sums
+pub mod Steps
+pub mod Finites
+pub mod Turn
+pub mod Attends
+pub mod Rooms
+pub mod Constants

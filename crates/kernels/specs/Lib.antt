@@ -1,0 +1,9 @@
+pub mod Each
+pub mod Linear
+pub mod Finite
+pub mod Element
+pub mod Norm
+pub mod Rotate
+pub mod Attention
+pub mod Room
+pub mod Fits

@@ -1,0 +1,8 @@
+// What a layer is made of: each kernel reads and writes floats where it is told, and nothing where they do not fit.
+pub mod attention;
+pub mod element;
+pub mod finite;
+pub mod linear;
+pub mod norm;
+mod room;
+pub mod rotate;
