@@ -24,8 +24,9 @@ use Rattle.encoder.specs.declared.Checked.{Checked}
 use Rattle.encoder.specs.declared.Checked.the-variants.{Accepted}
 use Rattle.encoder.specs.Sizes.{hdOf, dimOf}
 use Rattle.encoder.specs.Settings.{mergeArea, allowed, weightFloats, tableFloats, scratchFloats, unless, onward, lengths, checkedOf, Bounded, Counted}
+use Rattle.encoder.specs.Live.{regionsOf}
 use Rattle.encoder.specs.Forward.{sizesOf, placesOf, runOf, forwardRun}
-use Rattle.encoder.specs.Fits.{PlacesFit, EmbedFits, TurnFits, LayersFits, SourceFits, MergeFits, ProjFits, RunFits}
+use Rattle.encoder.specs.Fits.{PlacesFit, RegionsFit, EmbedFits, TurnFits, LayersFits, SourceFits, MergeFits, ProjFits, RunFits}
 use Rattle.encoder.proofs.Bounds.{Allowed, allowed-says, bounded, counted}
 
 passed : (b : Bool) (r : Refusal) (a : Checked) (t o : ℕ) → unless b r a ≡ Accepted t o → (b ≡ true) × (a ≡ Accepted t o)
@@ -165,7 +166,7 @@ module _ (s : EncoderSettings) (gh gw lenx lenw lenc lenn out lens t o : ℕ) (r
   merged : o * (H * (m * m)) ≡ t * H
   merged = mul-left-comm o H (m * m) ∙ ap (λ (k : ℕ). H * k) whole ∙ mul-comm H t
 
-  place-fits : PlacesFit s z o
+  place-fits : PlacesFit s z
   place-fits =
       let b = r .bounds in
       record {
@@ -182,12 +183,19 @@ module _ (s : EncoderSettings) (gh gw lenx lenw lenc lenn out lens t o : ℕ) (r
         merging = rw dim-is (b .merging);
         linear-1 = rw dim-is (b .linear-1);
         linear-2 = b .linear-2;
+      }
+
+  regions-fit : RegionsFit z (o * s .«text_hidden_size»)
+  regions-fit =
+      record {
+        narrow = rw head-is (r .settings .ranges .width .1);
+        small = rw dim-is (r .bounds .hidden-high);
         hiddens = rw dim-is (r .counts .hiddens);
         inners = r .counts .inners;
         texts = r .counts .texts;
       }
 
-  embed-fits : EmbedFits z lenx lens lenw (placesOf s z o .floats)
+  embed-fits : EmbedFits z lenx lens lenw (placesOf s z .floats)
   embed-fits =
       record {
         narrow = rw head-is (r .settings .ranges .width .1);
@@ -216,7 +224,7 @@ module _ (s : EncoderSettings) (gh gw lenx lenw lenc lenn out lens t o : ℕ) (r
         sines = l .sin-are ∙ ap (λ (k : ℕ). p * p * k) (sym head-is);
       }
 
-  layers-fit : LayersFits z lens lenw lenc lenn (placesOf s z o .row) (placesOf s z o .layers) (s .«num_layers»)
+  layers-fit : LayersFits z lens lenw lenc lenn (regionsOf z (o * s .«text_hidden_size») .row) (placesOf s z .layers) (s .«num_layers»)
   layers-fit =
       record {
         weights = rw dim-is (omega (arith, l .weights-are));
@@ -270,7 +278,7 @@ module _ (s : EncoderSettings) (gh gw lenx lenw lenc lenn out lens t o : ℕ) (r
         apart = before (omega (arith, e));
       }
 
-  project-fits : ProjFits t (dimOf z) o (placesOf s z o .wide) (s .«text_hidden_size») lens (placesOf s z o .size) m gh gw (placesOf s z o .linear)
+  project-fits : ProjFits t (dimOf z) o (placesOf s z .wide) (s .«text_hidden_size») lens (placesOf s z .size) m gh gw (regionsOf z (o * s .«text_hidden_size») .linear)
   project-fits =
       let f : o * (dimOf z * (m * m)) ≡ t * dimOf z = rw dim-is merged in
       record {
@@ -291,6 +299,7 @@ module _ (s : EncoderSettings) (gh gw lenx lenw lenc lenn out lens t o : ℕ) (r
       record {
         dim-is = dim-is;
         places = place-fits;
+        regions = regions-fit;
         embeds = embed-fits;
         layers = layers-fit;
         part = rw dim-is (omega (arith, l .weights-are));

@@ -8,6 +8,7 @@ use Rattle.encoder.specs.Weights.{layerOf}
 use Rattle.encoder.specs.declared.EncoderSettings.{EncoderSettings}
 use Rattle.picture.specs.Patches.{patchFloats}
 use Rattle.encoder.specs.Settings.{mergeArea}
+use Rattle.encoder.specs.Live.{regionsOf}
 use Rattle.encoder.specs.Forward.{sizesOf, placesOf}
 
 -- what a block asks of its shape and of the lengths of scratch and weights
@@ -109,8 +110,8 @@ pub record EmbedFits (z : Sizes) (lenx lens lenw f : ℕ) : Type 0 where
   pub room : 2 * nOf z ≤ lens
   pub weights : dimOf z * f + dimOf z ≤ lenw
 
--- the places of a call of the sizes z, of whose tokens o are left: no product wraps
-pub record PlacesFit (s : EncoderSettings) (z : Sizes) (o : ℕ) : Type 0 where
+-- the places in the weights, of a call of the sizes z: no product wraps
+pub record PlacesFit (s : EncoderSettings) (z : Sizes) : Type 0 where
   pub narrow : hdOf z ≤ 256
   pub small : dimOf z ≤ 2048
   pub patch-area : s .picture .«patch_size» * s .picture .«patch_size» ≤ 1024
@@ -124,16 +125,22 @@ pub record PlacesFit (s : EncoderSettings) (z : Sizes) (o : ℕ) : Type 0 where
   pub merging : dimOf z * (dimOf z * mergeArea (s .picture)) ≤ 67108864
   pub linear-1 : s .«text_hidden_size» * dimOf z ≤ 16777216
   pub linear-2 : s .«text_hidden_size» * s .«text_hidden_size» ≤ 67108864
+
+-- those in the scratch, with e floats of token vectors
+pub record RegionsFit (z : Sizes) (e : ℕ) : Type 0 where
+  pub narrow : hdOf z ≤ 256
+  pub small : dimOf z ≤ 2048
   pub hiddens : nOf z ≤ 8589934592
   pub inners : mOf z ≤ 34359738368
-  pub texts : o * s .«text_hidden_size» ≤ 34359738368
+  pub texts : e ≤ 34359738368
 
 -- a whole run: t tokens of a grid gh by gw, of which o are left
 pub record RunFits (s : EncoderSettings) (gh gw t o lenx lenw lenc lenn lens : ℕ) : Type 0 where
   pub dim-is : dimOf (sizesOf s t gw) ≡ s .«hidden_size»
-  pub places : PlacesFit s (sizesOf s t gw) o
-  pub embeds : EmbedFits (sizesOf s t gw) lenx lens lenw (placesOf s (sizesOf s t gw) o .floats)
-  pub layers : LayersFits (sizesOf s t gw) lens lenw lenc lenn (placesOf s (sizesOf s t gw) o .row) (placesOf s (sizesOf s t gw) o .layers) (s .«num_layers»)
-  pub part : placesOf s (sizesOf s t gw) o .projector + placesOf s (sizesOf s t gw) o .size ≤ lenw
-  pub projects : ProjFits t (dimOf (sizesOf s t gw)) o (placesOf s (sizesOf s t gw) o .wide) (s .«text_hidden_size») lens (placesOf s (sizesOf s t gw) o .size)
-      (s .picture .«spatial_merge_size») gh gw (placesOf s (sizesOf s t gw) o .linear)
+  pub places : PlacesFit s (sizesOf s t gw)
+  pub regions : RegionsFit (sizesOf s t gw) (o * s .«text_hidden_size»)
+  pub embeds : EmbedFits (sizesOf s t gw) lenx lens lenw (placesOf s (sizesOf s t gw) .floats)
+  pub layers : LayersFits (sizesOf s t gw) lens lenw lenc lenn (regionsOf (sizesOf s t gw) (o * s .«text_hidden_size») .row) (placesOf s (sizesOf s t gw) .layers) (s .«num_layers»)
+  pub part : placesOf s (sizesOf s t gw) .projector + placesOf s (sizesOf s t gw) .size ≤ lenw
+  pub projects : ProjFits t (dimOf (sizesOf s t gw)) o (placesOf s (sizesOf s t gw) .wide) (s .«text_hidden_size») lens (placesOf s (sizesOf s t gw) .size)
+      (s .picture .«spatial_merge_size») gh gw (regionsOf (sizesOf s t gw) (o * s .«text_hidden_size») .linear)

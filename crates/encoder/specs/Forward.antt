@@ -16,7 +16,7 @@ use Rattle.encoder.specs.declared.Checked.{Checked}
 use Rattle.encoder.specs.declared.Checked.the-variants as C
 use Rattle.encoder.specs.declared.Encoded.{Encoded}
 use Rattle.encoder.specs.declared.Encoded.the-variants.{Tokens, Refused}
-use Rattle.encoder.specs.Sizes.{dimOf, nOf, mOf}
+use Rattle.encoder.specs.Sizes.{dimOf}
 use Rattle.encoder.specs.Weights.{layerOf, projectorFloats}
 use Rattle.encoder.specs.Settings.{mergeArea, checkedOf}
 use Rattle.encoder.specs.Run.{Run, stopped, went, thenRun}
@@ -44,24 +44,22 @@ layersAt z f = dimOf z * f + dimOf z
 abbrev pub projectorAt : Sizes → ℕ → ℕ → ℕ
 projectorAt z f count = layersAt z f + count * layerOf z
 
--- the places that follow from them, in the weights and in the scratch
-abbrev pub placesOf : EncoderSettings → Sizes → ℕ → Places
-placesOf s z o =
+-- the places in the weights that follow from them
+abbrev pub placesOf : EncoderSettings → Sizes → Places
+placesOf s z =
     record {
       floats = patchFloats (s .picture .«patch_size»);
       layers = layersAt z (patchFloats (s .picture .«patch_size»));
       projector = projectorAt z (patchFloats (s .picture .«patch_size»)) (s .«num_layers»);
       wide = dimOf z * mergeArea (s .picture);
       size = projectorFloats (dimOf z) (dimOf z * mergeArea (s .picture)) (s .«text_hidden_size»);
-      linear = 7 * nOf z + 2 * mOf z;
-      row = 7 * nOf z + 2 * mOf z + 2 * (o * s .«text_hidden_size»);
     }
 
 -- t tokens of a grid gh by gw, of which o are left: the embedding, the layers, the projector
 unfoldable pub runOf : EncoderSettings → ℕ → ℕ → ℕ → ℕ → List Float → List Float → List Float → List Float → Run
 runOf s gh gw t o w cos sin x =
     let z = sizesOf s t gw in
-    let p = placesOf s z o in
+    let p = placesOf s z in
     thenRun (thenRun (embedRun z (p .floats) w cos sin x) (layersRun z (p .layers) w cos sin (s .«num_layers»)))
     (projectRun t (dimOf z) o (p .wide) (s .«text_hidden_size») (s .picture .«spatial_merge_size») gh gw (region w (p .projector) (p .size)))
 

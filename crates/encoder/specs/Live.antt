@@ -6,6 +6,7 @@ use Prim.Native.Nat.{ℕ, _+_, _*_}
 use lib.Ieee.{Float}
 use Rattle.buffers.specs.Region.{region, put}
 use Rattle.encoder.specs.declared.Sizes.{Sizes}
+use Rattle.encoder.specs.declared.Regions.{Regions}
 use Rattle.encoder.specs.Sizes.{nOf, mOf}
 use Rattle.kernels.specs.Finite.{sound}
 use Rattle.kernels.specs.Element.{added, gated, rounded}
@@ -36,6 +37,10 @@ gAt z s = region s (7 * nOf z) (mOf z)
 
 abbrev pub uAt : Sizes → List Float → List Float
 uAt z s = region s (7 * nOf z + mOf z) (mOf z)
+
+-- behind them linear_1's result, linear_2's, of e floats each, and the score row
+abbrev pub regionsOf : Sizes → ℕ → Regions
+regionsOf z e = record { linear = 7 * nOf z + 2 * mOf z; row = 7 * nOf z + 2 * mOf z + 2 * e }
 
 -- the pieces, each from a scratch s to a scratch t: norm, q, k, v
 pub record AttnIn (z : Sizes) (w s t : List Float) (ok r : Bool) : Type 0 where

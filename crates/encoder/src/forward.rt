@@ -5,14 +5,15 @@ ghost use lib.ListN.{length};
 ghost use Rattle.buffers.specs.Region.{region, cleared};
 ghost use Rattle.encoder.specs.declared.Checked.the-variants as C;
 ghost use Rattle.encoder.specs.Run.{answer};
-ghost use Rattle.encoder.specs.Live.{Embedded};
+ghost use Rattle.encoder.specs.Live.{regionsOf, Embedded};
 ghost use Rattle.encoder.specs.Embed.{inputsFine};
 ghost use Rattle.encoder.specs.Forward.{sizesOf, placesOf, runOf, answered, outLeft, encodedOf, outOf, scratchOf};
-ghost use Rattle.encoder.specs.Fits.{EmbedFits, PlacesFit, RunFits};
+ghost use Rattle.encoder.specs.Fits.{EmbedFits, PlacesFit, RegionsFit, RunFits};
 use crate::Checked;
 use crate::Encoded;
 use crate::EncoderSettings;
 use crate::Places;
+use crate::Regions;
 use crate::Sizes;
 use crate::layers::layers;
 use crate::projector::projector_forward;
@@ -69,14 +70,13 @@ pub(crate) fn embed(x: &[f32], s: &mut [f32], z: Sizes, f: usize, w: &[f32], ok:
     round_fine(s, 0, n, c)
 }
 
-pub(crate) fn places(s: EncoderSettings, z: Sizes, o: usize) -> Places
-    requires { ⌜ PlacesFit s z o ⌝ }
-    ensures { λ r. ⌜ r ≡ placesOf s z o ⌝ }
+pub(crate) fn places(s: EncoderSettings, z: Sizes) -> Places
+    requires { ⌜ PlacesFit s z ⌝ }
+    ensures { λ r. ⌜ r ≡ placesOf s z ⌝ }
 {
     let q = s.picture;
     let p = q.patch_size;
     let m = q.spatial_merge_size;
-    let t = z.tokens;
     let i = z.inter;
     let half = z.half;
     let h = z.heads * (half + half);
@@ -85,15 +85,25 @@ pub(crate) fn places(s: EncoderSettings, z: Sizes, o: usize) -> Places
     let at = h * f + h;
     let layer = 2 * h + 4 * (h * h) + 2 * (i * h) + h * i;
     let wide = h * (m * m);
-    let lin = 7 * (t * h) + 2 * (t * i);
     Places {
         floats: f,
         layers: at,
         projector: at + s.num_layers * layer,
         wide: wide,
         size: h + h * wide + x * h + x * x,
+    }
+}
+
+pub(crate) fn regions(z: Sizes, e: usize) -> Regions
+    requires { ⌜ RegionsFit z e ⌝ }
+    ensures { λ r. ⌜ r ≡ regionsOf z e ⌝ }
+{
+    let t = z.tokens;
+    let half = z.half;
+    let lin = 7 * (t * (z.heads * (half + half))) + 2 * (t * z.inter);
+    Regions {
         linear: lin,
-        row: lin + 2 * (o * x),
+        row: lin + 2 * e,
     }
 }
 
@@ -112,17 +122,18 @@ pub(crate) fn encode(
 ) -> bool
     requires { ⌜ 1 ≤ s .picture .«patch_size» ⌝ }
     requires { ⌜ RunFits s gh gw t o (length (now patches)) (length (now w)) (length (now cos)) (length (now sin)) (length (now scratch)) ⌝ }
-    ensures { λ r. ⌜ answer r (region (now (scratch .exit)) (placesOf s (sizesOf s t gw) o .linear + o * s .«text_hidden_size») (o * s .«text_hidden_size»))
+    ensures { λ r. ⌜ answer r (region (now (scratch .exit)) (regionsOf (sizesOf s t gw) (o * s .«text_hidden_size») .linear + o * s .«text_hidden_size») (o * s .«text_hidden_size»))
         ≡ runOf s gh gw t o (now (w .entry)) (now (cos .entry)) (now (sin .entry)) (now (patches .entry)) ⌝ }
 {
     let q = s.picture;
     let z = sizes_of(s, t, gw);
-    let p = places(s, z, o);
+    let p = places(s, z);
+    let r = regions(z, o * s.text_hidden_size);
     let half = z.half;
     let h = z.heads * (half + half);
     let ok = inputs_fine(patches, w, cos, sin);
     let a = embed(patches, scratch, z, p.floats, w, ok);
-    let b = layers(scratch, z, p.row, w, p.layers, s.num_layers, cos, sin);
+    let b = layers(scratch, z, r.row, w, p.layers, s.num_layers, cos, sin);
     let v = part(w, p.projector, p.size);
     let c = projector_forward(
         scratch,
@@ -135,7 +146,7 @@ pub(crate) fn encode(
         q.spatial_merge_size,
         gh,
         gw,
-        p.linear,
+        r.linear,
     );
     (a & b) & c
 }

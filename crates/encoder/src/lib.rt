@@ -20,14 +20,18 @@ pub(crate) struct Sizes {
     pub scaling: f32,
 }
 
-// Where things stand: in the weights the layers and the projector, with its size; the floats of a patch and the
-// width of a merged row; in the scratch linear_1's result, and the score row.
+// The floats of a patch, where the layers and the projector stand in the weights, the width of a merged row, and the
+// floats of the projector.
 pub(crate) struct Places {
     pub floats: usize,
     pub layers: usize,
     pub projector: usize,
     pub wide: usize,
     pub size: usize,
+}
+
+// Where linear_1's result and the score row stand in the scratch.
+pub(crate) struct Regions {
     pub linear: usize,
     pub row: usize,
 }

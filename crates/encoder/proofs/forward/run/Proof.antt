@@ -7,7 +7,8 @@ use lib.ListN.{length}
 use Rattle.buffers.proofs.Regions.{length-region}
 use Rattle.buffers.specs.Region.{region, zero32, copied}
 use Rattle.buffers.specs.Rows.{tab}
-use Rattle.encoder.specs.Forward.{sizesOf, placesOf, runOf, answered, outLeft}
+use Rattle.encoder.specs.Live.{regionsOf}
+use Rattle.encoder.specs.Forward.{sizesOf, runOf, answered, outLeft}
 use Rattle.encoder.proofs.Runs.{went-of, stopped-of, copied-over}
 use Rattle.encoder.proofs.forward.run.Statement.{statement}
 use Rattle.encoder.proofs.forward.run.Tie as tie
@@ -16,22 +17,22 @@ mul-e : tie.Need-mul-e
 mul-e c = search needs
 
 mul-at : tie.Need-mul-at
-mul-at c = let g = c .before .before .before .before .before .before .before .pre .1 .0 in let h : c .before .before .before .before .before .before .before .args .t * c .before .before .before .before .before .before .before .args .s .«hidden_size» ≤ 8589934592 = rw (← g .dim-is) (g .places .hiddens) in omega (arith, h, g .places .inners, g .places .texts)
+mul-at c = let g = c .before .before .before .before .before .before .before .pre .1 .0 in let h : c .before .before .before .before .before .before .before .args .t * c .before .before .before .before .before .before .before .args .s .«hidden_size» ≤ 8589934592 = rw (← g .dim-is) (g .regions .hiddens) in omega (arith, h, g .regions .inners, g .regions .texts)
 
 mul-at-2 : tie.Need-mul-at-2
-mul-at-2 c = let g = c .before .before .before .before .before .before .before .pre .1 .0 in let h : c .before .before .before .before .before .before .before .args .t * c .before .before .before .before .before .before .before .args .s .«hidden_size» ≤ 8589934592 = rw (← g .dim-is) (g .places .hiddens) in omega (arith, h, g .places .inners, g .places .texts)
+mul-at-2 c = let g = c .before .before .before .before .before .before .before .pre .1 .0 in let h : c .before .before .before .before .before .before .before .args .t * c .before .before .before .before .before .before .before .args .s .«hidden_size» ≤ 8589934592 = rw (← g .dim-is) (g .regions .hiddens) in omega (arith, h, g .regions .inners, g .regions .texts)
 
 mul-at-3 : tie.Need-mul-at-3
-mul-at-3 c = let g = c .before .before .before .before .before .before .before .before .pre .1 .0 in let h : c .before .before .before .before .before .before .before .before .args .t * c .before .before .before .before .before .before .before .before .args .s .«hidden_size» ≤ 8589934592 = rw (← g .dim-is) (g .places .hiddens) in omega (arith, h, g .places .inners, g .places .texts)
+mul-at-3 c = let g = c .before .before .before .before .before .before .before .before .pre .1 .0 in let h : c .before .before .before .before .before .before .before .before .args .t * c .before .before .before .before .before .before .before .before .args .s .«hidden_size» ≤ 8589934592 = rw (← g .dim-is) (g .regions .hiddens) in omega (arith, h, g .regions .inners, g .regions .texts)
 
 mul-at-4 : tie.Need-mul-at-4
-mul-at-4 c = let g = c .before .before .before .before .before .before .before .before .pre .1 .0 in let h : c .before .before .before .before .before .before .before .before .args .t * c .before .before .before .before .before .before .before .before .args .s .«hidden_size» ≤ 8589934592 = rw (← g .dim-is) (g .places .hiddens) in omega (arith, h, g .places .inners, g .places .texts)
+mul-at-4 c = let g = c .before .before .before .before .before .before .before .before .pre .1 .0 in let h : c .before .before .before .before .before .before .before .before .args .t * c .before .before .before .before .before .before .before .before .args .s .«hidden_size» ≤ 8589934592 = rw (← g .dim-is) (g .regions .hiddens) in omega (arith, h, g .regions .inners, g .regions .texts)
 
 add-at : tie.Need-add-at
-add-at c = let g = c .before .before .before .before .before .before .before .before .pre .1 .0 in let h : c .before .before .before .before .before .before .before .before .args .t * c .before .before .before .before .before .before .before .before .args .s .«hidden_size» ≤ 8589934592 = rw (← g .dim-is) (g .places .hiddens) in omega (arith, h, g .places .inners, g .places .texts)
+add-at c = let g = c .before .before .before .before .before .before .before .before .pre .1 .0 in let h : c .before .before .before .before .before .before .before .before .args .t * c .before .before .before .before .before .before .before .before .args .s .«hidden_size» ≤ 8589934592 = rw (← g .dim-is) (g .regions .hiddens) in omega (arith, h, g .regions .inners, g .regions .texts)
 
 add-at-2 : tie.Need-add-at-2
-add-at-2 c = let g = c .before .before .before .before .before .before .before .before .pre .1 .0 in let h : c .before .before .before .before .before .before .before .before .args .t * c .before .before .before .before .before .before .before .before .args .s .«hidden_size» ≤ 8589934592 = rw (← g .dim-is) (g .places .hiddens) in omega (arith, h, g .places .inners, g .places .texts)
+add-at-2 c = let g = c .before .before .before .before .before .before .before .before .pre .1 .0 in let h : c .before .before .before .before .before .before .before .before .args .t * c .before .before .before .before .before .before .before .before .args .s .«hidden_size» ≤ 8589934592 = rw (← g .dim-is) (g .regions .hiddens) in omega (arith, h, g .regions .inners, g .regions .texts)
 
 encode-requires : tie.Need-encode-requires
 encode-requires c κs = (c .before .before .before .before .before .before .before .before .before .pre .0, c .before .before .before .before .before .before .before .before .before .pre .1 .0)
@@ -58,7 +59,7 @@ returns c =
     let e = a .o * a .s .«text_hidden_size» in
     let n = c .before .before .before .before .before .before .before .before .before .before .before .before .before .encode in
     let u = n .last .1 .1 .1 .1 .1 .1 .1 .1 .1 .0 in
-    let at = placesOf (a .s) (sizesOf (a .s) (a .t) (a .gw)) (a .o) .linear + e in
+    let at = regionsOf (sizesOf (a .s) (a .t) (a .gw)) e .linear + e in
     let l = region u at e in
     let r = runOf (a .s) (a .gh) (a .gw) (a .t) (a .o) (a .w .now) (a .cos .now) (a .sin .now) (a .patches .now) in
     let w = went-of (n .result) l r (n .ensures) (c .before .before .before .before .before .before .before .before .before .before .if1 .taken) in
@@ -83,7 +84,7 @@ returns-2 c =
     let e = a .o * a .s .«text_hidden_size» in
     let n = c .before .before .before .before .before .before .before .encode in
     let r = runOf (a .s) (a .gh) (a .gw) (a .t) (a .o) (a .w .now) (a .cos .now) (a .sin .now) (a .patches .now) in
-    let w = stopped-of (n .result) (region (n .last .1 .1 .1 .1 .1 .1 .1 .1 .1 .0) (placesOf (a .s) (sizesOf (a .s) (a .t) (a .gw)) (a .o) .linear + e) e) r (n .ensures) (c .before .before .before .before .if1 .left) in
+    let w = stopped-of (n .result) (region (n .last .1 .1 .1 .1 .1 .1 .1 .1 .1 .0) (regionsOf (sizesOf (a .s) (a .t) (a .gw)) e .linear + e) e) r (n .ensures) (c .before .before .before .before .if1 .left) in
     (ap (answered (a .o)) w, (ap (λ v. outLeft v (a .out .now)) w, c .before .before .clear2 .ensures ∙ ap (λ k. tab k (λ _. zero32)) (n .kept .1 .1 .1 .1 .1 .1 .1 .1 .1 .0)))
 
 pub run-spec : {M : Type 1} → statement M
