@@ -1,0 +1,121 @@
+//! Links libkyzgultam.a and libnumber.a, which `rt staticlib` makes in the repository around this crate.
+//! With KZ_ARCHIVES set the two are taken from that folder as they are, and nothing is made.
+
+use std::env;
+use std::fs;
+use std::io;
+use std::path::{Path, PathBuf};
+use std::process::{exit, Command};
+use std::time::SystemTime;
+
+const ARCHIVES: [&str; 2] = ["kyzgultam", "number"];
+
+const INSTALL: &str = "\
+  Install the Rattle kit and put its `rt` on the PATH (it needs Linux with glibc 2.34 or newer),
+  or set KZ_ARCHIVES to a folder that holds libkyzgultam.a and libnumber.a.";
+
+fn main() {
+    println!("cargo:rerun-if-env-changed=KZ_ARCHIVES");
+    let target = |what: &str| env::var(format!("CARGO_CFG_TARGET_{what}")).unwrap_or_default();
+    if (target("ARCH").as_str(), target("OS").as_str()) != ("x86_64", "linux") {
+        stop("the archives are made for x86-64 Linux: build for that target");
+    }
+    let archives = match env::var_os("KZ_ARCHIVES") {
+        Some(folder) => given(PathBuf::from(folder)),
+        None => made(),
+    };
+    println!("cargo:rustc-link-search=native={}", archives.display());
+    for name in ARCHIVES {
+        println!("cargo:rustc-link-lib=static={name}");
+    }
+}
+
+fn stop(message: &str) -> ! {
+    eprintln!("kyzgultam: {message}");
+    exit(1)
+}
+
+fn archive(folder: &Path, name: &str) -> PathBuf {
+    folder.join(format!("lib{name}.a"))
+}
+
+/// The folder of KZ_ARCHIVES, with both archives in it.
+fn given(folder: PathBuf) -> PathBuf {
+    for name in ARCHIVES {
+        let file = archive(&folder, name);
+        println!("cargo:rerun-if-changed={}", file.display());
+        if !file.is_file() {
+            stop(&format!("KZ_ARCHIVES is set, but there is no {}", file.display()));
+        }
+    }
+    // A relative folder would be looked up where the linker runs.
+    fs::canonicalize(&folder).unwrap_or(folder)
+}
+
+/// The repository's target/staticlib, with both archives in it and none older than what it is made from.
+fn made() -> PathBuf {
+    let root = Path::new(env!("CARGO_MANIFEST_DIR")).join("..");
+    let root = fs::canonicalize(&root).unwrap_or(root);
+    let folder = root.join("target/staticlib");
+    let (newest, time) = newest_source(&root)
+        .unwrap_or_else(|e| stop(&format!("the sources under {} cannot be read: {e}", root.display())));
+    for name in ARCHIVES {
+        let file = archive(&folder, name);
+        println!("cargo:rerun-if-changed={}", file.display());
+        let why = match fs::metadata(&file).and_then(|m| m.modified()) {
+            Err(_) => format!("{} is missing", file.display()),
+            Ok(at) if at < time => format!("{} is older than {}", file.display(), newest.display()),
+            Ok(_) => continue,
+        };
+        make(&root, name, &why);
+        if !file.is_file() {
+            stop(&format!("`rt staticlib {name}` wrote no {}", file.display()));
+        }
+    }
+    folder
+}
+
+/// Runs `rt staticlib`, which proves what has changed and writes the archive.
+fn make(root: &Path, name: &str, why: &str) {
+    match Command::new("rt").args(["staticlib", name]).current_dir(root).status() {
+        Ok(status) if status.success() => {}
+        Ok(status) => stop(&format!("{why}, and `rt staticlib {name}` failed ({status})")),
+        Err(e) if e.kind() == io::ErrorKind::NotFound => {
+            stop(&format!("{why}, and there is no `rt` on the PATH to make it.\n{INSTALL}"))
+        }
+        Err(e) => stop(&format!("{why}, and `rt` cannot be run: {e}\n{INSTALL}")),
+    }
+}
+
+/// The file changed last of those that an archive is made from: crates.txt and each crate's src, specs and proofs.
+fn newest_source(root: &Path) -> io::Result<(PathBuf, SystemTime)> {
+    let list = root.join("crates.txt");
+    println!("cargo:rerun-if-changed={}", list.display());
+    let mut newest = (list.clone(), fs::metadata(&list)?.modified()?);
+    for entry in fs::read_dir(root.join("crates"))? {
+        let entry = entry?.path();
+        for part in ["src", "specs", "proofs"] {
+            let folder = entry.join(part);
+            if folder.is_dir() {
+                println!("cargo:rerun-if-changed={}", folder.display());
+                look(&folder, &mut newest)?;
+            }
+        }
+    }
+    Ok(newest)
+}
+
+fn look(folder: &Path, newest: &mut (PathBuf, SystemTime)) -> io::Result<()> {
+    for entry in fs::read_dir(folder)? {
+        let path = entry?.path();
+        if path.is_dir() {
+            look(&path, newest)?;
+        } else {
+            let time = fs::metadata(&path)?.modified()?;
+            if newest.1 < time {
+                *newest = (path, time);
+            }
+        }
+    }
+    Ok(())
+}

@@ -1,0 +1,204 @@
+//! Each call hands on slices as pointer and length: an output is lent alone, so it overlaps no other buffer, and a
+//! length is its buffer's. That is all that include/kyzgultam.h asks of a caller.
+
+use crate::{face, EncoderSettings, PictureSettings, Refusal};
+
+/// What [`pixtral_preprocess`] wrote.
+#[derive(Clone, Copy, Debug, PartialEq, Eq, Hash)]
+pub struct Patches {
+    /// Rows of patches.
+    pub grid_h: usize,
+    /// Columns of patches.
+    pub grid_w: usize,
+    /// Floats written over the front of the output.
+    pub floats: usize,
+}
+
+/// What [`restore`] wrote: height × width pixels of three bytes.
+#[derive(Clone, Copy, Debug, PartialEq, Eq, Hash)]
+pub struct Picture {
+    /// Rows.
+    pub height: usize,
+    /// Columns.
+    pub width: usize,
+}
+
+/// The patches of a picture: `height` × `width` pixels of three bytes, by row.
+///
+/// Each side is rounded up to a multiple of patch × merge, cut to the image size and rounded down again, and the
+/// picture is resized to these sides. Patches run by row; a patch has its samples by channel, row and column.
+/// Refused with the first of 1, 2, 3, 4, 5.
+///
+/// ```
+/// # fn main() -> Result<(), kyzgultam::Refusal> {
+/// let settings = kyzgultam::PictureSettings::default();
+/// let mut out = vec![0.0; settings.patches_len(28, 56)?];
+/// let patches = kyzgultam::pixtral_preprocess(&[7; 28 * 56 * 3], 28, 56, &settings, &mut out)?;
+/// assert_eq!((patches.grid_h, patches.grid_w, patches.floats), (2, 4, 4704));
+/// # Ok(())
+/// # }
+/// ```
+pub fn pixtral_preprocess(
+    rgb_bytes: &[u8],
+    height: usize,
+    width: usize,
+    settings: &PictureSettings,
+    out: &mut [f32],
+) -> Result<Patches, Refusal> {
+    let report = unsafe {
+        face::kz_preprocess(*settings, rgb_bytes.as_ptr(), rgb_bytes.len(), height, width, out.as_mut_ptr(), out.len())
+    };
+    Refusal::check(report.number)?;
+    Ok(Patches { grid_h: report.grid_h, grid_w: report.grid_w, floats: report.floats })
+}
+
+/// The resized picture that gave the patches; the picture itself where both its sides are multiples of patch × merge
+/// and neither is above the image size.
+///
+/// Refused with the first of 1, 6, 7, 5, 8: with 8 exactly where no picture gives these patches.
+///
+/// ```
+/// # fn main() -> Result<(), kyzgultam::Refusal> {
+/// # let settings = kyzgultam::PictureSettings::default();
+/// let rgb: Vec<u8> = (0..28 * 56 * 3).map(|i| i as u8).collect();
+/// let mut patches = vec![0.0; rgb.len()];
+/// let grid = kyzgultam::pixtral_preprocess(&rgb, 28, 56, &settings, &mut patches)?;
+/// let mut back = vec![0; rgb.len()];
+/// let size = kyzgultam::restore(&patches, grid.grid_h, grid.grid_w, &settings, &mut back)?;
+/// assert_eq!((size.height, size.width), (28, 56));
+/// assert_eq!(back, rgb);
+///
+/// patches[5] += 0.001;
+/// let refused = kyzgultam::restore(&patches, grid.grid_h, grid.grid_w, &settings, &mut back);
+/// assert_eq!(refused, Err(kyzgultam::Refusal::Sample));
+/// # Ok(())
+/// # }
+/// ```
+pub fn restore(
+    patches: &[f32],
+    grid_h: usize,
+    grid_w: usize,
+    settings: &PictureSettings,
+    out: &mut [u8],
+) -> Result<Picture, Refusal> {
+    let report = unsafe {
+        face::kz_restore(*settings, patches.as_ptr(), patches.len(), grid_h, grid_w, out.as_mut_ptr(), out.len())
+    };
+    Refusal::check(report.number)?;
+    Ok(Picture { height: report.height, width: report.width })
+}
+
+/// Patch `i`, as the part of the patches that it is. It is empty where `patch_size` is not in 1..32, or the whole
+/// patch does not lie in the patches.
+///
+/// ```
+/// let patches: Vec<f32> = (0..24).map(|i| i as f32).collect();
+/// let second = kyzgultam::patch(&patches, 2, 1);
+/// assert_eq!(second.as_ptr(), patches[12..].as_ptr());
+/// assert_eq!(second.len(), 12);
+/// assert!(kyzgultam::patch(&patches, 2, 2).is_empty());
+/// ```
+pub fn patch(patches: &[f32], patch_size: usize, i: usize) -> &[f32] {
+    let place = unsafe { face::kz_patch(patches.as_ptr(), patches.len(), patch_size, i) };
+    &patches[place.start..place.start + place.len]
+}
+
+/// The token vectors of patches: their count, and `text_hidden_size` floats for each over the front of `out`.
+///
+/// [`EncoderSettings`] tells the length of each buffer. The scratch may hold anything; after an accepted call, and
+/// after [`Refusal::NotFinite`], all of it is +0, and after any other refusal it is as it was.
+/// Refused with the first of 1, 6, 7, 9, 10, 5, 11, 12. [The crate's first example](crate) has a call.
+///
+/// No output can be lent as an input too:
+///
+/// ```compile_fail,E0502
+/// let settings = kyzgultam::EncoderSettings::default();
+/// let mut floats = vec![0.0; 4704];
+/// kyzgultam::forward(&settings, &floats, 2, 4, &[], &[], &[], &mut [], &mut floats);
+/// ```
+#[allow(clippy::too_many_arguments)] // PixtralEncoder holds those that stay the same
+pub fn forward(
+    settings: &EncoderSettings,
+    patches: &[f32],
+    grid_h: usize,
+    grid_w: usize,
+    weights: &[f32],
+    rope_cos: &[f32],
+    rope_sin: &[f32],
+    scratch: &mut [f32],
+    out: &mut [f32],
+) -> Result<usize, Refusal> {
+    let report = unsafe {
+        face::kz_forward(
+            *settings,
+            patches.as_ptr(),
+            patches.len(),
+            grid_h,
+            grid_w,
+            weights.as_ptr(),
+            weights.len(),
+            rope_cos.as_ptr(),
+            rope_cos.len(),
+            rope_sin.as_ptr(),
+            rope_sin.len(),
+            scratch.as_mut_ptr(),
+            scratch.len(),
+            out.as_mut_ptr(),
+            out.len(),
+        )
+    };
+    Refusal::check(report.number)?;
+    Ok(report.tokens)
+}
+
+/// An encoder over lent weights and tables, for calls in the Rust's form: `encoder.forward(..)`.
+///
+/// ```
+/// # fn main() -> Result<(), kyzgultam::Refusal> {
+/// # use kyzgultam::{EncoderSettings, PictureSettings};
+/// # let settings = EncoderSettings {
+/// #     picture: PictureSettings { patch_size: 2, spatial_merge_size: 1, image_size: 8 },
+/// #     hidden_size: 4, num_heads: 1, head_dim: 4, num_layers: 0, intermediate_size: 1,
+/// #     text_hidden_size: 3, scaling: 0.5,
+/// # };
+/// # let weights = vec![0.5; settings.weights_len()?];
+/// # let (cos, sin) = (vec![1.0; settings.tables_len()?], vec![0.0; settings.tables_len()?]);
+/// # let patches = vec![0.25; settings.picture.restored_len(2, 3)?];
+/// let encoder = kyzgultam::PixtralEncoder {
+///     settings,
+///     weights: &weights,
+///     rope_cos: &cos,
+///     rope_sin: &sin,
+/// };
+/// let mut scratch = vec![0.0; settings.scratch_len(2, 3)?];
+/// let mut out = vec![0.0; settings.tokens_len(2, 3)?];
+/// let num_tokens = encoder.forward(&patches, 2, 3, &mut scratch, &mut out)?;
+/// assert_eq!(num_tokens, 6);
+/// # Ok(())
+/// # }
+/// ```
+#[derive(Clone, Copy, Debug)]
+pub struct PixtralEncoder<'a> {
+    /// The sizes.
+    pub settings: EncoderSettings,
+    /// As [`EncoderSettings::weights_len`] lists them.
+    pub weights: &'a [f32],
+    /// As [`EncoderSettings::tables_len`] says.
+    pub rope_cos: &'a [f32],
+    /// As [`EncoderSettings::tables_len`] says.
+    pub rope_sin: &'a [f32],
+}
+
+impl PixtralEncoder<'_> {
+    /// [`forward`] with this encoder's settings, weights and tables.
+    pub fn forward(
+        &self,
+        patches: &[f32],
+        grid_h: usize,
+        grid_w: usize,
+        scratch: &mut [f32],
+        out: &mut [f32],
+    ) -> Result<usize, Refusal> {
+        forward(&self.settings, patches, grid_h, grid_w, self.weights, self.rope_cos, self.rope_sin, scratch, out)
+    }
+}

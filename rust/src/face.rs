@@ -1,0 +1,78 @@
+//! The C declarations of include/kyzgultam.h.
+
+use crate::{EncoderSettings, PictureSettings};
+
+#[repr(C)]
+pub struct PreprocessReport {
+    pub number: u32,
+    pub grid_h: usize,
+    pub grid_w: usize,
+    pub floats: usize,
+}
+
+#[repr(C)]
+pub struct RestoreReport {
+    pub number: u32,
+    pub height: usize,
+    pub width: usize,
+}
+
+#[repr(C)]
+pub struct PatchPlace {
+    pub start: usize,
+    pub len: usize,
+}
+
+#[repr(C)]
+pub struct ForwardReport {
+    pub number: u32,
+    pub tokens: usize,
+}
+
+extern "C" {
+    pub fn kz_preprocess(
+        settings: PictureSettings,
+        rgb: *const u8,
+        rgb_len: usize,
+        height: usize,
+        width: usize,
+        out: *mut f32,
+        out_len: usize,
+    ) -> PreprocessReport;
+
+    pub fn kz_restore(
+        settings: PictureSettings,
+        patches: *const f32,
+        patches_len: usize,
+        grid_h: usize,
+        grid_w: usize,
+        out: *mut u8,
+        out_len: usize,
+    ) -> RestoreReport;
+
+    pub fn kz_patch(patches: *const f32, patches_len: usize, patch_size: usize, i: usize) -> PatchPlace;
+
+    pub fn kz_forward(
+        settings: EncoderSettings,
+        patches: *const f32,
+        patches_len: usize,
+        grid_h: usize,
+        grid_w: usize,
+        weights: *const f32,
+        weights_len: usize,
+        rope_cos: *const f32,
+        rope_cos_len: usize,
+        rope_sin: *const f32,
+        rope_sin_len: usize,
+        scratch: *mut f32,
+        scratch_len: usize,
+        out: *mut f32,
+        out_len: usize,
+    ) -> ForwardReport;
+
+    pub fn kz_bf16(x: u32) -> u32;
+    pub fn kz_half(h: u16) -> u32;
+    pub fn kz_root(x: u32) -> u32;
+    pub fn kz_exp(x: u32) -> u32;
+    pub fn kz_tanh(y: u32) -> u32;
+}

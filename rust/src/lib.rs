@@ -1,0 +1,58 @@
+//! The Pixtral image encoder, ported from Rust to Rattle and proved: safe functions over its archives.
+//!
+//! The calls keep the Rust's names. Every buffer is lent by the caller, and a call allocates nothing. A call that is
+//! not accepted says why by a [`Refusal`] and leaves its output as it was; an output longer than the result keeps its
+//! tail. That no output is also an input of the same call, and that each length is that of its buffer, is the
+//! business of Rust's slices: the proved functions behind ask nothing else of a caller.
+//!
+//! ```
+//! use kyzgultam::{forward, pixtral_preprocess, restore, EncoderSettings, PictureSettings};
+//!
+//! # fn main() -> Result<(), kyzgultam::Refusal> {
+//! // A picture of 30 rows and 50 columns, to patches.
+//! let picture = PictureSettings { patch_size: 14, spatial_merge_size: 2, image_size: 112 };
+//! let rgb = vec![200u8; 30 * 50 * 3];
+//! let mut patches = vec![0.0; picture.patches_len(30, 50)?];
+//! let grid = pixtral_preprocess(&rgb, 30, 50, &picture, &mut patches)?;
+//! assert_eq!((grid.grid_h, grid.grid_w), (4, 4));
+//!
+//! // Patches to token vectors. These weights are all alike; a model brings its own.
+//! let settings = EncoderSettings {
+//!     picture,
+//!     hidden_size: 16,
+//!     num_heads: 2,
+//!     head_dim: 8,
+//!     num_layers: 1,
+//!     intermediate_size: 24,
+//!     text_hidden_size: 10,
+//!     scaling: 8f32.powf(-0.5),
+//! };
+//! let weights = vec![0.01; settings.weights_len()?];
+//! let rope_cos = vec![1.0; settings.tables_len()?];
+//! let rope_sin = vec![0.0; settings.tables_len()?];
+//! let mut scratch = vec![0.0; settings.scratch_len(grid.grid_h, grid.grid_w)?];
+//! let mut tokens = vec![0.0; settings.tokens_len(grid.grid_h, grid.grid_w)?];
+//! let count = forward(
+//!     &settings, &patches, grid.grid_h, grid.grid_w, &weights, &rope_cos, &rope_sin, &mut scratch, &mut tokens,
+//! )?;
+//! assert_eq!(count, 4);
+//!
+//! // And back: the bytes of the resized picture.
+//! let mut bytes = vec![0; picture.restored_len(grid.grid_h, grid.grid_w)?];
+//! let size = restore(&patches, grid.grid_h, grid.grid_w, &picture, &mut bytes)?;
+//! assert_eq!((size.height, size.width), (56, 56));
+//! assert!(bytes.iter().all(|b| *b == 200));
+//! # Ok(())
+//! # }
+//! ```
+
+mod calls;
+mod face;
+mod number;
+mod refusal;
+mod settings;
+
+pub use calls::{forward, patch, pixtral_preprocess, restore, Patches, Picture, PixtralEncoder};
+pub use number::{bf16, exp, half_to_f32, root, tanh};
+pub use refusal::Refusal;
+pub use settings::{EncoderSettings, PictureSettings};

@@ -1,0 +1,102 @@
+use std::error::Error;
+use std::fmt;
+
+/// Why a call was not accepted. The output is then as it was.
+///
+/// A call gives the first that applies, in its own order; see each call.
+///
+/// ```
+/// use kyzgultam::{pixtral_preprocess, PictureSettings, Refusal};
+///
+/// let settings = PictureSettings::default();
+/// let refused = pixtral_preprocess(&[0; 12], 2, 3, &settings, &mut []).unwrap_err();
+/// assert_eq!(refused, Refusal::RgbLength);
+/// assert_eq!(refused.number(), 3);
+/// assert_eq!(refused.to_string(), "the RGB length is not height × width × 3");
+/// ```
+#[derive(Clone, Copy, Debug, PartialEq, Eq, Hash)]
+#[non_exhaustive]
+pub enum Refusal {
+    /// 1: a setting is not allowed.
+    Setting,
+    /// 2: height or width is not in 1..8192.
+    Side,
+    /// 3: the RGB length is not height × width × 3.
+    RgbLength,
+    /// 4: the image size is below patch × merge.
+    ImageSize,
+    /// 5: the output is shorter than the result.
+    Output,
+    /// 6: a grid side is 0, above image size / patch, or not divisible by merge.
+    Grid,
+    /// 7: the patches' length does not fit the grid.
+    PatchesLength,
+    /// 8: a sample has bits that no byte has in its channel.
+    Sample,
+    /// 9: the weights' length is not that of the settings.
+    WeightsLength,
+    /// 10: a rotary table's length is not that of the settings.
+    TableLength,
+    /// 11: the scratch is too short.
+    Scratch,
+    /// 12: a value is not finite.
+    NotFinite,
+}
+
+impl Refusal {
+    /// Every refusal, by number.
+    pub const ALL: [Refusal; 12] = [
+        Refusal::Setting,
+        Refusal::Side,
+        Refusal::RgbLength,
+        Refusal::ImageSize,
+        Refusal::Output,
+        Refusal::Grid,
+        Refusal::PatchesLength,
+        Refusal::Sample,
+        Refusal::WeightsLength,
+        Refusal::TableLength,
+        Refusal::Scratch,
+        Refusal::NotFinite,
+    ];
+
+    /// The number, the same as in C and in the documents: 1 to 12.
+    pub fn number(self) -> u32 {
+        self as u32 + 1
+    }
+
+    /// What a number says: nothing at 0.
+    ///
+    /// # Panics
+    /// At a number that is no refusal: then the archives are of another version than this crate.
+    pub(crate) fn check(number: u32) -> Result<(), Refusal> {
+        match number {
+            0 => Ok(()),
+            n => match Refusal::ALL.get(n as usize - 1) {
+                Some(refusal) => Err(*refusal),
+                None => panic!("the archives answer {n}: they are of another version than this crate"),
+            },
+        }
+    }
+}
+
+impl fmt::Display for Refusal {
+    fn fmt(&self, f: &mut fmt::Formatter) -> fmt::Result {
+        f.write_str(match self {
+            Refusal::Setting => "a setting is not allowed",
+            Refusal::Side => "height or width is not in 1..8192",
+            Refusal::RgbLength => "the RGB length is not height × width × 3",
+            Refusal::ImageSize => "the image size is below patch × merge",
+            Refusal::Output => "the output is shorter than the result",
+            Refusal::Grid => "a side of the grid is 0, above image size / patch, or not divisible by merge",
+            Refusal::PatchesLength => "the patches' length is not grid_h × grid_w × 3 × patch²",
+            Refusal::Sample => "a sample has bits that no byte has in its channel",
+            Refusal::WeightsLength => "the weights' length is not that of the settings",
+            Refusal::TableLength => "a rotary table's length is not that of the settings",
+            Refusal::Scratch => "the scratch is too short",
+            Refusal::NotFinite => "a value is not finite, in the inputs or at a stage",
+        })
+    }
+}
+
+impl Error for Refusal {}

@@ -1,0 +1,272 @@
+//! Every number of every call, the order in which they are given, and what a refused call leaves alone.
+
+mod common;
+
+use common::{same, Random};
+use kyzgultam::{
+    forward, pixtral_preprocess, restore, EncoderSettings, Patches, PictureSettings, PixtralEncoder, Refusal,
+};
+
+const PICTURE: PictureSettings = PictureSettings { patch_size: 2, spatial_merge_size: 2, image_size: 8 };
+
+const ENCODER: EncoderSettings = EncoderSettings {
+    picture: PICTURE,
+    hidden_size: 8,
+    num_heads: 2,
+    head_dim: 4,
+    num_layers: 1,
+    intermediate_size: 5,
+    text_hidden_size: 3,
+    scaling: 0.5,
+};
+
+/// Ways to spoil a call, each with the number that it should get, in the call's order.
+type Spoils<C> = Vec<(u32, fn(&mut C))>;
+
+/// Spoils the call in one way and in all later ways: the first number is the answer.
+fn each<C: Clone>(good: &C, spoils: Spoils<C>, run: fn(&C) -> Result<(), Refusal>) {
+    assert_eq!(run(good), Ok(()));
+    for first in 0..spoils.len() {
+        let number = spoils[first].0;
+        let mut alone = good.clone();
+        spoils[first].1(&mut alone);
+        assert_eq!(run(&alone).unwrap_err().number(), number, "spoiled as {number} alone");
+        let mut many = good.clone();
+        // The later ones first, so that the one that is looked for has the last word.
+        for (_, spoil) in spoils[first..].iter().rev() {
+            spoil(&mut many);
+        }
+        assert_eq!(run(&many).unwrap_err().number(), number, "spoiled as {number} and later");
+    }
+}
+
+#[test]
+fn numbers_and_sentences() {
+    for (i, refusal) in Refusal::ALL.iter().enumerate() {
+        assert_eq!(refusal.number() as usize, i + 1);
+        let sentence = refusal.to_string();
+        assert!(sentence.len() > 20 && !sentence.ends_with('.'), "{sentence}");
+        assert!(Refusal::ALL[..i].iter().all(|other| other.to_string() != sentence));
+        let error: &dyn std::error::Error = refusal;
+        assert_eq!(error.to_string(), sentence);
+    }
+}
+
+#[derive(Clone)]
+struct Preprocess {
+    settings: PictureSettings,
+    rgb: Vec<u8>,
+    height: usize,
+    width: usize,
+    out: usize,
+}
+
+/// Runs the call on a marked output, which is to be untouched where it is refused and to keep its tail.
+fn preprocess(c: &Preprocess) -> Result<(), Refusal> {
+    let marks = Random(7).floats(c.out, 1e9);
+    let mut out = marks.clone();
+    let found = pixtral_preprocess(&c.rgb, c.height, c.width, &c.settings, &mut out);
+    let floats = found.map_or(0, |p| p.floats);
+    assert!(same(&out[floats..], &marks[floats..]));
+    assert!(out[..floats].iter().all(|x| x.abs() < 3.0));
+    found.map(drop)
+}
+
+#[test]
+fn preprocess_refuses() {
+    let good = Preprocess { settings: PICTURE, rgb: vec![9; 3 * 5 * 3], height: 3, width: 5, out: 4 * 8 * 3 + 7 };
+    let spoils: Spoils<Preprocess> = vec![
+        (1, |c| c.settings.spatial_merge_size = 0),
+        (2, |c| c.width = 8193),
+        (3, |c| c.rgb.push(0)),
+        (4, |c| c.settings.image_size = 3),
+        (5, |c| c.out = 4 * 8 * 3 - 1),
+    ];
+    each(&good, spoils, preprocess);
+    for side in [0, 8193, usize::MAX] {
+        for (height, width) in [(side, 5), (3, side), (side, side)] {
+            assert_eq!(preprocess(&Preprocess { height, width, ..good.clone() }), Err(Refusal::Side));
+        }
+    }
+    for rgb in [vec![], vec![9; 44]] {
+        assert_eq!(preprocess(&Preprocess { rgb, ..good.clone() }), Err(Refusal::RgbLength));
+    }
+    assert_eq!(preprocess(&Preprocess { out: 0, ..good }), Err(Refusal::Output));
+}
+
+#[derive(Clone)]
+struct Restore {
+    settings: PictureSettings,
+    patches: Vec<f32>,
+    grid: (usize, usize),
+    out: usize,
+}
+
+fn run_restore(c: &Restore) -> Result<(), Refusal> {
+    let marks = Random(7).bytes(c.out);
+    let mut out = marks.clone();
+    let found = restore(&c.patches, c.grid.0, c.grid.1, &c.settings, &mut out);
+    let bytes = found.map_or(0, |p| p.height * p.width * 3);
+    assert_eq!(out[bytes..], marks[bytes..]);
+    found.map(drop)
+}
+
+fn patches_of(rgb: &[u8], height: usize, width: usize) -> Vec<f32> {
+    let mut patches = vec![0.0; PICTURE.patches_len(height, width).unwrap()];
+    let found = pixtral_preprocess(rgb, height, width, &PICTURE, &mut patches);
+    assert_eq!(found, Ok(Patches { grid_h: height / 2, grid_w: width / 2, floats: rgb.len() }));
+    patches
+}
+
+#[test]
+fn restore_refuses() {
+    let patches = patches_of(&Random(3).bytes(4 * 8 * 3), 4, 8);
+    let good = Restore { settings: PICTURE, patches, grid: (2, 4), out: 4 * 8 * 3 + 5 };
+    let spoils: Spoils<Restore> = vec![
+        (1, |c| c.settings.patch_size = 33),
+        (6, |c| c.grid.1 = 6),
+        (7, |c| c.patches.push(0.0)),
+        (5, |c| c.out = 4 * 8 * 3 - 1),
+        (8, |c| c.patches[11] = 0.123),
+    ];
+    each(&good, spoils, run_restore);
+    for side in [0, 1, 3, 5, 6, usize::MAX] {
+        for grid in [(side, 4), (2, side)] {
+            assert_eq!(run_restore(&Restore { grid, ..good.clone() }), Err(Refusal::Grid), "{grid:?}");
+        }
+    }
+    for sample in [f32::NAN, f32::INFINITY, -0.0, good.patches[0] + 1e-6] {
+        let mut bad = good.clone();
+        bad.patches[0] = sample;
+        assert_eq!(run_restore(&bad), Err(Refusal::Sample), "{sample}");
+    }
+}
+
+#[derive(Clone)]
+struct Forward {
+    settings: EncoderSettings,
+    patches: Vec<f32>,
+    grid: (usize, usize),
+    weights: Vec<f32>,
+    cos: Vec<f32>,
+    sin: Vec<f32>,
+    scratch: usize,
+    out: usize,
+}
+
+fn run_forward(c: &Forward) -> Result<(), Refusal> {
+    let marks = Random(7).floats(c.out.max(c.scratch), 1e9);
+    let (mut out, mut scratch) = (marks[..c.out].to_vec(), marks[..c.scratch].to_vec());
+    let found =
+        forward(&c.settings, &c.patches, c.grid.0, c.grid.1, &c.weights, &c.cos, &c.sin, &mut scratch, &mut out);
+    let floats = found.map_or(0, |count| count * c.settings.text_hidden_size);
+    assert!(same(&out[floats..], &marks[floats..c.out]));
+    if matches!(found, Ok(_) | Err(Refusal::NotFinite)) {
+        assert!(same(&scratch, &vec![0.0; c.scratch]), "the scratch is +0 all over");
+    } else {
+        assert!(same(&scratch, &marks[..c.scratch]), "the scratch is as it was");
+    }
+    // The same through the struct.
+    let encoder = PixtralEncoder { settings: c.settings, weights: &c.weights, rope_cos: &c.cos, rope_sin: &c.sin };
+    let mut again = marks[..c.out].to_vec();
+    assert_eq!(encoder.forward(&c.patches, c.grid.0, c.grid.1, &mut scratch, &mut again), found);
+    assert!(same(&again, &out));
+    found.map(drop)
+}
+
+fn good_forward() -> Forward {
+    let mut random = Random(11);
+    Forward {
+        settings: ENCODER,
+        patches: patches_of(&random.bytes(4 * 8 * 3), 4, 8),
+        grid: (2, 4),
+        weights: random.floats(ENCODER.weights_len().unwrap(), 0.3),
+        cos: random.floats(ENCODER.tables_len().unwrap(), 1.0),
+        sin: random.floats(ENCODER.tables_len().unwrap(), 1.0),
+        scratch: ENCODER.scratch_len(2, 4).unwrap() + 9,
+        out: ENCODER.tokens_len(2, 4).unwrap() + 5,
+    }
+}
+
+#[test]
+fn forward_refuses() {
+    let good = good_forward();
+    let spoils: Spoils<Forward> = vec![
+        (1, |c| c.settings.num_layers = 49),
+        (6, |c| c.grid.0 = 3),
+        (7, |c| c.patches.truncate(c.patches.len() - 1)),
+        (9, |c| c.weights.truncate(c.weights.len() - 1)),
+        (10, |c| c.sin.push(0.0)),
+        (5, |c| c.out = 5),
+        (11, |c| c.scratch -= 10),
+        (12, |c| c.weights[3] = f32::NAN),
+    ];
+    each(&good, spoils, run_forward);
+    let others: Spoils<Forward> = vec![
+        (6, |c| c.grid.1 = 0),
+        (6, |c| c.grid.1 = usize::MAX),
+        (7, |c| c.patches.clear()),
+        (9, |c| c.weights.push(0.0)),
+        (9, |c| c.weights.clear()),
+        (10, |c| c.cos.truncate(c.cos.len() - 1)),
+        (10, |c| c.cos.clear()),
+        (5, |c| c.out = 0),
+        (11, |c| c.scratch = 0),
+        (12, |c| c.patches[0] = f32::INFINITY),
+        (12, |c| *c.cos.last_mut().unwrap() = f32::NEG_INFINITY),
+        (12, |c| *c.sin.last_mut().unwrap() = f32::NAN),
+        // Finite inputs, but a stage that is not.
+        (12, |c| c.weights.fill(f32::MAX)),
+    ];
+    for (number, spoil) in others {
+        let mut bad = good.clone();
+        spoil(&mut bad);
+        assert_eq!(run_forward(&bad).unwrap_err().number(), number);
+    }
+}
+
+#[test]
+fn settings_at_their_ends() {
+    type Field<S> = fn(&mut S) -> &mut usize;
+    let picture: [(Field<PictureSettings>, usize); 3] =
+        [(|s| &mut s.patch_size, 32), (|s| &mut s.spatial_merge_size, 4), (|s| &mut s.image_size, 2048)];
+    for (field, most) in picture {
+        for value in [0, most + 1, usize::MAX] {
+            let mut settings = PICTURE;
+            *field(&mut settings) = value;
+            assert_eq!(pixtral_preprocess(&[0; 3], 1, 1, &settings, &mut [0.0; 48]), Err(Refusal::Setting));
+            assert_eq!(restore(&[], 2, 2, &settings, &mut []), Err(Refusal::Setting));
+            assert_eq!(settings.patches_len(1, 1), Err(Refusal::Setting));
+            assert_eq!(settings.restored_len(2, 2), Err(Refusal::Setting));
+            let mut bad = good_forward();
+            bad.settings.picture = settings;
+            assert_eq!(run_forward(&bad), Err(Refusal::Setting));
+            assert_eq!(bad.settings.weights_len(), Err(Refusal::Setting));
+        }
+    }
+    let encoder: [(Field<EncoderSettings>, &[usize]); 6] = [
+        (|s| &mut s.hidden_size, &[0, 7, 9, 2049, usize::MAX]),
+        (|s| &mut s.num_heads, &[0, 1, 3, 65, usize::MAX]),
+        (|s| &mut s.head_dim, &[0, 2, 3, 8, 260, usize::MAX]),
+        (|s| &mut s.num_layers, &[49, usize::MAX]),
+        (|s| &mut s.intermediate_size, &[0, 8193, usize::MAX]),
+        (|s| &mut s.text_hidden_size, &[0, 8193, usize::MAX]),
+    ];
+    for (field, values) in encoder {
+        for value in values {
+            let mut bad = good_forward();
+            *field(&mut bad.settings) = *value;
+            assert_eq!(run_forward(&bad), Err(Refusal::Setting));
+            assert_eq!(bad.settings.weights_len(), Err(Refusal::Setting));
+            assert_eq!(bad.settings.tables_len(), Err(Refusal::Setting));
+            assert_eq!(bad.settings.scratch_len(2, 4), Err(Refusal::Setting));
+            assert_eq!(bad.settings.tokens_len(2, 4), Err(Refusal::Setting));
+        }
+    }
+    for scaling in [0.0, -0.0, -1.0, f32::INFINITY, f32::NEG_INFINITY, f32::NAN] {
+        let mut bad = good_forward();
+        bad.settings.scaling = scaling;
+        assert_eq!(run_forward(&bad), Err(Refusal::Setting));
+        assert_eq!(bad.settings.weights_len(), Err(Refusal::Setting));
+    }
+}
