@@ -10,16 +10,28 @@ extern "C" {
 #endif
 
 /*
- * Pictures and the encoder (libkyzgultam.a). A call takes any numbers and returns. What a caller owes, and nothing checks: each
- * length is true of its buffer, no output overlaps another buffer, and a pointer is null only where its length is 0.
+ * Pictures and the encoder (libkyzgultam.a). A call takes any numbers and returns. What a caller owes, and nothing
+ * checks: each length is true of its buffer, no output overlaps another buffer, and a pointer is null only where its
+ * length is 0.
  *
- * A call answers with a number: 0 accepted; 1 a setting is not allowed; 2 height or width not in 1..8192; 3 the RGB
- * length is not height * width * 3; 4 the image size is below patch * merge; 5 the output is too short; 6 a grid side
- * is 0, above image size / patch, or not divisible by merge; 7 the patches' length does not fit the grid; 8 a sample
- * has bits that no byte has in its channel; 9 the weights' length is not that of the settings; 10 a table's length is
- * not; 11 the scratch is too short; 12 a value is not finite. With any number but 0 every size is 0 and the output is
- * as it was. An output longer than the result keeps its tail.
+ * A call answers with a number: the first that applies, in the order that stands with the call. With any number but 0
+ * every size is 0 and the output is as it was. An output longer than the result keeps its tail.
  */
+enum kz_number {
+    KZ_ACCEPTED = 0,
+    KZ_SETTING = 1,        /* a setting is not allowed: what is stands with the fields */
+    KZ_SIDE = 2,           /* height or width is not in 1..8192 */
+    KZ_RGB_LENGTH = 3,     /* the RGB length is not height * width * 3 */
+    KZ_IMAGE_SIZE = 4,     /* the image size is below patch * merge */
+    KZ_OUTPUT = 5,         /* the output is shorter than the result */
+    KZ_GRID = 6,           /* a grid side is 0, above image size / patch, or not divisible by merge */
+    KZ_PATCHES_LENGTH = 7, /* the patches' length is not grid_h * grid_w * 3 * patch^2 */
+    KZ_SAMPLE = 8,         /* a sample has bits that no byte has in its channel */
+    KZ_WEIGHTS_LENGTH = 9, /* the weights' length is not that of the settings */
+    KZ_TABLE_LENGTH = 10,  /* a rotary table's length is not P^2 * head_dim, P = image size / patch */
+    KZ_SCRATCH = 11,       /* the scratch is shorter than kz_forward needs */
+    KZ_NOT_FINITE = 12     /* a value is not finite, in the inputs or at a stage */
+};
 
 struct kz_picture_settings {
     size_t patch_size;         /* 1..32 */
@@ -28,7 +40,7 @@ struct kz_picture_settings {
 };
 
 struct kz_preprocess_report {
-    uint32_t number;
+    uint32_t number; /* an enum kz_number, as in each report */
     size_t grid_h, grid_w;
     size_t floats; /* written to the output */
 };
@@ -42,11 +54,11 @@ struct kz_patch_place {
     size_t start, len; /* 0 and 0 where there is no such patch */
 };
 
-/* The patches of a picture: height * width pixels of three bytes. */
+/* The patches of a picture: height * width pixels of three bytes. Refused with 1, 2, 3, 4, 5. */
 struct kz_preprocess_report kz_preprocess(struct kz_picture_settings settings, const uint8_t *rgb, size_t rgb_len,
                                           size_t height, size_t width, float *out, size_t out_len);
 
-/* The resized picture that gave the patches. */
+/* The resized picture that gave the patches. Refused with 1, 6, 7, 5, 8. */
 struct kz_restore_report kz_restore(struct kz_picture_settings settings, const float *patches, size_t patches_len,
                                     size_t grid_h, size_t grid_w, uint8_t *out, size_t out_len);
 
@@ -70,12 +82,13 @@ struct kz_forward_report {
 };
 
 /*
- * The token vectors of patches. With t = grid_h * grid_w, o = t / merge^2, H, I and X the hidden, intermediate and text
- * sizes, P = image size / patch: the weights are patch_conv, ln_pre; for each layer attention_norm, q, k, v, o,
- * ffn_norm, gate, up, down; then the projector's norm, merging_layer, linear_1, linear_2; matrices row-major, [out, in].
- * Each table has P * P * head_dim floats, the row of (h, w) at h * P + w. The scratch has at least
- * 7*t*H + 2*t*I + t + 2*o*X floats; after 0 and 12 all of it is +0, after any other number it is as it was. The output
- * has at least o * X floats.
+ * The token vectors of patches. With t = grid_h * grid_w, o = t / merge^2, H, I and X the hidden, intermediate and
+ * text sizes, P = image size / patch: the weights are patch_conv, ln_pre; for each layer attention_norm, q, k, v, o,
+ * ffn_norm, gate, up, down; then the projector's norm, merging_layer, linear_1, linear_2; matrices row-major, [out,
+ * in]. Each table has P * P * head_dim floats, the row of (h, w) at h * P + w. The scratch has at least 7*t*H +
+ * 2*t*I + t + 2*o*X floats; after 0 and 12 all of it is +0, after any other number it is as it was. The output has
+ * at least o * X floats.
+ * Refused with 1, 6, 7, 9, 10, 5, 11, 12.
  */
 struct kz_forward_report kz_forward(struct kz_encoder_settings settings, const float *patches, size_t patches_len,
                                     size_t grid_h, size_t grid_w, const float *weights, size_t weights_len,

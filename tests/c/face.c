@@ -1,0 +1,225 @@
+/* The C face as a C program sees it: every call, every number of every call, and what is written. */
+#include "kyzgultam.h"
+
+#include <stdio.h>
+#include <stdlib.h>
+#include <string.h>
+
+static int failed;
+
+static void expect(int ok, const char *what, int line) {
+    if (!ok) {
+        fprintf(stderr, "face.c:%d: %s\n", line, what);
+        failed = 1;
+    }
+}
+#define EXPECT(x) expect((x), #x, __LINE__)
+
+enum { SIDE_H = 4, SIDE_W = 8, FLOATS = SIDE_H * SIDE_W * 3, TAIL = 5 };
+
+static const struct kz_picture_settings picture = {2, 2, 8};
+
+static float mark(size_t i) { return 1e9f + (float)i * 1024.0f; }
+
+static void mark_all(float *x, size_t n) {
+    for (size_t i = 0; i < n; i++) x[i] = mark(i);
+}
+
+/* Whether x is marked from a place on. */
+static int marked(const float *x, size_t from, size_t n) {
+    for (size_t i = from; i < n; i++)
+        if (x[i] != mark(i)) return 0;
+    return 1;
+}
+
+static uint8_t rgb[FLOATS];
+static float patches[FLOATS];
+
+static void preprocess(void) {
+    float out[FLOATS + TAIL];
+    struct kz_preprocess_report r;
+
+    mark_all(out, FLOATS + TAIL);
+    r = kz_preprocess(picture, rgb, FLOATS, SIDE_H, SIDE_W, out, FLOATS + TAIL);
+    EXPECT(r.number == KZ_ACCEPTED && r.grid_h == 2 && r.grid_w == 4 && r.floats == FLOATS);
+    EXPECT(marked(out, FLOATS, FLOATS + TAIL));
+    EXPECT(!marked(out, FLOATS - 1, FLOATS));
+    memcpy(patches, out, sizeof patches);
+    /* The sample at row 3, column 5, channel 1: (byte / 255 - mean) / std, in patch (3 / 2) * 4 + 5 / 2. */
+    {
+        float byte = rgb[(3 * SIDE_W + 5) * 3 + 1];
+        float sample = (byte / 255.0f - 0.4578275f) / 0.26130258f;
+        EXPECT(patches[6 * 12 + 4 + 2 + 1] == sample);
+    }
+
+    struct {
+        uint32_t number;
+        struct kz_picture_settings settings;
+        size_t rgb_len, height, width, out_len;
+    } calls[] = {
+        {KZ_SETTING, {0, 2, 8}, FLOATS, SIDE_H, SIDE_W, FLOATS},
+        {KZ_SETTING, {2, 5, 8}, 0, 0, 0, 0},
+        {KZ_SETTING, {2, 2, SIZE_MAX}, FLOATS, SIDE_H, SIDE_W, FLOATS},
+        {KZ_SIDE, {2, 2, 8}, FLOATS, 0, SIDE_W, FLOATS},
+        {KZ_SIDE, {2, 2, 3}, 0, SIDE_H, 8193, 0},
+        {KZ_RGB_LENGTH, {2, 2, 8}, FLOATS - 1, SIDE_H, SIDE_W, FLOATS},
+        {KZ_RGB_LENGTH, {2, 2, 3}, 0, SIDE_H, SIDE_W, 0},
+        {KZ_IMAGE_SIZE, {2, 2, 3}, FLOATS, SIDE_H, SIDE_W, 0},
+        {KZ_OUTPUT, {2, 2, 8}, FLOATS, SIDE_H, SIDE_W, FLOATS - 1},
+        {KZ_OUTPUT, {2, 2, 8}, FLOATS, SIDE_H, SIDE_W, 0},
+    };
+    for (size_t i = 0; i < sizeof calls / sizeof *calls; i++) {
+        mark_all(out, FLOATS + TAIL);
+        r = kz_preprocess(calls[i].settings, calls[i].rgb_len ? rgb : NULL, calls[i].rgb_len, calls[i].height,
+                          calls[i].width, calls[i].out_len ? out : NULL, calls[i].out_len);
+        EXPECT(r.number == calls[i].number && r.grid_h == 0 && r.grid_w == 0 && r.floats == 0);
+        EXPECT(marked(out, 0, FLOATS + TAIL));
+    }
+}
+
+static void restore(void) {
+    uint8_t out[FLOATS + TAIL], before[FLOATS + TAIL];
+    struct kz_restore_report r;
+
+    memset(before, 0xA5, sizeof before);
+    memcpy(out, before, sizeof out);
+    r = kz_restore(picture, patches, FLOATS, 2, 4, out, sizeof out);
+    EXPECT(r.number == KZ_ACCEPTED && r.height == SIDE_H && r.width == SIDE_W);
+    EXPECT(memcmp(out, rgb, FLOATS) == 0);
+    EXPECT(memcmp(out + FLOATS, before + FLOATS, TAIL) == 0);
+
+    struct {
+        uint32_t number;
+        struct kz_picture_settings settings;
+        size_t patches_len, grid_h, grid_w, out_len;
+        float damage; /* added to sample 7 */
+    } calls[] = {
+        {KZ_SETTING, {33, 2, 8}, FLOATS, 2, 4, FLOATS, 0},
+        {KZ_GRID, {2, 2, 8}, FLOATS, 2, 6, FLOATS, 0},
+        {KZ_GRID, {2, 2, 8}, 0, 3, 4, 0, 0},
+        {KZ_GRID, {2, 2, 8}, 0, SIZE_MAX - 1, SIZE_MAX - 1, 0, 0},
+        {KZ_PATCHES_LENGTH, {2, 2, 8}, FLOATS - 1, 2, 4, 0, 0},
+        {KZ_OUTPUT, {2, 2, 8}, FLOATS, 2, 4, FLOATS - 1, 1},
+        {KZ_SAMPLE, {2, 2, 8}, FLOATS, 2, 4, FLOATS, 1},
+    };
+    for (size_t i = 0; i < sizeof calls / sizeof *calls; i++) {
+        float damaged[FLOATS];
+        memcpy(damaged, patches, sizeof damaged);
+        damaged[7] += calls[i].damage;
+        memcpy(out, before, sizeof out);
+        r = kz_restore(calls[i].settings, damaged, calls[i].patches_len, calls[i].grid_h, calls[i].grid_w, out,
+                       calls[i].out_len);
+        EXPECT(r.number == calls[i].number && r.height == 0 && r.width == 0);
+        EXPECT(memcmp(out, before, sizeof out) == 0);
+    }
+}
+
+static void patch(void) {
+    struct kz_patch_place p = kz_patch(patches, FLOATS, 2, 3);
+    EXPECT(p.start == 36 && p.len == 12);
+    p = kz_patch(patches, FLOATS, 2, 8);
+    EXPECT(p.start == 0 && p.len == 0);
+    p = kz_patch(patches, FLOATS, 2, SIZE_MAX);
+    EXPECT(p.start == 0 && p.len == 0);
+    p = kz_patch(patches, FLOATS, 0, 0);
+    EXPECT(p.start == 0 && p.len == 0);
+    p = kz_patch(patches, FLOATS, 33, 0);
+    EXPECT(p.start == 0 && p.len == 0);
+    p = kz_patch(NULL, 0, 1, 0);
+    EXPECT(p.start == 0 && p.len == 0);
+}
+
+/* H 4, I 5, X 3, one layer. */
+enum {
+    WEIGHTS = 4 * 12 + 4 + (2 * 4 + 4 * 16 + 3 * 4 * 5) + 4 + 4 * 4 * 4 + 3 * 4 + 3 * 3,
+    TABLE = 4 * 4 * 4,
+    SCRATCH = 7 * 8 * 4 + 2 * 8 * 5 + 8 + 2 * 2 * 3,
+    TOKENS = 2 * 3
+};
+
+static void forward(void) {
+    const struct kz_encoder_settings good = {{2, 2, 8}, 4, 1, 4, 1, 5, 3, 0.5f};
+    float weights[WEIGHTS], rope_cos[TABLE], rope_sin[TABLE], scratch[SCRATCH + TAIL], out[TOKENS + TAIL];
+    float first[TOKENS];
+    struct kz_forward_report r;
+
+    for (size_t i = 0; i < WEIGHTS; i++) weights[i] = (float)(int)(i * 37 % 41) / 82.0f - 0.2f;
+    for (size_t i = 0; i < TABLE; i++) {
+        rope_cos[i] = 0.8f;
+        rope_sin[i] = 0.6f;
+    }
+    mark_all(scratch, SCRATCH + TAIL);
+    mark_all(out, TOKENS + TAIL);
+    r = kz_forward(good, patches, FLOATS, 2, 4, weights, WEIGHTS, rope_cos, TABLE, rope_sin, TABLE, scratch,
+                   SCRATCH + TAIL, out, TOKENS + TAIL);
+    EXPECT(r.number == KZ_ACCEPTED && r.tokens == 2);
+    EXPECT(marked(out, TOKENS, TOKENS + TAIL) && !marked(out, 0, 1));
+    for (size_t i = 0; i < SCRATCH + TAIL; i++) {
+        static const float zero = 0.0f;
+        EXPECT(memcmp(scratch + i, &zero, sizeof zero) == 0);
+    }
+    /* The same bits again, from another scratch. */
+    memcpy(first, out, sizeof first);
+    mark_all(scratch, SCRATCH);
+    r = kz_forward(good, patches, FLOATS, 2, 4, weights, WEIGHTS, rope_cos, TABLE, rope_sin, TABLE, scratch, SCRATCH,
+                   out, TOKENS);
+    EXPECT(r.number == KZ_ACCEPTED && memcmp(first, out, sizeof first) == 0);
+
+    struct {
+        uint32_t number;
+        size_t layers, grid_w, patches_len, weights_len, cos_len, sin_len, out_len, scratch_len;
+        float damage; /* over the last weight */
+    } calls[] = {
+        {KZ_SETTING, 49, 4, FLOATS, WEIGHTS, TABLE, TABLE, TOKENS, SCRATCH, 0},
+        {KZ_GRID, 1, 5, FLOATS, WEIGHTS, TABLE, TABLE, TOKENS, SCRATCH, 0},
+        {KZ_PATCHES_LENGTH, 1, 4, FLOATS - 1, 0, 0, 0, 0, 0, 0},
+        {KZ_WEIGHTS_LENGTH, 0, 4, FLOATS, WEIGHTS, 0, 0, 0, 0, 0},
+        {KZ_WEIGHTS_LENGTH, 1, 4, FLOATS, WEIGHTS - 1, TABLE, TABLE, TOKENS, SCRATCH, 0},
+        {KZ_TABLE_LENGTH, 1, 4, FLOATS, WEIGHTS, TABLE - 1, TABLE, 0, 0, 0},
+        {KZ_TABLE_LENGTH, 1, 4, FLOATS, WEIGHTS, TABLE, 0, TOKENS, SCRATCH, 0},
+        {KZ_OUTPUT, 1, 4, FLOATS, WEIGHTS, TABLE, TABLE, TOKENS - 1, 0, 0},
+        {KZ_SCRATCH, 1, 4, FLOATS, WEIGHTS, TABLE, TABLE, TOKENS, SCRATCH - 1, 1},
+        {KZ_NOT_FINITE, 1, 4, FLOATS, WEIGHTS, TABLE, TABLE, TOKENS, SCRATCH, 1},
+    };
+    for (size_t i = 0; i < sizeof calls / sizeof *calls; i++) {
+        struct kz_encoder_settings s = good;
+        float last = weights[WEIGHTS - 1];
+        s.num_layers = calls[i].layers;
+        if (calls[i].damage != 0) weights[WEIGHTS - 1] = strtof("inf", NULL);
+        mark_all(scratch, SCRATCH);
+        mark_all(out, TOKENS);
+        r = kz_forward(s, patches, calls[i].patches_len, 2, calls[i].grid_w, weights, calls[i].weights_len, rope_cos,
+                       calls[i].cos_len, rope_sin, calls[i].sin_len, scratch, calls[i].scratch_len, out,
+                       calls[i].out_len);
+        EXPECT(r.number == calls[i].number && r.tokens == 0);
+        EXPECT(marked(out, 0, TOKENS));
+        if (r.number == KZ_NOT_FINITE) {
+            for (size_t k = 0; k < SCRATCH; k++) EXPECT(scratch[k] == 0.0f);
+        } else {
+            EXPECT(marked(scratch, 0, SCRATCH));
+        }
+        weights[WEIGHTS - 1] = last;
+    }
+}
+
+static void number(void) {
+    EXPECT(kz_bf16(0x3F808000) == 0x3F800000 && kz_bf16(0x3F818000) == 0x3F820000);
+    EXPECT(kz_bf16(0x7FFFFFFF) == 0x80000000 && kz_bf16(0x7F7FFFFF) == 0x7F800000);
+    EXPECT(kz_half(0x0001) == 0x33800000 && kz_half(0x7BFF) == 0x477FE000 && kz_half(0xFC00) == 0xFF800000);
+    EXPECT(kz_root(0x40800000) == 0x40000000 && kz_root(0x80000000) == 0x80000000);
+    EXPECT(kz_root(0xBF800000) == 0x7FC00000 && kz_root(0x7F800000) == 0x7F800000);
+    EXPECT(kz_exp(0) == 0x3F800000 && kz_exp(0x42B20000) == 0x7F800000 && kz_exp(0xC2D00000) == 0);
+    EXPECT(kz_tanh(0) == 0 && kz_tanh(0x41200000) == 0x3F800000 && kz_tanh(0xC1200000) == 0xBF800000);
+    EXPECT(kz_exp(0xFFFFFFFF) == 0x7FC00000 && kz_tanh(0x7F800001) == 0x7FC00000);
+}
+
+int main(void) {
+    for (size_t i = 0; i < FLOATS; i++) rgb[i] = (uint8_t)(i * 89 + 17);
+    preprocess();
+    restore();
+    patch();
+    forward();
+    number();
+    if (!failed) puts("face.c: every call and every number is as the header says");
+    return failed;
+}
