@@ -1,0 +1,62 @@
+//! `kz compare`: which patches of two sweeps are equal.
+
+use crate::encode::Cutter;
+use crate::fail::Fail;
+use crate::given::Given;
+use crate::netpbm::{ppm, Picture};
+use crate::png::png;
+use crate::{files, paint, say};
+use kyzgultam::{patch, restore};
+
+pub const HELP: &str = "\
+kz compare A.ppm B.ppm [-o OUT.png] [--settings LIST] [--force]
+
+Says how many patches of A and B are equal, bit for bit, and which is the
+first that is not. With -o it writes a picture of A in which the patches
+that differ are red (PPM, if OUT ends in .ppm). Exit status 0 whether they
+differ or not. Of --settings (`kz encode --help`) patch, merge and image
+are used.
+";
+
+pub fn run(given: &Given) -> Result<(), Fail> {
+    let [a, b] = &given.files[..] else {
+        return Err(Fail::usage("compare takes two files, A.ppm and B.ppm"));
+    };
+    let out = given.path("-o");
+    if let Some(out) = &out {
+        files::vacant(out, given.force)?;
+    }
+    let settings = given.settings()?.picture;
+    let (mut first, mut second) = (Cutter::default(), Cutter::default());
+    let grid = first.cut(a, &settings)?;
+    let other = second.cut(b, &settings)?;
+    if grid != other {
+        let (a, b) = (a.display(), b.display());
+        return Err(Fail::Refused(format!(
+            "{a} has a grid of {}x{} patches and {b} one of {}x{}; compare pictures of one size",
+            grid.0, grid.1, other.0, other.1
+        )));
+    }
+    let bits = |x: &[f32]| x.iter().map(|f| f.to_bits()).collect::<Vec<_>>();
+    let count = grid.0 * grid.1;
+    let p = settings.patch_size;
+    let differ: Vec<bool> =
+        (0..count).map(|i| bits(patch(&first.patches, p, i)) != bits(patch(&second.patches, p, i))).collect();
+    let equal = differ.iter().filter(|d| !**d).count();
+    let tail = match differ.iter().position(|d| *d) {
+        Some(i) => format!("; the first that differs is at row {}, column {} (from 0)", i / grid.1, i % grid.1),
+        None => String::new(),
+    };
+    say(format_args!("{equal} of {count} patches are equal{tail}"));
+    if let Some(out) = out {
+        let mut rgb = vec![0; first.patches.len()];
+        let size =
+            restore(&first.patches, grid.0, grid.1, &settings, &mut rgb).map_err(|r| Fail::call(a, r, "report it"))?;
+        let map = paint::marks(&Picture { height: size.height, width: size.width, rgb }, grid, &differ);
+        let netpbm = out.extension().is_some_and(|e| e == "ppm");
+        let bytes = if netpbm { ppm } else { png }(map.height, map.width, &map.rgb);
+        files::write(&out, &bytes, given.force)?;
+        say(format_args!("{}: the patches that differ are red", out.display()));
+    }
+    Ok(())
+}

@@ -1,0 +1,125 @@
+//! `kz demo`: a synthetic sweep goes to patches and tokens, and comes back.
+
+use crate::fail::Fail;
+use crate::given::Given;
+use crate::model::{refused_settings, Model};
+use crate::netpbm::{ppm, Picture};
+use crate::png::png;
+use crate::{files, paint, say, sweep};
+use std::path::PathBuf;
+use std::time::Instant;
+
+pub const HELP: &str = "\
+kz demo [-o DIR] [--force]
+
+Makes a synthetic ultrasound-like sweep, takes it to patches and to token
+vectors with the built-in small model, and brings it back from its patches.
+Writes to DIR (kz-demo, if -o is not given):
+
+  sweep.png       the sweep, and sweep.ppm for `kz encode` and the others
+  resized.png     the sweep as it is resized before it is cut into patches
+  restored.png    what restore makes of the patches: identical, and checked
+  similarity.png  how alike each token is to the centre token (cosine)
+  overview.png    resized, restored and similarity, side by side
+
+The model's weights come from a seed and were never trained: what is alike
+here is brightness and texture.
+";
+
+pub fn run(given: &Given) -> Result<(), Fail> {
+    if !given.files.is_empty() {
+        return Err(Fail::usage("demo takes no files"));
+    }
+    let folder = given.path("-o").unwrap_or(PathBuf::from("kz-demo"));
+    files::folder(&folder)?;
+    let names = ["sweep.png", "sweep.ppm", "resized.png", "restored.png", "similarity.png", "overview.png"];
+    for name in names {
+        files::vacant(&folder.join(name), given.force)?;
+    }
+    let write = |name: &str, bytes: Vec<u8>, words: String| {
+        let file = folder.join(name);
+        files::write(&file, &bytes, given.force)?;
+        say(format_args!("{:<24} {words}", file.display()));
+        Ok::<(), Fail>(())
+    };
+    let picture = |p: &Picture| png(p.height, p.width, &p.rgb);
+
+    let model = Model::read(given)?;
+    let settings = model.settings.picture;
+    let sweep = sweep::sweep(490, 650, 20);
+    write("sweep.png", picture(&sweep), format!("{}x{}, made from a seed", sweep.height, sweep.width))?;
+    write("sweep.ppm", ppm(sweep.height, sweep.width, &sweep.rgb), "the same, to try the other commands on".into())?;
+
+    let start = Instant::now();
+    let mut patches = vec![0.0; settings.patches_len(sweep.height, sweep.width).map_err(refused_settings)?];
+    let cut = kyzgultam::pixtral_preprocess(&sweep.rgb, sweep.height, sweep.width, &settings, &mut patches);
+    let cut = cut.map_err(refused_settings)?;
+    let (to_patches, start) = (start.elapsed(), Instant::now());
+    let tokens = model.forward(&patches, (cut.grid_h, cut.grid_w), &mut vec![]).map_err(refused_settings)?;
+    let (to_tokens, start) = (start.elapsed(), Instant::now());
+    let mut rgb = vec![0; patches.len()];
+    let size = kyzgultam::restore(&patches, cut.grid_h, cut.grid_w, &settings, &mut rgb).map_err(refused_settings)?;
+    let back = start.elapsed();
+    let restored = Picture { height: size.height, width: size.width, rgb };
+
+    let resized = resize(&sweep, restored.height, restored.width);
+    write("resized.png", picture(&resized), format!("{}x{}, by plain Rust", resized.height, resized.width))?;
+    let count = cut.grid_h * cut.grid_w;
+    let same = if restored.rgb == resized.rgb { "identical to resized.png" } else { "NOT as resized.png" };
+    write("restored.png", picture(&restored), format!("{}x{}, from {count} patches: {same}", size.height, size.width))?;
+
+    let merge = settings.spatial_merge_size;
+    let grid = (cut.grid_h / merge, cut.grid_w / merge);
+    let centre = (grid.0 / 2, grid.1 / 2);
+    let alike = similarity(&tokens, model.settings.text_hidden_size, centre.0 * grid.1 + centre.1);
+    let least = alike.iter().fold(1f32, |a, b| a.min(*b));
+    let mut heat = paint::heat(&restored, grid, &alike);
+    paint::frame(&mut heat, grid, centre);
+    let words = format!("{}x{} tokens, each to the centre one: cosines {least:.2} to 1.00", grid.0, grid.1);
+    write("similarity.png", picture(&heat), words)?;
+    let words = "resized, restored and similarity, side by side".into();
+    write("overview.png", picture(&paint::strip(&[&resized, &restored, &heat])), words)?;
+    let ms = |t: std::time::Duration| t.as_secs_f64() * 1e3;
+    say(format_args!(
+        "preprocess {:.1} ms, forward {:.0} ms, restore {:.1} ms, on one core",
+        ms(to_patches),
+        ms(to_tokens),
+        ms(back)
+    ));
+    if restored.rgb != resized.rgb {
+        return Err(Fail::file(&folder.join("restored.png"), "is not as resized.png: this is a fault, report it"));
+    }
+    Ok(())
+}
+
+/// The cosine of each token to one of them.
+fn similarity(tokens: &[f32], len: usize, centre: usize) -> Vec<f32> {
+    let dot = |a: &[f32], b: &[f32]| a.iter().zip(b).map(|(x, y)| x * y).sum::<f32>();
+    let c = &tokens[centre * len..(centre + 1) * len];
+    tokens.chunks_exact(len).map(|t| dot(t, c) / (dot(t, t) * dot(c, c)).sqrt().max(f32::MIN_POSITIVE)).collect()
+}
+
+/// The resize of document 01, in plain Rust: it is what restore is held to here.
+fn resize(from: &Picture, height: usize, width: usize) -> Picture {
+    let near = |i: usize, source: usize, target: usize| {
+        let place = i as f64 * (source as f64 / target as f64);
+        let first = (place.floor() as usize).min(source - 1);
+        (first, (first + 1).min(source - 1), place - first as f64)
+    };
+    let mut rgb = Vec::with_capacity(height * width * 3);
+    for y in 0..height {
+        let (y0, y1, v) = near(y, from.height, height);
+        for x in 0..width {
+            let (x0, x1, u) = near(x, from.width, width);
+            for c in 0..3 {
+                let at = |y: usize, x: usize| f64::from(from.rgb[(y * from.width + x) * 3 + c]);
+                let value = at(y0, x0) * (1.0 - u) * (1.0 - v)
+                    + at(y0, x1) * u * (1.0 - v)
+                    + at(y1, x0) * (1.0 - u) * v
+                    + at(y1, x1) * u * v;
+                rgb.push(value.round().clamp(0.0, 255.0) as u8);
+            }
+        }
+    }
+    Picture { height, width, rgb }
+}

@@ -1,0 +1,140 @@
+//! `kz encode` and `kz patches`: sweeps to files of floats.
+
+use crate::fail::Fail;
+use crate::given::Given;
+use crate::model::{refused_settings, Model};
+use crate::progress::Progress;
+use crate::{files, netpbm};
+use kyzgultam::{pixtral_preprocess, PictureSettings, Refusal};
+use std::collections::BTreeMap;
+use std::path::{Path, PathBuf};
+
+pub const ENCODE: &str = "\
+kz encode SWEEP.ppm .. -o DIR [--weights FILE] [--tables FILE]
+          [--settings LIST] [--force]
+
+Writes the token vectors of each SWEEP (P5 or P6) to DIR/SWEEP.HxW.tokens,
+H rows of W vectors. Files are floats: f32, little-endian, in document 01's
+order. Without --weights they come from a seed; without --tables they are
+the Rust's, for theta 10000. A tables file has all cosines, then all sines.
+
+--settings is a list as patch=14,image=560; what it leaves out is built in:
+  patch 14 (1..32)   hidden 64 (4..2048)  layers 2 (0..48)
+  merge 2 (1..4)     heads 4 (1..64)      intermediate 128 (1..8192)
+  image 1540         head: hidden / heads text 64 (1..8192)
+    (1..2048)          (4, 8 .. 256)      scale: 1 / root of head
+";
+
+pub const PATCHES: &str = "\
+kz patches SWEEP.ppm .. -o DIR [--settings LIST] [--force]
+
+Writes the patches of each SWEEP (P5 or P6) to DIR/SWEEP.HxW.patches, H rows
+of W patches. Files are floats: f32, little-endian, in document 01's order.
+`kz restore` brings the picture back. Of --settings (`kz encode --help`)
+patch, merge and image are used.
+";
+
+/// Patches of one picture after another, in one buffer.
+#[derive(Default)]
+pub struct Cutter {
+    pub patches: Vec<f32>,
+}
+
+impl Cutter {
+    /// Reads a picture and cuts it: the grid, and the patches in the buffer.
+    pub fn cut(&mut self, file: &Path, settings: &PictureSettings) -> Result<(usize, usize), Fail> {
+        let picture = netpbm::read(file)?;
+        let (height, width) = (picture.height, picture.width);
+        let cut = settings.patches_len(height, width).and_then(|floats| {
+            self.patches.resize(floats, 0.0);
+            pixtral_preprocess(&picture.rgb, height, width, settings, &mut self.patches)
+        });
+        let cut = cut.map_err(|refusal| match refusal {
+            Refusal::Setting => refused_settings(refusal),
+            Refusal::ImageSize => Fail::call(file, refusal, "give a larger image= in --settings"),
+            _ => Fail::call(file, refusal, "cut or shrink the picture"),
+        })?;
+        Ok((cut.grid_h, cut.grid_w))
+    }
+}
+
+pub fn encode(given: &Given) -> Result<(), Fail> {
+    let folder = given.needed("-o", "DIR")?;
+    let names = names(&given.files)?;
+    let model = Model::read(given)?;
+    let merge = model.settings.picture.spatial_merge_size;
+    let (mut cutter, mut scratch) = (Cutter::default(), vec![]);
+    each(given, &folder, &names, |file, name| {
+        let grid = cutter.cut(file, &model.settings.picture)?;
+        let out = folder.join(format!("{name}.{}x{}.tokens", grid.0 / merge, grid.1 / merge));
+        files::vacant(&out, given.force)?;
+        let tokens = model.forward(&cutter.patches, grid, &mut scratch);
+        let tokens = tokens.map_err(|refusal| Fail::call(file, refusal, model.advice(refusal)))?;
+        files::write(&out, &files::bytes(&tokens), given.force)?;
+        let (count, text) = (grid.0 * grid.1 / (merge * merge), model.settings.text_hidden_size);
+        Ok(format!("{}: {count} tokens of {text} floats", out.display()))
+    })
+}
+
+pub fn patches(given: &Given) -> Result<(), Fail> {
+    let folder = given.needed("-o", "DIR")?;
+    let names = names(&given.files)?;
+    let settings = given.settings()?.picture;
+    settings.grid(1, 1).or_else(|r| if r == Refusal::Setting { Err(refused_settings(r)) } else { Ok((0, 0)) })?;
+    let mut cutter = Cutter::default();
+    each(given, &folder, &names, |file, name| {
+        let grid = cutter.cut(file, &settings)?;
+        let out = folder.join(format!("{name}.{}x{}.patches", grid.0, grid.1));
+        files::write(&out, &files::bytes(&cutter.patches), given.force)?;
+        Ok(format!("{}: {} patches of {} floats", out.display(), grid.0 * grid.1, 3 * settings.patch_size.pow(2)))
+    })
+}
+
+/// The sweeps' names without folder and ending. Two alike would be written to one file.
+fn names(sweeps: &[PathBuf]) -> Result<Vec<String>, Fail> {
+    if sweeps.is_empty() {
+        return Err(Fail::usage("no SWEEP.ppm is given"));
+    }
+    let mut seen = BTreeMap::new();
+    let mut names = Vec::new();
+    for sweep in sweeps {
+        let name = sweep.file_stem().unwrap_or(sweep.as_os_str()).to_string_lossy().into_owned();
+        if let Some(other) = seen.insert(name.clone(), sweep) {
+            let (a, b) = (other.display(), sweep.display());
+            return Err(Fail::usage(format!("{a} and {b} would be written to the same file; give them apart")));
+        }
+        names.push(name);
+    }
+    Ok(names)
+}
+
+/// Does the work for each sweep. One that is refused is named, and the others are still done.
+fn each(
+    given: &Given,
+    folder: &Path,
+    names: &[String],
+    mut work: impl FnMut(&Path, &str) -> Result<String, Fail>,
+) -> Result<(), Fail> {
+    files::folder(folder)?;
+    let mut progress = Progress::new(given.files.len());
+    let mut refused = 0;
+    for (file, name) in given.files.iter().zip(names) {
+        progress.at(name);
+        match work(file, name) {
+            Ok(words) => progress.say(&words),
+            Err(Fail::Refused(words)) if names.len() > 1 => {
+                refused += 1;
+                progress.warn(&words);
+            }
+            Err(fail) => {
+                progress.clear();
+                return Err(fail);
+            }
+        }
+    }
+    progress.clear();
+    match refused {
+        0 => Ok(()),
+        n => Err(Fail::Refused(format!("{n} of {} sweeps were refused", names.len()))),
+    }
+}

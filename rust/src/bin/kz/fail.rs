@@ -1,0 +1,32 @@
+//! Why a command ended early, in words for the person who gave it.
+
+use kyzgultam::Refusal;
+use std::fmt;
+use std::path::Path;
+
+pub enum Fail {
+    /// Exit status 1: the words say which file, why, and what to do.
+    Refused(String),
+    /// Exit status 2: the command line is not one that kz knows.
+    Usage(String),
+}
+
+impl Fail {
+    pub fn usage(words: impl fmt::Display) -> Fail {
+        Fail::Usage(words.to_string())
+    }
+
+    pub fn file(file: &Path, words: impl fmt::Display) -> Fail {
+        Fail::Refused(format!("{}: {words}", file.display()))
+    }
+
+    /// A call's refusal, about a file.
+    pub fn call(file: &Path, refusal: Refusal, advice: impl fmt::Display) -> Fail {
+        Fail::file(file, numbered(refusal, advice))
+    }
+}
+
+/// A refusal by its number, and what to do.
+pub fn numbered(refusal: Refusal, advice: impl fmt::Display) -> String {
+    format!("refused, number {}: {refusal}; {advice}", refusal.number())
+}

@@ -1,0 +1,121 @@
+//! What stands on the command line after the command.
+
+use crate::fail::Fail;
+use kyzgultam::{EncoderSettings, PictureSettings};
+use std::ffi::{OsStr, OsString};
+use std::path::PathBuf;
+
+/// Files, and options with their values. An option is given once; `--force` has no value.
+pub struct Given {
+    pub files: Vec<PathBuf>,
+    pub force: bool,
+    options: Vec<(&'static str, OsString)>,
+}
+
+impl Given {
+    pub fn read(words: &[OsString], known: &[&'static str]) -> Result<Given, Fail> {
+        let mut given = Given { files: vec![], force: false, options: vec![] };
+        let mut words = words.iter();
+        while let Some(word) = words.next() {
+            let text = word.to_str().unwrap_or("");
+            if text == "--" {
+                given.files.extend(words.by_ref().map(PathBuf::from));
+            } else if text == "--force" && known.contains(&"--force") {
+                given.force = true;
+            } else if text.starts_with('-') && text.len() > 1 {
+                let (name, joined) = match text.split_once('=') {
+                    Some((name, value)) => (name, Some(OsString::from(value))),
+                    None => (text, None),
+                };
+                let name = if name == "--out" { "-o" } else { name };
+                let known = known.iter().find(|k| **k == name && name != "--force");
+                let name = *known.ok_or_else(|| Fail::usage(format!("no option {text} here")))?;
+                if given.option(name).is_some() {
+                    return Err(Fail::usage(format!("{name} is given twice")));
+                }
+                let value = joined.or_else(|| words.next().cloned());
+                given.options.push((name, value.ok_or_else(|| Fail::usage(format!("{name} needs a value")))?));
+            } else {
+                given.files.push(PathBuf::from(word));
+            }
+        }
+        Ok(given)
+    }
+
+    fn option(&self, name: &str) -> Option<&OsStr> {
+        self.options.iter().find(|(n, _)| *n == name).map(|(_, value)| value.as_os_str())
+    }
+
+    pub fn path(&self, name: &str) -> Option<PathBuf> {
+        self.option(name).map(PathBuf::from)
+    }
+
+    /// The path of an option that the command cannot do without.
+    pub fn needed(&self, name: &str, what: &str) -> Result<PathBuf, Fail> {
+        self.path(name).ok_or_else(|| Fail::usage(format!("{name} {what} is missing")))
+    }
+
+    /// Two sides, as `2x4`.
+    pub fn sides(&self, name: &str) -> Result<Option<(usize, usize)>, Fail> {
+        let Some(value) = self.option(name) else { return Ok(None) };
+        let sides = value.to_str().and_then(sides);
+        sides.map(Some).ok_or_else(|| Fail::usage(format!("{name} takes HEIGHTxWIDTH, as 36x48")))
+    }
+
+    /// The built-in model's settings, with those of `--settings` over them. Whether they are allowed the calls decide.
+    pub fn settings(&self) -> Result<EncoderSettings, Fail> {
+        let mut s = SMALL;
+        let (mut head, mut scale) = (None, None);
+        let list = self.option("--settings").map(|v| v.to_string_lossy().into_owned()).unwrap_or_default();
+        for pair in list.split(',').filter(|pair| !pair.is_empty()) {
+            let (key, value) = pair.split_once('=').unwrap_or((pair, ""));
+            let bad = || Fail::usage(format!("--settings: {pair}: {KEYS}"));
+            if key == "scale" {
+                scale = Some(value.parse().map_err(|_| bad())?);
+                continue;
+            }
+            let number = decimal(value).ok_or_else(bad)?;
+            match key {
+                "patch" => s.picture.patch_size = number,
+                "merge" => s.picture.spatial_merge_size = number,
+                "image" => s.picture.image_size = number,
+                "hidden" => s.hidden_size = number,
+                "heads" => s.num_heads = number,
+                "head" => head = Some(number),
+                "layers" => s.num_layers = number,
+                "intermediate" => s.intermediate_size = number,
+                "text" => s.text_hidden_size = number,
+                _ => return Err(bad()),
+            }
+        }
+        // As the Rust reads its config: the head width is what the heads leave of the hidden size.
+        s.head_dim = head.unwrap_or(s.hidden_size.checked_div(s.num_heads).unwrap_or(0));
+        s.scaling = scale.unwrap_or((s.head_dim as f32).powf(-0.5));
+        Ok(s)
+    }
+}
+
+const KEYS: &str = "a list of KEY=NUMBER, parted by commas; keys: patch merge image hidden heads head layers \
+                    intermediate text scale";
+
+/// The model that is built in.
+pub const SMALL: EncoderSettings = EncoderSettings {
+    picture: PictureSettings { patch_size: 14, spatial_merge_size: 2, image_size: 1540 },
+    hidden_size: 64,
+    num_heads: 4,
+    head_dim: 16,
+    num_layers: 2,
+    intermediate_size: 128,
+    text_hidden_size: 64,
+    scaling: 0.25,
+};
+
+fn decimal(text: &str) -> Option<usize> {
+    (!text.is_empty() && text.bytes().all(|b| b.is_ascii_digit())).then(|| text.parse().ok()).flatten()
+}
+
+/// `2x4` as 2 and 4.
+pub fn sides(text: &str) -> Option<(usize, usize)> {
+    let (height, width) = text.split_once('x')?;
+    Some((decimal(height)?, decimal(width)?))
+}

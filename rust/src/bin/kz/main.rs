@@ -1,0 +1,92 @@
+//! kz: sweeps to patches and token vectors, and back, from the command line.
+
+mod bench;
+mod compare;
+mod demo;
+mod encode;
+mod fail;
+mod files;
+mod given;
+mod model;
+mod netpbm;
+mod paint;
+mod png;
+mod progress;
+mod restore;
+mod sweep;
+
+use fail::Fail;
+use given::Given;
+use std::ffi::OsString;
+use std::fmt;
+use std::io::{stderr, stdout, Write};
+use std::process::ExitCode;
+
+const HELP: &str = "\
+kz: the Pixtral image encoder, proved; from the command line
+
+  kz demo [-o DIR]                      see it work: pictures to look at
+  kz encode SWEEP.ppm .. -o DIR         token vectors of each sweep
+  kz patches SWEEP.ppm .. -o DIR        patches of each sweep
+  kz restore FILE.patches -o OUT.ppm    the picture that gave the patches
+  kz compare A.ppm B.ppm [-o OUT.png]   which patches are equal, as a picture
+  kz bench                              how long each call takes
+                                        (oracle/run compares with the Rust)
+Pictures are binary netpbm, P5 or P6. Other files are floats: f32,
+little-endian, in document 01's order. Sizes are HEIGHTxWIDTH.
+
+  --settings LIST   as patch=14,merge=2,image=1540 (`kz encode --help`)
+  --weights FILE    for encode and bench; a small seeded model without it
+  --tables FILE     for encode and bench; the Rust's without it
+  --grid HxW        for restore, if the file's name does not say it
+  --force           write over files that are there already
+
+`kz COMMAND --help` says more. Exit status: 0 done, 1 refused (the message
+names the file, the number and what to do), 2 not a command line of kz.
+";
+
+type Command = (&'static str, &'static str, &'static [&'static str], fn(&Given) -> Result<(), Fail>);
+
+const COMMANDS: [Command; 6] = [
+    ("demo", demo::HELP, &["-o", "--force"], demo::run),
+    ("encode", encode::ENCODE, &["-o", "--weights", "--tables", "--settings", "--force"], encode::encode),
+    ("patches", encode::PATCHES, &["-o", "--settings", "--force"], encode::patches),
+    ("restore", restore::HELP, &["-o", "--grid", "--settings", "--force"], restore::run),
+    ("compare", compare::HELP, &["-o", "--settings", "--force"], compare::run),
+    ("bench", bench::HELP, &["--size", "--weights", "--tables", "--settings"], bench::run),
+];
+
+/// A line on standard output. That nobody reads it is no reason to stop.
+fn say(line: fmt::Arguments) {
+    let _ = writeln!(stdout(), "{line}");
+}
+
+fn run(words: &[OsString]) -> Result<(), Fail> {
+    let is = |word: &OsString, texts: &[&str]| texts.iter().any(|t| word == t);
+    let Some((first, rest)) = words.split_first() else {
+        return Err(Fail::usage("no command is given"));
+    };
+    if is(first, &["--help", "-h", "help"]) {
+        say(format_args!("{}", HELP.trim_end()));
+        return Ok(());
+    }
+    let command = COMMANDS.iter().find(|(name, ..)| first == name);
+    let (_, help, known, work) =
+        command.ok_or_else(|| Fail::usage(format!("no command {}", first.to_string_lossy())))?;
+    if rest.iter().take_while(|w| *w != "--").any(|w| is(w, &["--help", "-h"])) {
+        say(format_args!("{}", help.trim_end()));
+        return Ok(());
+    }
+    work(&Given::read(rest, known)?)
+}
+
+fn main() -> ExitCode {
+    let words: Vec<OsString> = std::env::args_os().skip(1).collect();
+    let (words, status) = match run(&words) {
+        Ok(()) => return ExitCode::SUCCESS,
+        Err(Fail::Refused(words)) => (words, 1),
+        Err(Fail::Usage(words)) => (format!("{words}; `kz --help` shows what there is"), 2),
+    };
+    let _ = writeln!(stderr(), "kz: {words}");
+    ExitCode::from(status)
+}

@@ -1,0 +1,163 @@
+//! Settings, weights and tables, from files or built in.
+
+use crate::fail::{numbered, Fail};
+use crate::files;
+use crate::given::Given;
+use kyzgultam::{EncoderSettings, PixtralEncoder, Refusal};
+use std::path::{Path, PathBuf};
+
+pub struct Model {
+    pub settings: EncoderSettings,
+    pub weights: Vec<f32>,
+    pub cos: Vec<f32>,
+    pub sin: Vec<f32>,
+    files: [Option<PathBuf>; 2],
+}
+
+impl Model {
+    pub fn read(given: &Given) -> Result<Model, Fail> {
+        let settings = given.settings()?;
+        let len = |len: Result<usize, Refusal>| len.map_err(refused_settings);
+        let (weights_len, table_len) = (len(settings.weights_len())?, len(settings.tables_len())?);
+        let files = ["--weights", "--tables"].map(|name| given.path(name));
+        let weights = match &files[0] {
+            Some(file) => floats(file, weights_len, Refusal::WeightsLength, "")?,
+            None => seeded(&settings, weights_len)?,
+        };
+        let (cos, sin) = match &files[1] {
+            Some(file) => {
+                let both = floats(file, 2 * table_len, Refusal::TableLength, ", the cosines and then the sines")?;
+                let (cos, sin) = both.split_at(table_len);
+                (cos.to_vec(), sin.to_vec())
+            }
+            None => {
+                let most = settings.picture.image_size / settings.picture.patch_size;
+                precompute_2d_rope(most, settings.head_dim, 10000.0)
+            }
+        };
+        Ok(Model { settings, weights, cos, sin, files })
+    }
+
+    /// The token vectors of patches.
+    pub fn forward(&self, patches: &[f32], grid: (usize, usize), scratch: &mut Vec<f32>) -> Result<Vec<f32>, Refusal> {
+        let settings = self.settings;
+        scratch.resize(settings.scratch_len(grid.0, grid.1)?, 0.0);
+        let mut out = vec![0.0; settings.tokens_len(grid.0, grid.1)?];
+        let encoder = PixtralEncoder { settings, weights: &self.weights, rope_cos: &self.cos, rope_sin: &self.sin };
+        encoder.forward(patches, grid.0, grid.1, scratch, &mut out)?;
+        Ok(out)
+    }
+
+    /// What to do about a refusal of `forward`.
+    pub fn advice(&self, refusal: Refusal) -> String {
+        let odd = |floats: &[f32]| floats.iter().position(|x| !x.is_finite());
+        let tables = odd(&self.cos).or(odd(&self.sin).map(|i| self.cos.len() + i));
+        let place = |file: &Option<PathBuf>, i: usize| match file {
+            Some(file) => format!("float {i} of {} is not; write that file again", file.display()),
+            None => "the built-in weights are too large for these --settings; give --weights".into(),
+        };
+        match (refusal, odd(&self.weights), tables) {
+            (Refusal::NotFinite, Some(i), _) => place(&self.files[0], i),
+            (Refusal::NotFinite, _, Some(i)) => place(&self.files[1], i),
+            (Refusal::NotFinite, ..) => "all inputs are: the weights are too large for a stage".into(),
+            _ => "look at --settings".into(),
+        }
+    }
+}
+
+pub fn refused_settings(refusal: Refusal) -> Fail {
+    Fail::Refused(format!("--settings: {}", numbered(refusal, "`kz encode --help` has the ranges")))
+}
+
+/// The floats of a file that is to have a certain count of them.
+fn floats(file: &Path, len: usize, refusal: Refusal, order: &str) -> Result<Vec<f32>, Fail> {
+    let bytes = files::read(file)?;
+    match files::floats(&bytes) {
+        Some(floats) if floats.len() == len => Ok(floats),
+        _ => Err(Fail::call(
+            file,
+            refusal,
+            format!(
+                "it has {} bytes, and these settings ask for {} ({len} floats of 4 bytes, little-endian{order}); \
+                 give the file's own --settings",
+                bytes.len(),
+                4 * len
+            ),
+        )),
+    }
+}
+
+pub struct Random(u64);
+
+impl Random {
+    pub fn new(seed: u64) -> Random {
+        Random(seed)
+    }
+
+    fn next(&mut self) -> u64 {
+        self.0 = self.0.wrapping_add(0x9E37_79B9_7F4A_7C15);
+        let x = (self.0 ^ self.0 >> 30).wrapping_mul(0xBF58_476D_1CE4_E5B9);
+        let x = (x ^ x >> 27).wrapping_mul(0x94D0_49BB_1331_11EB);
+        x ^ x >> 31
+    }
+
+    /// From -1 up to 1.
+    pub fn float(&mut self) -> f32 {
+        (self.next() >> 40) as f32 / 8_388_608.0 - 1.0
+    }
+}
+
+/// Weights that keep values near 1 in size: norms of 1, and matrices even in ±√(3 / inputs). Those of patch_conv are
+/// smooth over a patch, so that a token says more of brightness and slope than of grain.
+fn seeded(s: &EncoderSettings, len: usize) -> Result<Vec<f32>, Fail> {
+    let (h, i, x) = (s.hidden_size, s.intermediate_size, s.text_hidden_size);
+    let (p, m) = (s.picture.patch_size, s.picture.spatial_merge_size);
+    let mut weights = Vec::new();
+    let room = weights.try_reserve_exact(len);
+    room.map_err(|_| Fail::Refused(format!("{len} weights do not fit in memory; give smaller --settings")))?;
+    // Outputs and inputs of each matrix, in order; a norm has no inputs.
+    let layer = [(h, 0), (h, h), (h, h), (h, h), (h, h), (h, 0), (i, h), (i, h), (h, i)];
+    let last = [(h, 0), (h, h * m * m), (x, h), (x, x)];
+    let layers = std::iter::repeat_n(layer, s.num_layers).flatten();
+    let mut random = Random::new(14);
+    weights.extend((0..h).flat_map(|_| smooth(&mut random, p)));
+    for (out, inputs) in [(h, 0)].into_iter().chain(layers).chain(last) {
+        let size = (3.0 / inputs as f32).sqrt();
+        match inputs {
+            0 => weights.extend((0..out).map(|_| 1.0)),
+            _ => weights.extend((0..out * inputs).map(|_| random.float() * size)),
+        }
+    }
+    Ok(weights)
+}
+
+/// A row of patch_conv: waves of at most one period over a patch, the longer ones stronger, in each channel.
+fn smooth(random: &mut Random, p: usize) -> Vec<f32> {
+    let waves: [[f32; 3]; 3] = std::array::from_fn(|i| std::array::from_fn(|j| random.float() / (1 + i + j) as f32));
+    let channels: [f32; 3] = std::array::from_fn(|_| 1.0 + 0.5 * random.float());
+    let wave = |k: usize, x: usize| (std::f32::consts::PI * k as f32 * (x as f32 + 0.5) / p as f32).cos();
+    let value = |k: usize| {
+        let (y, x) = (k / p % p, k % p);
+        let sum: f32 = (0..9).map(|n| waves[n / 3][n % 3] * wave(n / 3, y) * wave(n % 3, x)).sum();
+        channels[k / (p * p)] * sum / (p * p) as f32
+    };
+    (0..3 * p * p).map(value).collect()
+}
+
+/// The rotary tables as the Rust's `precompute_2d_rope` makes them: half of the angles turn with the row, half with
+/// the column.
+fn precompute_2d_rope(most: usize, head_dim: usize, theta: f32) -> (Vec<f32>, Vec<f32>) {
+    let (half, quarter) = (head_dim / 2, head_dim / 4);
+    let freqs: Vec<f32> = (0..half).map(|i| 1.0 / theta.powf(2.0 * i as f32 / head_dim as f32)).collect();
+    let mut angles = Vec::with_capacity(most * most * head_dim);
+    for h in 0..most {
+        for w in 0..most {
+            // The first half and, again, the second.
+            for _ in 0..2 {
+                angles.extend((0..quarter).map(|j| h as f32 * freqs[2 * j]));
+                angles.extend((0..quarter).map(|j| w as f32 * freqs[2 * j + 1]));
+            }
+        }
+    }
+    (angles.iter().map(|a| a.cos()).collect(), angles.iter().map(|a| a.sin()).collect())
+}

@@ -1,0 +1,175 @@
+//! Binary netpbm pictures: P5 (grey) and P6 (RGB), samples of one byte.
+
+use crate::fail::numbered;
+use crate::fail::Fail;
+use crate::files;
+use kyzgultam::Refusal;
+use std::path::Path;
+
+/// Three bytes a pixel, by row.
+pub struct Picture {
+    pub height: usize,
+    pub width: usize,
+    pub rgb: Vec<u8>,
+}
+
+pub fn read(file: &Path) -> Result<Picture, Fail> {
+    parse(&files::read(file)?).map_err(|why| Fail::file(file, why))
+}
+
+pub fn ppm(height: usize, width: usize, rgb: &[u8]) -> Vec<u8> {
+    let mut bytes = format!("P6\n{width} {height}\n255\n").into_bytes();
+    bytes.extend_from_slice(rgb);
+    bytes
+}
+
+/// The header's bytes. A comment runs from # to the end of its line and counts as that end.
+struct Header<'a> {
+    bytes: &'a [u8],
+    at: usize,
+}
+
+impl Header<'_> {
+    fn next(&mut self) -> Option<u8> {
+        let mut byte = *self.bytes.get(self.at)?;
+        self.at += 1;
+        if byte == b'#' {
+            while !matches!(byte, b'\n' | b'\r') {
+                byte = *self.bytes.get(self.at)?;
+                self.at += 1;
+            }
+        }
+        Some(byte)
+    }
+
+    /// A decimal after any white space, and the one white space after it.
+    fn decimal(&mut self, what: &str) -> Result<usize, String> {
+        let mut byte = self.next();
+        while byte.is_some_and(white) {
+            byte = self.next();
+        }
+        let mut number = None;
+        while let Some(digit) = byte.filter(u8::is_ascii_digit) {
+            let sum = number.unwrap_or(0usize).saturating_mul(10).saturating_add(usize::from(digit - b'0'));
+            number = Some(sum);
+            byte = self.next();
+        }
+        match (number, byte) {
+            (Some(number), Some(byte)) if white(byte) => Ok(number),
+            (_, None) => Err(format!("ends inside its header, at its {what}; get the whole file")),
+            _ => Err(format!("is no netpbm picture: its {what} is no decimal; write it again as P5 or P6")),
+        }
+    }
+}
+
+fn white(byte: u8) -> bool {
+    matches!(byte, b' ' | b'\t' | b'\n' | b'\r' | 0x0B | 0x0C)
+}
+
+fn parse(bytes: &[u8]) -> Result<Picture, String> {
+    let channels = match bytes.get(..2) {
+        Some(b"P5") => 1,
+        Some(b"P6") => 3,
+        Some([b'P', b'1'..=b'7']) => {
+            return Err("is a netpbm picture, but not P5 or P6; convert it, as with `pnmtopnm` or `pamtopnm`".into())
+        }
+        _ => return Err("is no binary netpbm picture (P5 or P6); convert it, as with `magick IN OUT.ppm`".into()),
+    };
+    let mut header = Header { bytes, at: 2 };
+    let width = header.decimal("width")?;
+    let height = header.decimal("height")?;
+    let most = header.decimal("maxval")?;
+    if !(1..=65535).contains(&most) {
+        return Err(format!("is no netpbm picture: its maxval is {most}; it is to be in 1..255"));
+    }
+    if most > 255 {
+        return Err(format!("has samples of two bytes (maxval {most}); convert it, as with `pamdepth 255`"));
+    }
+    let sides = 1..=8192;
+    if !(sides.contains(&height) && sides.contains(&width)) {
+        return Err(numbered(Refusal::Side, format!("it is {height}x{width}: cut or shrink it")));
+    }
+    let raster = &bytes[header.at..];
+    let needed = height * width * channels;
+    if raster.len() < needed {
+        let found = raster.len();
+        return Err(format!("is cut short: {found} bytes of samples where {needed} belong; get the whole file"));
+    }
+    if raster.len() > needed {
+        let more = raster.len() - needed;
+        return Err(format!("goes on for {more} bytes after its picture; give one picture a file (`pamsplit`)"));
+    }
+    let mut table = [0; 256];
+    for (value, byte) in table.iter_mut().enumerate().take(most + 1) {
+        *byte = ((value * 255 + most / 2) / most) as u8;
+    }
+    if let Some(value) = raster.iter().find(|v| usize::from(**v) > most) {
+        return Err(format!("has a sample of {value}, above its maxval {most}; write it again"));
+    }
+    let samples = raster.iter().map(|v| table[usize::from(*v)]);
+    let rgb = if channels == 3 { samples.collect() } else { samples.flat_map(|v| [v; 3]).collect() };
+    Ok(Picture { height, width, rgb })
+}
+
+#[cfg(test)]
+mod tests {
+    use super::*;
+
+    fn read(head: &str, raster: &[u8]) -> Result<(usize, usize, Vec<u8>), String> {
+        parse(&[head.as_bytes(), raster].concat()).map(|p| (p.height, p.width, p.rgb))
+    }
+
+    #[test]
+    fn legal_forms() {
+        let two = vec![1, 2, 3, 4, 5, 6];
+        for head in [
+            "P6\n2 1\n255\n",
+            "P6 2 1 255 ",
+            "P6\t2\r\n1\x0B\x0C255\r",
+            "P6\n# made by hand\n2 1\n255\n",
+            "P6#a\n#b\n  2#c\r 1 # d 9 9\n\n\n255\n",
+            "P6\n002 0001 255\n",
+            "P6\n2 1\n255#no white space before it\n",
+        ] {
+            assert_eq!(read(head, &two), Ok((1, 2, two.clone())), "{head:?}");
+        }
+        assert_eq!(read("P5\n1 2\n255\n", &[7, 9]), Ok((2, 1, vec![7, 7, 7, 9, 9, 9])));
+        // White space and # belong to the samples once the header is over.
+        assert_eq!(read("P5 2 1 255 ", b" #"), Ok((1, 2, vec![32, 32, 32, 35, 35, 35])));
+    }
+
+    #[test]
+    fn smaller_maxval() {
+        assert_eq!(read("P5 2 1 1\n", &[0, 1]), Ok((1, 2, vec![0, 0, 0, 255, 255, 255])));
+        assert_eq!(read("P6 1 1 100\n", &[0, 50, 100]), Ok((1, 1, vec![0, 128, 255])));
+        assert!(read("P5 1 1 100\n", &[101]).unwrap_err().contains("above its maxval"));
+    }
+
+    #[test]
+    fn refused_forms() {
+        let six = [0; 6];
+        for (head, raster, why) in [
+            ("", &six[..0], "no binary netpbm"),
+            ("P", &six[..0], "no binary netpbm"),
+            ("\u{89}PNG", &six, "no binary netpbm"),
+            ("P3\n1 1\n255\n", &six, "not P5 or P6"),
+            ("P6", &six[..0], "header, at its width"),
+            ("P6\n2", &six[..0], "header, at its width"),
+            ("P6\n2 1\n255", &six[..0], "header, at its maxval"),
+            ("P6\n2 1 # no end", &six[..0], "header, at its"),
+            ("P6\n-2 1\n255\n", &six, "width is no decimal"),
+            ("P6\n2x 1\n255\n", &six, "width is no decimal"),
+            ("P6\n2 1\n0\n", &six, "maxval is 0"),
+            ("P6\n2 1\n65536\n", &six, "maxval is 65536"),
+            ("P6\n2 1\n65535\n", &six, "two bytes"),
+            ("P6\n2 1\n255\n", &six[..5], "cut short: 5 bytes of samples where 6 belong"),
+            ("P6\n1 1\n255\n", &six, "3 bytes after"),
+            ("P6\n0 1\n255\n", &six[..0], "number 2"),
+            ("P6\n1 8193\n255\n", &six, "number 2"),
+            ("P6\n99999999999999999999999 99999999999999999999999\n255\n", &six, "number 2"),
+        ] {
+            let found = read(head, raster).unwrap_err();
+            assert!(found.contains(why), "{head:?}: {found}");
+        }
+    }
+}

@@ -1,0 +1,86 @@
+//! Pictures of answers.
+
+use crate::netpbm::Picture;
+
+const MAP: [[f32; 3]; 7] = [
+    [2.0, 2.0, 12.0],
+    [61.0, 9.0, 101.0],
+    [135.0, 33.0, 107.0],
+    [203.0, 65.0, 73.0],
+    [243.0, 120.0, 25.0],
+    [249.0, 188.0, 40.0],
+    [252.0, 255.0, 164.0],
+];
+
+/// From dark to bright, 0 to 1.
+fn colour(x: f32) -> [f32; 3] {
+    let x = x.clamp(0.0, 1.0) * (MAP.len() - 1) as f32;
+    let i = (x as usize).min(MAP.len() - 2);
+    let part = x - i as f32;
+    std::array::from_fn(|c| MAP[i][c] * (1.0 - part) + MAP[i + 1][c] * part)
+}
+
+/// A value for each cell of a grid over a picture, as colours through which the picture shows.
+pub fn heat(picture: &Picture, grid: (usize, usize), values: &[f32]) -> Picture {
+    let (low, high) = values.iter().fold((f32::MAX, f32::MIN), |(l, h), v| (l.min(*v), h.max(*v)));
+    cells(picture, grid, |i, grey| {
+        let value = (values[i] - low) / (high - low).max(1e-9);
+        colour(value).map(|x| 0.78 * x + 0.22 * grey)
+    })
+}
+
+/// The cells that are marked in red, over the picture, which is dimmed elsewhere.
+pub fn marks(picture: &Picture, grid: (usize, usize), marked: &[bool]) -> Picture {
+    cells(
+        picture,
+        grid,
+        |i, grey| if marked[i] { [140.0 + 0.45 * grey, 0.55 * grey, 0.5 * grey] } else { [0.5 * grey; 3] },
+    )
+}
+
+/// Paints each pixel by its cell and its grey.
+fn cells(picture: &Picture, grid: (usize, usize), paint: impl Fn(usize, f32) -> [f32; 3]) -> Picture {
+    let (height, width) = (picture.height, picture.width);
+    let (rows, columns) = (height / grid.0, width / grid.1);
+    let mut rgb = Vec::with_capacity(picture.rgb.len());
+    for (k, pixel) in picture.rgb.chunks_exact(3).enumerate() {
+        let i = k / width / rows * grid.1 + k % width / columns;
+        let grey = pixel.iter().map(|b| f32::from(*b)).sum::<f32>() / 3.0;
+        rgb.extend(paint(i, grey).map(|x| x.round() as u8));
+    }
+    Picture { height, width, rgb }
+}
+
+/// A frame around a cell, white and, inside that, black.
+pub fn frame(picture: &mut Picture, grid: (usize, usize), cell: (usize, usize)) {
+    let (rows, columns) = (picture.height / grid.0, picture.width / grid.1);
+    for y in 0..rows {
+        for x in 0..columns {
+            let edge = y.min(rows - 1 - y).min(x).min(columns - 1 - x);
+            if edge < 4 {
+                let k = (cell.0 * rows + y) * picture.width + cell.1 * columns + x;
+                picture.rgb[3 * k..3 * k + 3].fill(if edge < 2 { 255 } else { 0 });
+            }
+        }
+    }
+}
+
+/// Pictures of one size side by side at half their size.
+pub fn strip(pictures: &[&Picture]) -> Picture {
+    const GAP: usize = 6;
+    let (height, width) = (pictures[0].height / 2, pictures[0].width / 2);
+    let across = pictures.len() * (width + GAP) - GAP;
+    let mut rgb = vec![255; height * across * 3];
+    for (i, picture) in pictures.iter().enumerate() {
+        for y in 0..height {
+            for x in 0..width {
+                for c in 0..3 {
+                    let at = |dy, dx| u32::from(picture.rgb[((2 * y + dy) * picture.width + 2 * x + dx) * 3 + c]);
+                    let sum = at(0, 0) + at(0, 1) + at(1, 0) + at(1, 1);
+                    rgb[(y * across + i * (width + GAP) + x) * 3 + c] = ((sum + 2) / 4) as u8;
+                }
+            }
+        }
+    }
+    Picture { height, width: across, rgb }
+}

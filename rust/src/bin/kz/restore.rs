@@ -1,0 +1,54 @@
+//! `kz restore`: a patches file back to a picture.
+
+use crate::fail::Fail;
+use crate::given::{sides, Given};
+use crate::model::refused_settings;
+use crate::netpbm::ppm;
+use crate::{files, say};
+use kyzgultam::Refusal;
+use std::path::Path;
+
+pub const HELP: &str = "\
+kz restore FILE.patches -o OUT.ppm [--grid HxW] [--settings LIST] [--force]
+
+Writes the picture that gave the patches, as it was resized before it was
+cut. The grid is read from the name that `kz patches` gave the file, as
+sweep.36x48.patches, unless --grid says it. --settings are to be those that
+the patches were cut with: patch, merge and image (`kz encode --help`).
+";
+
+pub fn run(given: &Given) -> Result<(), Fail> {
+    let [file] = &given.files[..] else {
+        return Err(Fail::usage("restore takes one FILE.patches"));
+    };
+    let out = given.needed("-o", "OUT.ppm")?;
+    let settings = given.settings()?.picture;
+    let grid = given.sides("--grid")?.or_else(|| grid_of(file));
+    let (grid_h, grid_w) = grid.ok_or_else(|| {
+        Fail::usage(format!(
+            "{}: its name does not say the grid (as NAME.36x48.patches); give --grid HxW",
+            file.display()
+        ))
+    })?;
+    files::vacant(&out, given.force)?;
+    let bytes = files::read(file)?;
+    let advice =
+        format!("it was read as a grid of {grid_h}x{grid_w}: give the --grid and --settings it was written with");
+    let patches = files::floats(&bytes).ok_or_else(|| Fail::call(file, Refusal::PatchesLength, &advice))?;
+    // A grid that is refused has no length: the call says why.
+    let mut rgb = vec![0; settings.restored_len(grid_h, grid_w).unwrap_or(0)];
+    let size = kyzgultam::restore(&patches, grid_h, grid_w, &settings, &mut rgb).map_err(|refusal| match refusal {
+        Refusal::Setting => refused_settings(refusal),
+        Refusal::Sample => Fail::call(file, refusal, "the file is damaged, or was not written by `kz patches`"),
+        _ => Fail::call(file, refusal, advice),
+    })?;
+    files::write(&out, &ppm(size.height, size.width, &rgb), given.force)?;
+    say(format_args!("{}: {}x{}", out.display(), size.height, size.width));
+    Ok(())
+}
+
+/// The grid in a name as sweep.36x48.patches.
+fn grid_of(file: &Path) -> Option<(usize, usize)> {
+    let name = file.file_name()?.to_str()?.strip_suffix(".patches")?;
+    sides(name.rsplit('.').next()?)
+}

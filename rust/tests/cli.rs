@@ -1,0 +1,425 @@
+//! The tool, as it is run: on files in a folder of its own.
+
+mod common;
+
+use common::Random;
+use kyzgultam::{pixtral_preprocess, restore, PictureSettings};
+use std::fs;
+use std::path::{Path, PathBuf};
+use std::process::{Command, Output};
+
+/// A folder that is removed at the end of its test.
+struct Folder(PathBuf);
+
+impl Folder {
+    fn new(name: &str) -> Folder {
+        let path = std::env::temp_dir().join(format!("kz-{name}-{}", std::process::id()));
+        let _ = fs::remove_dir_all(&path);
+        fs::create_dir_all(&path).unwrap();
+        Folder(path)
+    }
+
+    fn path(&self, name: &str) -> PathBuf {
+        self.0.join(name)
+    }
+
+    fn put(&self, name: &str, bytes: &[u8]) {
+        fs::write(self.path(name), bytes).unwrap();
+    }
+
+    fn get(&self, name: &str) -> Vec<u8> {
+        fs::read(self.path(name)).unwrap_or_else(|e| panic!("{name}: {e}"))
+    }
+
+    fn names(&self, folder: &str) -> Vec<String> {
+        let entries = fs::read_dir(self.path(folder)).unwrap();
+        let mut names: Vec<_> = entries.map(|e| e.unwrap().file_name().into_string().unwrap()).collect();
+        names.sort();
+        names
+    }
+
+    /// Runs kz with words parted by spaces.
+    fn kz(&self, words: &str) -> Output {
+        Command::new(env!("CARGO_BIN_EXE_kz")).args(words.split_whitespace()).current_dir(&self.0).output().unwrap()
+    }
+
+    /// What is said where the command is done.
+    fn done(&self, words: &str) -> String {
+        let output = self.kz(words);
+        assert_eq!(output.status.code(), Some(0), "{words}: {}", String::from_utf8_lossy(&output.stderr));
+        assert!(output.stderr.is_empty(), "{words}");
+        String::from_utf8(output.stdout).unwrap()
+    }
+
+    /// What is said where the command ends with a status; every part of the words is to be in it.
+    fn fails(&self, status: i32, words: &str, parts: &[&str]) {
+        let output = self.kz(words);
+        let said = String::from_utf8(output.stderr).unwrap();
+        assert_eq!(output.status.code(), Some(status), "{words}: {said}");
+        assert!(said.starts_with("kz: ") && said.ends_with('\n'), "{said}");
+        for part in parts {
+            assert!(said.contains(part), "{words}: {part:?} is not in {said:?}");
+        }
+    }
+}
+
+impl Drop for Folder {
+    fn drop(&mut self) {
+        let _ = fs::remove_dir_all(&self.0);
+    }
+}
+
+fn p6(height: usize, width: usize, rgb: &[u8]) -> Vec<u8> {
+    [format!("P6\n{width} {height}\n255\n").as_bytes(), rgb].concat()
+}
+
+/// A P6 of random bytes, and its bytes.
+fn sweep(folder: &Folder, name: &str, height: usize, width: usize, seed: u64) -> Vec<u8> {
+    let rgb = Random(seed).bytes(height * width * 3);
+    folder.put(name, &p6(height, width, &rgb));
+    rgb
+}
+
+fn floats(bytes: &[u8]) -> Vec<f32> {
+    bytes.chunks_exact(4).map(|w| f32::from_le_bytes(w.try_into().unwrap())).collect()
+}
+
+/// The tests' model: small in everything.
+const LIST: &str = "--settings patch=2,merge=2,image=16,hidden=8,heads=2,layers=1,intermediate=5,text=3";
+const TINY: PictureSettings = PictureSettings { patch_size: 2, spatial_merge_size: 2, image_size: 16 };
+const WEIGHTS: usize = 8 * 12 + 8 + (2 * 8 + 4 * 64 + 3 * 8 * 5) + 8 + 8 * 32 + 3 * 8 + 9;
+const TABLE: usize = 8 * 8 * 4;
+
+#[test]
+fn help_fits_a_screen() {
+    let folder = Folder::new("help");
+    for words in ["--help", "-h", "help", "demo --help", "encode -h", "patches --help", "restore --help"]
+        .into_iter()
+        .chain(["compare --help", "bench --help", "encode x.ppm --help"])
+    {
+        let text = folder.done(words);
+        assert!(text.starts_with("kz"), "{words}");
+        assert!(text.lines().count() <= 24, "{words}");
+        assert!(text.lines().all(|l| l.chars().count() < 80), "{words}");
+    }
+}
+
+#[test]
+fn usage() {
+    let folder = Folder::new("usage");
+    sweep(&folder, "a.ppm", 8, 8, 1);
+    fs::create_dir(folder.path("b")).unwrap();
+    sweep(&folder, "b/a.ppm", 8, 8, 1);
+    for (words, part) in [
+        ("", "no command"),
+        ("frobnicate", "no command frobnicate"),
+        ("encode", "-o DIR is missing"),
+        ("encode -o out", "no SWEEP.ppm"),
+        ("encode a.ppm", "-o DIR is missing"),
+        ("encode a.ppm -o", "-o needs a value"),
+        ("encode a.ppm -o x -o y", "-o is given twice"),
+        ("encode a.ppm -o out --size 4x4", "no option --size"),
+        ("encode a.ppm -o out --forced", "no option --forced"),
+        ("encode a.ppm -o out --force=yes", "no option --force=yes"),
+        ("encode a.ppm -o out --settings patch", "--settings: patch: a list"),
+        ("encode a.ppm -o out --settings patch=x", "--settings: patch=x"),
+        ("encode a.ppm -o out --settings patch=-1", "--settings: patch=-1"),
+        ("encode a.ppm -o out --settings patch=99999999999999999999", "--settings: patch=9"),
+        ("encode a.ppm -o out --settings colour=1", "--settings: colour=1"),
+        ("encode a.ppm -o out --settings scale=wide", "--settings: scale=wide"),
+        ("encode a.ppm b/a.ppm -o out", "same file"),
+        ("patches a.ppm", "-o DIR is missing"),
+        ("patches -o out", "no SWEEP.ppm"),
+        ("patches a.ppm -o out --weights w", "no option --weights"),
+        ("restore -o out.ppm", "one FILE.patches"),
+        ("restore a b -o out.ppm", "one FILE.patches"),
+        ("restore a.patches", "-o OUT.ppm is missing"),
+        ("restore a.patches -o out.ppm", "give --grid HxW"),
+        ("restore a.patches -o out.ppm --grid 2", "--grid takes"),
+        ("restore a.patches -o out.ppm --grid 2x", "--grid takes"),
+        ("restore a.patches -o out.ppm --grid 2x2x2", "--grid takes"),
+        ("compare a.ppm", "two files"),
+        ("compare a.ppm a.ppm a.ppm", "two files"),
+        ("bench now", "no files"),
+        ("demo now", "no files"),
+        ("demo --settings patch=1", "no option --settings"),
+    ] {
+        folder.fails(2, words, &[part, "`kz --help`"]);
+    }
+    assert_eq!(folder.names("."), ["a.ppm", "b"]);
+}
+
+#[test]
+fn patches_and_back() {
+    let folder = Folder::new("back");
+    for (height, width, name) in [(8, 16, "even"), (5, 11, "odd"), (40, 3, "long")] {
+        let rgb = sweep(&folder, &format!("{name}.ppm"), height, width, 7);
+        let mut patches = vec![0.0; TINY.patches_len(height, width).unwrap()];
+        let cut = pixtral_preprocess(&rgb, height, width, &TINY, &mut patches).unwrap();
+        let mut resized = vec![0; patches.len()];
+        let size = restore(&patches, cut.grid_h, cut.grid_w, &TINY, &mut resized).unwrap();
+
+        let file = format!("out/{name}.{}x{}.patches", cut.grid_h, cut.grid_w);
+        let said = folder.done(&format!("patches {name}.ppm -o out {LIST}"));
+        assert!(said.contains(&file), "{said}");
+        let written = floats(&folder.get(&file));
+        assert!(common::same(&written, &patches));
+
+        folder.done(&format!("restore {file} -o {name}.back.ppm {LIST}"));
+        assert_eq!(folder.get(&format!("{name}.back.ppm")), p6(size.height, size.width, &resized));
+        if name == "even" {
+            assert_eq!(resized, rgb);
+        }
+        // Another name, and the grid said.
+        fs::rename(folder.path(&file), folder.path("plain")).unwrap();
+        folder.done(&format!("restore plain --grid {}x{} --out={name}.again.ppm {LIST}", cut.grid_h, cut.grid_w));
+        assert_eq!(folder.get(&format!("{name}.again.ppm")), folder.get(&format!("{name}.back.ppm")));
+    }
+    assert!(folder.names("out").is_empty());
+}
+
+#[test]
+fn grey_is_three_alike() {
+    let folder = Folder::new("grey");
+    let grey = Random(3).bytes(6 * 9);
+    let rgb: Vec<u8> = grey.iter().flat_map(|g| [*g; 3]).collect();
+    folder.put("grey.pgm", &[b"P5 # grey\n9 6\n255\n", &grey[..]].concat());
+    folder.put("colour.ppm", &p6(6, 9, &rgb));
+    folder.done(&format!("patches grey.pgm colour.ppm -o out {LIST}"));
+    assert_eq!(folder.get("out/grey.4x6.patches"), folder.get("out/colour.4x6.patches"));
+    assert!(folder.done(&format!("compare grey.pgm colour.ppm {LIST}")).starts_with("24 of 24 patches are equal\n"));
+}
+
+#[test]
+fn encode_is_forward() {
+    let folder = Folder::new("encode");
+    let rgb = sweep(&folder, "a.ppm", 8, 12, 5);
+    let mut random = Random(6);
+    let (weights, tables) = (random.floats(WEIGHTS, 0.3), random.floats(2 * TABLE, 1.0));
+    let bytes = |x: &[f32]| x.iter().flat_map(|f| f.to_le_bytes()).collect::<Vec<_>>();
+    folder.put("w", &bytes(&weights));
+    folder.put("t", &bytes(&tables));
+    let said = folder.done(&format!("encode a.ppm -o out --weights w --tables t {LIST}"));
+    assert_eq!(said, "out/a.2x3.tokens: 6 tokens of 3 floats\n");
+
+    let settings = kyzgultam::EncoderSettings {
+        picture: TINY,
+        hidden_size: 8,
+        num_heads: 2,
+        head_dim: 4,
+        num_layers: 1,
+        intermediate_size: 5,
+        text_hidden_size: 3,
+        scaling: 0.5,
+    };
+    assert_eq!(settings.weights_len(), Ok(WEIGHTS));
+    let mut patches = vec![0.0; 8 * 12 * 3];
+    pixtral_preprocess(&rgb, 8, 12, &TINY, &mut patches).unwrap();
+    let (cos, sin) = tables.split_at(TABLE);
+    let mut scratch = vec![0.0; settings.scratch_len(4, 6).unwrap()];
+    let mut out = vec![0.0; 18];
+    kyzgultam::forward(&settings, &patches, 4, 6, &weights, cos, sin, &mut scratch, &mut out).unwrap();
+    assert_eq!(folder.get("out/a.2x3.tokens"), bytes(&out));
+
+    // The built-in weights and tables are the same each time.
+    folder.done(&format!("encode a.ppm -o first {LIST}"));
+    folder.done(&format!("encode a.ppm -o second {LIST}"));
+    assert_eq!(folder.get("first/a.2x3.tokens"), folder.get("second/a.2x3.tokens"));
+    assert_ne!(folder.get("first/a.2x3.tokens"), folder.get("out/a.2x3.tokens"));
+}
+
+#[test]
+fn refused_with_file_number_and_advice() {
+    let folder = Folder::new("refused");
+    sweep(&folder, "a.ppm", 8, 8, 1);
+    let run = |words: &str, parts: &[&str]| folder.fails(1, words, parts);
+    let list = |words: &str, parts: &[&str]| folder.fails(1, &format!("{words} {LIST}"), parts);
+
+    folder.put("short.w", &[0; 4 * (WEIGHTS - 1)]);
+    folder.put("odd.w", &[0; 4 * WEIGHTS + 1]);
+    let bytes = (4 * WEIGHTS).to_string();
+    list("encode a.ppm -o out --weights short.w", &["short.w: ", "number 9", &bytes]);
+    list("encode a.ppm -o out --weights odd.w", &["odd.w: ", "number 9"]);
+    list("encode a.ppm -o out --weights none.w", &["none.w: cannot be read"]);
+    folder.put("short.t", &[0; 4 * (2 * TABLE - 1)]);
+    list("encode a.ppm -o out --tables short.t", &["short.t: ", "number 10", "cosines"]);
+    let mut nan = vec![0; 4 * WEIGHTS];
+    nan[4 * 7..4 * 8].copy_from_slice(&f32::NAN.to_le_bytes());
+    folder.put("nan.w", &nan);
+    list("encode a.ppm -o out --weights nan.w", &["a.ppm: ", "number 12", "float 7 of nan.w"]);
+    let mut infinite = vec![0; 8 * TABLE];
+    infinite[4 * TABLE..4 * TABLE + 4].copy_from_slice(&f32::INFINITY.to_le_bytes());
+    folder.put("inf.t", &infinite);
+    list("encode a.ppm -o out --tables inf.t", &["number 12", &format!("float {TABLE} of inf.t")]);
+
+    for settings in ["patch=0", "heads=0", "heads=3", "hidden=6,heads=1", "layers=49", "scale=nan", "scale=0"] {
+        run(&format!("encode a.ppm -o out --settings {settings}"), &["--settings: refused, number 1"]);
+    }
+    run("patches a.ppm -o out --settings image=2049", &["--settings: refused, number 1"]);
+    run("patches a.ppm -o out --settings image=27", &["a.ppm: ", "number 4", "image="]);
+    run("compare a.ppm a.ppm --settings merge=5", &["--settings: refused, number 1"]);
+    folder.put("wide.ppm", b"P6 8193 1 255 ");
+    folder.put("flat.pgm", b"P5 0 0 255 ");
+    run("patches wide.ppm -o out", &["wide.ppm: ", "number 2", "1x8193"]);
+    run("encode flat.pgm -o out", &["flat.pgm: ", "number 2", "0x0"]);
+
+    folder.done(&format!("patches a.ppm -o . {LIST}"));
+    let whole = folder.get("a.4x4.patches");
+    list("restore a.4x4.patches -o b.ppm --grid 3x4", &["a.4x4.patches: ", "number 6", "3x4"]);
+    list("restore a.4x4.patches -o b.ppm --grid 4x10", &["number 6"]);
+    list("restore a.4x4.patches -o b.ppm --grid 2x4", &["number 7", "2x4", "--grid"]);
+    run("restore a.4x4.patches -o b.ppm --settings patch=33", &["--settings: refused, number 1"]);
+    folder.put("cut.4x4.patches", &whole[..whole.len() - 4]);
+    list("restore cut.4x4.patches -o b.ppm", &["cut.4x4.patches: ", "number 7"]);
+    folder.put("torn.4x4.patches", &whole[..whole.len() - 1]);
+    list("restore torn.4x4.patches -o b.ppm", &["torn.4x4.patches: ", "number 7"]);
+    let mut bad = whole.clone();
+    bad[9] ^= 1;
+    folder.put("bad.4x4.patches", &bad);
+    list("restore bad.4x4.patches -o b.ppm", &["bad.4x4.patches: ", "number 8", "damaged"]);
+
+    sweep(&folder, "wider.ppm", 8, 12, 1);
+    list("compare a.ppm wider.ppm", &["a.ppm", "wider.ppm", "4x4", "4x6"]);
+    assert!(!folder.path("b.ppm").exists());
+    assert!(!folder.path("out").exists() || folder.names("out").is_empty());
+}
+
+#[test]
+fn damaged_pictures() {
+    let folder = Folder::new("damaged");
+    let whole = p6(4, 4, &[9; 48]);
+    for len in 0..whole.len() {
+        folder.put("cut.ppm", &whole[..len]);
+        folder.fails(1, &format!("patches cut.ppm -o out {LIST}"), &["cut.ppm: "]);
+    }
+    folder.put("more.ppm", &[&whole[..], b"\n"].concat());
+    folder.put("deep.ppm", b"P6 1 1 65535\n123456");
+    folder.put("text.ppm", b"P3 1 1 255 1 2 3");
+    folder.put("other.ppm", b"\x89PNG\r\n\x1a\n");
+    for (name, part) in [
+        ("more", "1 bytes after its picture"),
+        ("deep", "two bytes"),
+        ("text", "not P5 or P6"),
+        ("other", "no binary netpbm"),
+        ("none", "cannot be read"),
+    ] {
+        folder.fails(1, &format!("encode {name}.ppm -o out {LIST}"), &[&format!("{name}.ppm: "), part]);
+    }
+    assert!(folder.names("out").is_empty());
+}
+
+#[test]
+fn nothing_is_overwritten() {
+    let folder = Folder::new("force");
+    sweep(&folder, "a.ppm", 8, 8, 1);
+    sweep(&folder, "b.ppm", 8, 8, 2);
+    folder.done(&format!("patches a.ppm -o . {LIST}"));
+    fs::create_dir(folder.path("out")).unwrap();
+    let commands = [
+        ("encode a.ppm -o out", "out/a.2x2.tokens"),
+        ("patches a.ppm -o out", "out/a.4x4.patches"),
+        ("restore a.4x4.patches -o out/back.ppm", "out/back.ppm"),
+        ("compare a.ppm b.ppm -o out/map.png", "out/map.png"),
+        ("compare a.ppm b.ppm -o out/map.ppm", "out/map.ppm"),
+    ];
+    for (words, file) in commands {
+        folder.put(file, b"precious");
+        folder.fails(1, &format!("{words} {LIST}"), &[file, "--force"]);
+        assert_eq!(folder.get(file), b"precious");
+        folder.done(&format!("{words} {LIST} --force"));
+        assert_ne!(folder.get(file), b"precious");
+    }
+    // A name that leads nowhere is taken too.
+    #[cfg(unix)]
+    {
+        std::os::unix::fs::symlink("nowhere", folder.path("link.ppm")).unwrap();
+        folder.fails(1, &format!("restore a.4x4.patches -o link.ppm {LIST}"), &["link.ppm", "--force"]);
+    }
+    // A folder in the way stays, forced or not.
+    fs::create_dir(folder.path("taken.ppm")).unwrap();
+    for force in ["", "--force"] {
+        folder.fails(1, &format!("restore a.4x4.patches -o taken.ppm {LIST} {force}"), &["taken.ppm"]);
+    }
+    folder.fails(1, &format!("restore a.4x4.patches -o no/such/folder.ppm {LIST}"), &["no/such/folder.ppm"]);
+    folder.fails(1, &format!("patches a.ppm -o a.ppm {LIST}"), &["a.ppm: this folder cannot be made"]);
+    // Nothing that was begun is left.
+    for names in [folder.names("."), folder.names("out")] {
+        assert!(names.iter().all(|name| !name.starts_with('.')), "{names:?}");
+    }
+}
+
+#[test]
+fn a_list_goes_on_past_a_refused_sweep() {
+    let folder = Folder::new("list");
+    sweep(&folder, "a.ppm", 8, 8, 1);
+    folder.put("broken.ppm", b"P6 8 8 255\nno");
+    sweep(&folder, "c.ppm", 8, 8, 3);
+    let output = folder.kz(&format!("encode a.ppm broken.ppm c.ppm -o out {LIST}"));
+    assert_eq!(output.status.code(), Some(1));
+    let said = String::from_utf8(output.stderr).unwrap();
+    assert!(said.contains("kz: broken.ppm: is cut short"), "{said}");
+    assert!(said.ends_with("kz: 1 of 3 sweeps were refused\n"), "{said}");
+    assert_eq!(folder.names("out"), ["a.2x2.tokens", "c.2x2.tokens"]);
+    assert_eq!(String::from_utf8(output.stdout).unwrap().lines().count(), 2);
+}
+
+#[test]
+fn compare_finds_the_patches_that_differ() {
+    let folder = Folder::new("compare");
+    let mut rgb = sweep(&folder, "a.ppm", 8, 16, 4);
+    // The pixels at row 3, column 9 and at row 7, column 0.
+    rgb[(3 * 16 + 9) * 3] ^= 1;
+    rgb[7 * 16 * 3 + 2] ^= 0x80;
+    folder.put("b.ppm", &p6(8, 16, &rgb));
+    let said = folder.done(&format!("compare a.ppm b.ppm -o map.ppm {LIST}"));
+    assert!(said.starts_with("30 of 32 patches are equal; the first that differs is at row 1, column 4 (from 0)\n"));
+    let map = folder.get("map.ppm");
+    let pixels = &map[map.len() - 8 * 16 * 3..];
+    for (k, pixel) in pixels.chunks_exact(3).enumerate() {
+        let place = (k / 16 / 2, k % 16 / 2);
+        assert_eq!(pixel[0] > pixel[1], place == (1, 4) || place == (3, 0), "{place:?}");
+    }
+    assert_eq!(folder.done(&format!("compare a.ppm a.ppm {LIST}")), "32 of 32 patches are equal\n");
+}
+
+#[test]
+fn names_after_two_dashes_are_files() {
+    let folder = Folder::new("dashes");
+    sweep(&folder, "-a.ppm", 8, 8, 1);
+    folder.done(&format!("patches -o out {LIST} -- -a.ppm"));
+    assert_eq!(folder.names("out"), ["-a.4x4.patches"]);
+}
+
+#[test]
+fn bench_times_every_call() {
+    let folder = Folder::new("bench");
+    let said = folder.done(&format!("bench --size 8x8 {LIST}"));
+    for call in ["preprocess", "forward", "restore"] {
+        assert!(said.contains(call), "{said}");
+    }
+}
+
+/// Sides and colour type of a PNG.
+fn png_head(file: &[u8]) -> (u32, u32, u8) {
+    assert_eq!(file[..8], *b"\x89PNG\r\n\x1a\n");
+    assert_eq!(file[file.len() - 8..file.len() - 4], *b"IEND");
+    let side = |at: usize| u32::from_be_bytes(file[at..at + 4].try_into().unwrap());
+    (side(20), side(16), file[25])
+}
+
+#[test]
+fn demo() {
+    let folder = Folder::new("demo");
+    let said = folder.done("demo -o d");
+    assert!(said.contains("1728 patches: identical to resized.png"), "{said}");
+    let names = ["overview.png", "resized.png", "restored.png", "similarity.png", "sweep.png", "sweep.ppm"];
+    assert_eq!(folder.names("d"), names);
+    assert_eq!(png_head(&folder.get("d/sweep.png")), (490, 650, 0));
+    assert_eq!(png_head(&folder.get("d/resized.png")), (504, 672, 0));
+    assert_eq!(folder.get("d/restored.png"), folder.get("d/resized.png"));
+    assert_eq!(png_head(&folder.get("d/similarity.png")), (504, 672, 2));
+    folder.fails(1, "demo -o d", &["d/sweep.png", "--force"]);
+    // Its sweep is one for the other commands.
+    folder.done("patches d/sweep.ppm -o d");
+    assert!(Path::new(&folder.path("d/sweep.36x48.patches")).exists());
+}
