@@ -10,7 +10,7 @@ use std::time::SystemTime;
 
 const ARCHIVES: [&str; 2] = ["kyzgultam", "number"];
 
-const INSTALL: &str = "\
+const INSTALL: &str = "  \
   Install the Rattle kit and put its `rt` on the PATH (it needs Linux with glibc 2.34 or newer),
   or set KZ_ARCHIVES to a folder that holds libkyzgultam.a and libnumber.a.";
 
@@ -89,15 +89,15 @@ fn make(root: &Path, name: &str, why: &str) {
 
 /// The file changed last of those that an archive is made from: crates.txt and each crate's src, specs and proofs.
 fn newest_source(root: &Path) -> io::Result<(PathBuf, SystemTime)> {
-    let list = root.join("crates.txt");
+    let (list, crates) = (root.join("crates.txt"), root.join("crates"));
     println!("cargo:rerun-if-changed={}", list.display());
+    println!("cargo:rerun-if-changed={}", crates.display());
     let mut newest = (list.clone(), fs::metadata(&list)?.modified()?);
-    for entry in fs::read_dir(root.join("crates"))? {
+    for entry in fs::read_dir(&crates)? {
         let entry = entry?.path();
         for part in ["src", "specs", "proofs"] {
             let folder = entry.join(part);
             if folder.is_dir() {
-                println!("cargo:rerun-if-changed={}", folder.display());
                 look(&folder, &mut newest)?;
             }
         }
