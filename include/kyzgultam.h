@@ -54,7 +54,10 @@ struct kz_patch_place {
     size_t start, len; /* 0 and 0 where there is no such patch */
 };
 
-/* The patches of a picture: height * width pixels of three bytes. Refused with 1, 2, 3, 4, 5. */
+/*
+ * The patches of a picture: height * width pixels of three bytes, by row. Patches run by row; a patch has its samples
+ * by channel, row and column: 3 * patch^2 floats. Refused with 1, 2, 3, 4, 5.
+ */
 struct kz_preprocess_report kz_preprocess(struct kz_picture_settings settings, const uint8_t *rgb, size_t rgb_len,
                                           size_t height, size_t width, float *out, size_t out_len);
 

@@ -63,7 +63,7 @@ pub fn run(given: &Given) -> Result<(), Fail> {
     let restored = Picture { height: size.height, width: size.width, rgb };
 
     let resized = resize(&sweep, restored.height, restored.width);
-    write("resized.png", picture(&resized), format!("{}x{}, by plain Rust", resized.height, resized.width))?;
+    write("resized.png", picture(&resized), format!("{}x{}, resized by plain Rust", resized.height, resized.width))?;
     let count = cut.grid_h * cut.grid_w;
     let same = if restored.rgb == resized.rgb { "identical to resized.png" } else { "NOT as resized.png" };
     write("restored.png", picture(&restored), format!("{}x{}, from {count} patches: {same}", size.height, size.width))?;
@@ -99,7 +99,7 @@ fn similarity(tokens: &[f32], len: usize, centre: usize) -> Vec<f32> {
     tokens.chunks_exact(len).map(|t| dot(t, c) / (dot(t, t) * dot(c, c)).sqrt().max(f32::MIN_POSITIVE)).collect()
 }
 
-/// The resize of document 01, in plain Rust: it is what restore is held to here.
+/// The resize as the Rust has it: what restore is held to here.
 fn resize(from: &Picture, height: usize, width: usize) -> Picture {
     let near = |i: usize, source: usize, target: usize| {
         let place = i as f64 * (source as f64 / target as f64);

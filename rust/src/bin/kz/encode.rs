@@ -14,9 +14,10 @@ kz encode SWEEP.ppm .. -o DIR [--weights FILE] [--tables FILE]
           [--settings LIST] [--force]
 
 Writes the token vectors of each SWEEP (P5 or P6) to DIR/SWEEP.HxW.tokens,
-H rows of W vectors. Files are floats: f32, little-endian, in document 01's
-order. Without --weights they come from a seed; without --tables they are
-the Rust's, for theta 10000. A tables file has all cosines, then all sines.
+H rows of W vectors. Files are floats: f32, little-endian, in the order of
+include/kyzgultam.h; a tables file has all cosines, then all sines. Without
+--weights they come from a seed; without --tables they are those that the
+Rust makes for theta 10000.
 
 --settings is a list as patch=14,image=560; what it leaves out is built in:
   patch 14 (1..32)   hidden 64 (4..2048)  layers 2 (0..48)
@@ -29,9 +30,9 @@ pub const PATCHES: &str = "\
 kz patches SWEEP.ppm .. -o DIR [--settings LIST] [--force]
 
 Writes the patches of each SWEEP (P5 or P6) to DIR/SWEEP.HxW.patches, H rows
-of W patches. Files are floats: f32, little-endian, in document 01's order.
-`kz restore` brings the picture back. Of --settings (`kz encode --help`)
-patch, merge and image are used.
+of W patches. Files are floats: f32, little-endian, in the order of
+include/kyzgultam.h. `kz restore` brings the picture back. Of --settings
+(`kz encode --help`) patch, merge and image are used.
 ";
 
 /// Patches of one picture after another, in one buffer.

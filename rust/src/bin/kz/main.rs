@@ -32,8 +32,8 @@ kz: the Pixtral image encoder, proved; from the command line
   kz compare A.ppm B.ppm [-o OUT.png]   which patches are equal, as a picture
   kz bench                              how long each call takes
                                         (oracle/run compares with the Rust)
-Pictures are binary netpbm, P5 or P6. Other files are floats: f32,
-little-endian, in document 01's order. Sizes are HEIGHTxWIDTH.
+Pictures are binary netpbm, P5 or P6. Other files are floats: f32, little-
+endian, in the order of include/kyzgultam.h. Sizes are HEIGHTxWIDTH.
 
   --settings LIST   as patch=14,merge=2,image=1540 (`kz encode --help`)
   --weights FILE    for encode and bench; a small seeded model without it
