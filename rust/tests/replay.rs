@@ -1,5 +1,6 @@
 //! The Rust's stored answers, through this crate: those of crates/*_replay, whose main.rt says what a record holds.
 
+#[rustfmt::skip]
 #[allow(dead_code)]
 #[path = "../../oracle/sample.rs"]
 mod sample;
