@@ -1,7 +1,6 @@
 //! Binary netpbm pictures: P5 (grey) and P6 (RGB), samples of one byte.
 
-use crate::fail::numbered;
-use crate::fail::Fail;
+use crate::fail::{numbered, Fail};
 use crate::files;
 use kyzgultam::Refusal;
 use std::path::Path;
@@ -71,7 +70,7 @@ fn parse(bytes: &[u8]) -> Result<Picture, String> {
         Some(b"P5") => 1,
         Some(b"P6") => 3,
         Some([b'P', b'1'..=b'7']) => {
-            return Err("is a netpbm picture, but not P5 or P6; convert it, as with `pnmtopnm` or `pamtopnm`".into())
+            return Err("is a netpbm picture, but not P5 or P6; convert it, as with `magick IN OUT.ppm`".into())
         }
         _ => return Err("is no binary netpbm picture (P5 or P6); convert it, as with `magick IN OUT.ppm`".into()),
     };
