@@ -79,7 +79,7 @@ module _ {A : Type 0} where
   rows-ext zero f g h = refl
   rows-ext (suc n) f g h = let e = rows-ext n f g (λ i l. h i (omega arith)) in let e′ = h n (omega arith) in cc
 
-  rows-add : (n m : ℕ) (f : ℕ → List A) → rows (n + m) f ≡ rows n f ++ rows m (λ j. f (n + j))
+  pub rows-add : (n m : ℕ) (f : ℕ → List A) → rows (n + m) f ≡ rows n f ++ rows m (λ j. f (n + j))
   unfolding rows
   rows-add n zero f = ap (λ (k : ℕ). rows k f) (add-zero n) ∙ sym (append-nil (rows n f))
   rows-add n (suc m) f =

@@ -1,5 +1,7 @@
 pub mod Sums
 pub mod Steps
+pub mod Fills
+pub mod Pieces
 pub mod Finites
 pub mod Turn
 pub mod Attends

@@ -1,5 +1,6 @@
 pub mod Each
 pub mod Linear
+pub mod Lanes
 pub mod Finite
 pub mod Element
 pub mod Norm

@@ -2,6 +2,7 @@
 pub mod attention;
 pub mod element;
 pub mod finite;
+mod lanes;
 pub mod linear;
 pub mod norm;
 mod room;

@@ -3,12 +3,15 @@ ghost use mathlib.Core.Path.{_≡_};
 ghost use Prim.Native.Nat.{_*_};
 ghost use lib.ListN.{length};
 ghost use Rattle.buffers.specs.Region.{region, put};
-ghost use Rattle.kernels.specs.Linear.{dotOf, linearRow, linearOf};
+ghost use Rattle.kernels.specs.Linear.{dotOf, linearOf};
+ghost use Rattle.kernels.specs.Lanes.{goneOn};
 ghost use Rattle.kernels.specs.Room.{whereFits, linearFits, fromFits};
-ghost use Rattle.kernels.specs.Fits.{RowFits, LinearFits, FromRowFits, FromFits};
+ghost use Rattle.kernels.specs.Fits.{Least, PieceFits, BlockFits, LinearFits, FromPieceFits, FromBlockFits, FromFits};
+use crate::attention::clear_row;
+use crate::lanes::columns;
+use crate::lanes::pack;
 use crate::room::from_fits;
 use crate::room::linear_fits;
-use buffers::part;
 
 pub(crate) fn dot(x: &[f32], w: &[f32]) -> f32
     requires { ⌜ length (now x) ≡ length (now w) ⌝ }
@@ -23,24 +26,48 @@ pub(crate) fn dot(x: &[f32], w: &[f32]) -> f32
     acc
 }
 
-// The nin floats of s at x by each of the nout rows of w, written at y.
-pub(crate) fn linear_row(s: &mut [f32], x: usize, y: usize, nin: usize, nout: usize, w: &[f32])
-    requires { ⌜ RowFits (length (now s)) (length (now w)) x y nin nout ⌝ }
-    ensures { λ _. ⌜ now (s .exit) ≡ put (now (s .entry)) y (linearRow nin nout (now (w .entry)) (region (now (s .entry)) x nin)) ⌝ }
+// The least of a and b.
+pub(crate) fn least(a: usize, b: usize) -> usize
+    ensures { λ r. ⌜ Least a b r ⌝ }
 {
-    let xe = x + nin;
-    let mut c = 0usize;
-    let mut wa = 0usize;
-    while c < nout {
-        let we = wa + nin;
-        let d = dot(&s[x..xe], &w[wa..we]);
-        s[y + c] = d;
-        wa = we;
-        c += 1;
+    if a < b { a } else { b }
+}
+
+// The sums of the r rows at y go on by the n products from k on.
+pub(crate) fn piece(
+    s: &mut [f32],
+    x: usize,
+    y: usize,
+    r: usize,
+    nin: usize,
+    nout: usize,
+    w: &[f32],
+    k: usize,
+    n: usize,
+)
+    requires { ⌜ PieceFits (length (now s)) (length (now w)) x y r nin nout k n ⌝ }
+    ensures { λ _. ⌜ now (s .exit) ≡ put (now (s .entry)) y (goneOn k n r nin nout (now (w .entry)) (region (now (s .entry)) x (r * nin)) (region (now (s .entry)) y (r * nout))) ⌝ }
+{
+    let mut xt = [0.0f32; 8192];
+    pack(&mut xt, s, x + k, r, nin, n);
+    columns(s, y, r, nin, nout, w, k, n, &xt);
+}
+
+// Up to sixteen rows at x, from +0 on, piece after piece.
+pub(crate) fn block(s: &mut [f32], x: usize, y: usize, r: usize, nin: usize, nout: usize, w: &[f32])
+    requires { ⌜ BlockFits (length (now s)) (length (now w)) x y r nin nout ⌝ }
+    ensures { λ _. ⌜ now (s .exit) ≡ put (now (s .entry)) y (linearOf r nin nout (now (w .entry)) (region (now (s .entry)) x (r * nin))) ⌝ }
+{
+    clear_row(s, y, r * nout);
+    let mut k = 0usize;
+    while k < nin {
+        let n = least(nin - k, 512);
+        piece(s, x, y, r, nin, nout, w, k, n);
+        k += n;
     }
 }
 
-// The n rows at x, one after another.
+// The n rows at x, sixteen by sixteen.
 pub(crate) fn linear_rows(
     s: &mut [f32],
     x: usize,
@@ -53,33 +80,57 @@ pub(crate) fn linear_rows(
     requires { ⌜ LinearFits (length (now s)) (length (now w)) x y n nin nout ⌝ }
     ensures { λ _. ⌜ now (s .exit) ≡ put (now (s .entry)) y (linearOf n nin nout (now (w .entry)) (region (now (s .entry)) x (n * nin))) ⌝ }
 {
-    let mut r = 0usize;
-    let mut xa = x;
-    let mut ya = y;
-    while r < n {
-        linear_row(s, xa, ya, nin, nout, w);
-        xa += nin;
-        ya += nout;
-        r += 1;
+    let mut i = 0usize;
+    while i < n {
+        let r = least(n - i, 16);
+        block(s, x + i * nin, y + i * nout, r, nin, nout, w);
+        i += r;
     }
 }
 
-// The row x by each of the nout rows of w, written at y of s.
-pub(crate) fn from_row(x: &[f32], s: &mut [f32], y: usize, nin: usize, nout: usize, w: &[f32])
-    requires { ⌜ FromRowFits (length (now x)) (length (now s)) (length (now w)) y nin nout ⌝ }
-    ensures { λ _. ⌜ now (s .exit) ≡ put (now (s .entry)) y (linearRow nin nout (now (w .entry)) (now (x .entry))) ⌝ }
+// The same with rows of another slice.
+pub(crate) fn from_piece(
+    x: &[f32],
+    xa: usize,
+    s: &mut [f32],
+    y: usize,
+    r: usize,
+    nin: usize,
+    nout: usize,
+    w: &[f32],
+    k: usize,
+    n: usize,
+)
+    requires { ⌜ FromPieceFits (length (now x)) (length (now s)) (length (now w)) xa y r nin nout k n ⌝ }
+    ensures { λ _. ⌜ now (s .exit) ≡ put (now (s .entry)) y (goneOn k n r nin nout (now (w .entry)) (region (now (x .entry)) xa (r * nin)) (region (now (s .entry)) y (r * nout))) ⌝ }
 {
-    let mut c = 0usize;
-    let mut wa = 0usize;
-    while c < nout {
-        let d = dot(x, part(w, wa, nin));
-        s[y + c] = d;
-        wa += nin;
-        c += 1;
+    let mut xt = [0.0f32; 8192];
+    pack(&mut xt, x, xa + k, r, nin, n);
+    columns(s, y, r, nin, nout, w, k, n, &xt);
+}
+
+pub(crate) fn from_block(
+    x: &[f32],
+    xa: usize,
+    s: &mut [f32],
+    y: usize,
+    r: usize,
+    nin: usize,
+    nout: usize,
+    w: &[f32],
+)
+    requires { ⌜ FromBlockFits (length (now x)) (length (now s)) (length (now w)) xa y r nin nout ⌝ }
+    ensures { λ _. ⌜ now (s .exit) ≡ put (now (s .entry)) y (linearOf r nin nout (now (w .entry)) (region (now (x .entry)) xa (r * nin))) ⌝ }
+{
+    clear_row(s, y, r * nout);
+    let mut k = 0usize;
+    while k < nin {
+        let n = least(nin - k, 512);
+        from_piece(x, xa, s, y, r, nin, nout, w, k, n);
+        k += n;
     }
 }
 
-// The n rows of x, one after another.
 pub(crate) fn from_rows(
     x: &[f32],
     s: &mut [f32],
@@ -92,14 +143,11 @@ pub(crate) fn from_rows(
     requires { ⌜ FromFits (length (now x)) (length (now s)) (length (now w)) y n nin nout ⌝ }
     ensures { λ _. ⌜ now (s .exit) ≡ put (now (s .entry)) y (linearOf n nin nout (now (w .entry)) (now (x .entry))) ⌝ }
 {
-    let mut r = 0usize;
-    let mut xa = 0usize;
-    let mut ya = y;
-    while r < n {
-        from_row(part(x, xa, nin), s, ya, nin, nout, w);
-        xa += nin;
-        ya += nout;
-        r += 1;
+    let mut i = 0usize;
+    while i < n {
+        let r = least(n - i, 16);
+        from_block(x, i * nin, s, y + i * nout, r, nin, nout, w);
+        i += r;
     }
 }
 

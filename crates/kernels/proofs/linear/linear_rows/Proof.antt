@@ -1,78 +1,115 @@
 -- `kernels::linear::linear_rows` meets its contract. Assumes nothing.
-use mathlib.Core.Path.{_≡_, ap, _∙_}
-use Prim.Native.Nat.{_+_, _*_, _-_, _≤_}
-use native.Mathlib.Nat.{suc-mul}
-use native.Mathlib.Omega.{arith}
-use native.Mathlib.Numerals.{add-one}
 use borrow.Author.Needs.{needs}
-use lib.ListN.{length}
-use Rattle.buffers.proofs.Lists.{fit}
-use Rattle.buffers.proofs.Regions.{apart-sub}
+use Prim.Native.Nat.{ℕ, _+_, _*_, _-_, _≤_, _<_}
+use native.Mathlib.Omega.{arith}
+use mathlib.Core.Path.{_≡_, refl, sym, ap, _∙_}
+use lib.ListN.{length, getD}
+use lib.Ieee.{nan}
 use Rattle.buffers.specs.Region.{region, put}
 use Rattle.buffers.specs.Rows.{rows}
-use Rattle.kernels.specs.Each.{eachRow}
-use Rattle.kernels.specs.Linear.{linearRow, linearOf}
-use Rattle.kernels.proofs.Steps.{row-step}
-use Rattle.kernels.proofs.Sums.{length-linear-row}
+use Rattle.kernels.specs.Linear.{linearOf}
+use Rattle.buffers.proofs.Regions.{apart-sub}
+use Rattle.kernels.proofs.Pieces.{fit-more, rows-turn-in}
 use Rattle.kernels.proofs.linear.linear_rows.Statement.{statement}
 use Rattle.kernels.proofs.linear.linear_rows.Tie as tie
 
 abbrev Inv-loop : tie.InvT-loop
-Inv-loop s₀ x y n nin nout w r₀ xa₀ ya₀ s r xa ya =
-    (r ≤ n) × (xa ≡ x + r * nin) × (ya ≡ y + r * nout) × (length s ≡ length s₀)
-    × (s ≡ put s₀ y (eachRow r nin (λ _. linearRow nin nout w) (region s₀ x (n * nin))))
+Inv-loop s₀ x y n nin nout w i₀ s i =
+    (i ≤ n) × (length s ≡ length s₀) × (s ≡ put s₀ y (linearOf i nin nout w (region s₀ x (n * nin))))
 
 abbrev μ-loop : tie.MeasureT-loop
-μ-loop s₀ x y n nin nout w r₀ xa₀ ya₀ s r xa ya = n - r
+μ-loop s₀ x y n nin nout w i₀ s i = n - i
 
 loop-holds : tie.Need-loop-holds Inv-loop μ-loop
-unfolding put rows
-loop-holds c = search needs
+unfolding put rows linearOf
+loop-holds c = (omega arith, refl, refl)
 
-linear-row-requires : tie.Need-linear-row-requires Inv-loop μ-loop
-linear-row-requires c κs =
-    let a = c .before .before .before .before .before .args in
-    let h₁ = fit (a .nin) (c .before .loop-test .taken) in
-    let h₂ = fit (a .nout) (c .before .loop-test .taken) in
+sub-least : tie.Need-sub-least Inv-loop μ-loop
+sub-least c = search needs
+
+least-requires : tie.Need-least-requires Inv-loop μ-loop
+least-requires c κs = search needs
+
+mul-block : tie.Need-mul-block Inv-loop μ-loop
+mul-block c = let a = c .before .before .before .before .before .before .args in
+    let p = c .before .before .before .before .before .before .pre in
+    let l = c .before .before .before .loop in
+    let m = c .before .least .ensures in
+    let h : l .i + c .before .least .result ≤ a .n = omega (arith, m .first, l .inv .0) in
+    let f = fit-more (l .i) (c .before .least .result) (a .nin) h in
+    let f′ = fit-more (l .i) (c .before .least .result) (a .nout) h in
+    omega (arith, p .xin)
+
+add-block : tie.Need-add-block Inv-loop μ-loop
+add-block c = let a = c .before .before .before .before .before .before .args in
+    let p = c .before .before .before .before .before .before .pre in
+    let l = c .before .before .before .loop in
+    let m = c .before .least .ensures in
+    let h : l .i + c .before .least .result ≤ a .n = omega (arith, m .first, l .inv .0) in
+    let f = fit-more (l .i) (c .before .least .result) (a .nin) h in
+    let f′ = fit-more (l .i) (c .before .least .result) (a .nout) h in
+    omega (arith, p .xin)
+
+mul-block-2 : tie.Need-mul-block-2 Inv-loop μ-loop
+mul-block-2 c = let a = c .before .before .before .before .before .before .args in
+    let p = c .before .before .before .before .before .before .pre in
+    let l = c .before .before .before .loop in
+    let m = c .before .least .ensures in
+    let h : l .i + c .before .least .result ≤ a .n = omega (arith, m .first, l .inv .0) in
+    let f = fit-more (l .i) (c .before .least .result) (a .nin) h in
+    let f′ = fit-more (l .i) (c .before .least .result) (a .nout) h in
+    omega (arith, p .yin)
+
+add-block-2 : tie.Need-add-block-2 Inv-loop μ-loop
+add-block-2 c = let a = c .before .before .before .before .before .before .args in
+    let p = c .before .before .before .before .before .before .pre in
+    let l = c .before .before .before .loop in
+    let m = c .before .least .ensures in
+    let h : l .i + c .before .least .result ≤ a .n = omega (arith, m .first, l .inv .0) in
+    let f = fit-more (l .i) (c .before .least .result) (a .nin) h in
+    let f′ = fit-more (l .i) (c .before .least .result) (a .nout) h in
+    omega (arith, p .yin)
+
+block-requires : tie.Need-block-requires Inv-loop μ-loop
+block-requires c κs = let a = c .before .before .before .before .before .before .args in
+    let p = c .before .before .before .before .before .before .pre in
+    let l = c .before .before .before .loop in
+    let m = c .before .least .ensures in
+    let h : l .i + c .before .least .result ≤ a .n = omega (arith, m .first, l .inv .0) in
+    let f = fit-more (l .i) (c .before .least .result) (a .nin) h in
+    let f′ = fit-more (l .i) (c .before .least .result) (a .nout) h in
     record {
-      xin = omega arith;
-      yin = omega arith;
-      win = omega arith;
-      apart = apart-sub (c .before .before .before .before .before .pre .apart) (omega arith) (omega arith) (omega arith) (omega arith);
+      some = m .some (omega (arith, c .before .before .loop-test .taken)) (omega arith);
+      lanes = m .second;
+      all = record {
+        xin = omega (arith, p .xin, l .inv .1);
+        yin = omega (arith, p .yin, l .inv .1);
+        win = p .win;
+        apart = apart-sub (p .apart) (omega arith) (omega arith) (omega arith) (omega arith);
+      };
     }
 
-add-xa : tie.Need-add-xa Inv-loop μ-loop
-add-xa c = omega (arith, fit (c .before .before .before .before .before .before .before .before .args .nin) (c .before .before .before .before .loop-test .taken))
-
-add-ya : tie.Need-add-ya Inv-loop μ-loop
-add-ya c = omega (arith, fit (c .before .before .before .before .before .before .before .before .args .nout) (c .before .before .before .before .loop-test .taken))
-
-add-r : tie.Need-add-r Inv-loop μ-loop
-add-r c = search needs
+add-i : tie.Need-add-i Inv-loop μ-loop
+add-i c = omega (arith, c .before .before .before .before .least .ensures .first, c .before .before .before .before .before .before .loop .inv .0)
 
 loop-less : tie.Need-loop-less Inv-loop μ-loop
-loop-less c = search needs
+loop-less c = let m = c .before .before .before .before .least .ensures .some (omega (arith, c .before .before .before .before .before .loop-test .taken)) (omega arith) in omega (arith, c .before .before .before .before .before .loop-test .taken)
 
 loop-again : tie.Need-loop-again Inv-loop μ-loop
-loop-again c =
-    let l = c .before .before .before .before .before .loop in
-    let a = c .before .before .before .before .before .before .before .before .args in
-    let g = c .before .before .before .before .before .before .before .before .pre in (
-      omega arith,
-      rw (add-one, suc-mul) (omega arith),
-      rw (add-one, suc-mul) (omega arith),
-      c .before .before .linear-row .kept .0 ∙ l .inv .3,
-      cc (c .before .before .linear-row .ensures, l .inv .1, l .inv .2, l .inv .4, row-step (a .s .now) (a .x) (a .y) (a .n) (a .nin) (a .nout) (l .r) (λ _. linearRow (a .nin) (a .nout) (a .w .now)) (λ _ x. length-linear-row (a .nin) (a .nout) (a .w .now) x) (apart-sub (g .apart) (omega arith) (omega (arith, fit (a .nin) (c .before .before .before .before .loop-test .taken))) (omega arith) (omega (arith, fit (a .nout) (c .before .before .before .before .loop-test .taken)))) (omega arith)),
+loop-again c = let l = c .before .before .before .before .before .before .loop in
+    let a = c .before .before .before .before .before .before .before .before .before .args in
+    let h : l .i + c .before .before .before .before .least .result ≤ a .n = omega (arith, c .before .before .before .before .least .ensures .first, l .inv .0) in (
+      h,
+      c .before .before .block .kept .0 ∙ l .inv .1,
+      rows-turn-in (c .before .before .before .before .least .result) (a .nin) (a .nout) (a .w .now) (a .s .now) (l .s) (c .before .before .block .last .0) (a .x) (a .y) (a .n) (l .i) (c .before .before .before .before .before .before .before .before .before .pre .apart) h (l .inv .2) (c .before .before .block .ensures),
     )
 
 same-length : tie.Need-same-length Inv-loop μ-loop
-same-length c = c .before .loop .inv .3
+same-length c = c .before .loop .inv .1
 
 returns : tie.Need-returns Inv-loop μ-loop
-unfolding linearOf
-returns c =
-    let a = c .before .before .before .before .args in
-    c .before .loop .inv .4 ∙ ap (λ m. put (a .s .now) (a .y) (eachRow m (a .nin) (λ _. linearRow (a .nin) (a .nout) (a .w .now)) (region (a .s .now) (a .x) (a .n * a .nin)))) (omega arith)
+returns c = let a = c .before .before .before .before .args in
+    c .before .loop .inv .2 ∙ ap (λ m. put (a .s .now) (a .y) (linearOf m (a .nin) (a .nout) (a .w .now) (region (a .s .now) (a .x) (a .n * a .nin)))) (omega arith)
 
 pub linear-rows-spec : {M : Type 1} → statement M
 linear-rows-spec =
@@ -81,10 +118,14 @@ linear-rows-spec =
     Inv-loop
     μ-loop
     loop-holds
-    linear-row-requires
-    add-xa
-    add-ya
-    add-r
+    sub-least
+    least-requires
+    mul-block
+    add-block
+    mul-block-2
+    add-block-2
+    block-requires
+    add-i
     loop-less
     loop-again
     same-length
