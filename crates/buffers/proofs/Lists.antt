@@ -93,7 +93,7 @@ module _ {A : Type 0} where
   rows-mul zero b f = ap (λ (k : ℕ). rows k f) (zero-mul b)
   rows-mul (suc a) b f = ap (λ (k : ℕ). rows k f) (suc-mul a b) ∙ rows-add (a * b) b f ∙ ap (λ (l : List A). l ++ rows b (λ j. f (a * b + j))) (rows-mul a b f)
 
-  tab-add : (n m : ℕ) (f : ℕ → A) → tab (n + m) f ≡ tab n f ++ tab m (λ j. f (n + j))
+  pub tab-add : (n m : ℕ) (f : ℕ → A) → tab (n + m) f ≡ tab n f ++ tab m (λ j. f (n + j))
   unfolding tab
   tab-add n zero f = ap (λ (k : ℕ). tab k f) (add-zero n) ∙ sym (append-nil (tab n f))
   tab-add n (suc m) f =

@@ -4,6 +4,7 @@ pub mod Fills
 pub mod Pieces
 pub mod Finites
 pub mod Turn
+pub mod Products
 pub mod Attends
 pub mod Rooms
 pub mod Constants

@@ -4,6 +4,7 @@ ghost use mathlib.Core.Bool.{_&&_, cond};
 ghost use Prim.Native.Nat.{_+_, _*_, _<_, _≤_};
 ghost use lib.ListN.{length};
 ghost use lib.Ieee.{lt};
+ghost use Rattle.buffers.specs.Rows.{tab};
 ghost use Rattle.buffers.specs.Region.{region, put, zero32};
 ghost use Rattle.kernels.specs.Each.{blank};
 ghost use Rattle.kernels.specs.Finite.{sound};
@@ -11,6 +12,8 @@ ghost use Rattle.kernels.specs.Attention.{scoreRow, maxOf, totalOf, inve
 ghost use Rattle.kernels.specs.Room.{attendFits};
 ghost use Rattle.kernels.specs.Fits.{ScoresFits, WeighFits, HeadAt, TokenAt, AttendFits};
 use crate::finite::finite;
+use crate::lanes::add_products;
+use crate::lanes::copy_spread;
 use crate::linear::dot;
 use crate::room::attend_fits;
 use buffers::clear;
@@ -129,7 +132,50 @@ pub(crate) fn column(p: &[f32], v: &[f32], o: usize, dim: usize) -> f32
     acc
 }
 
-pub(crate) fn weigh(
+// Sixteen such sums side by side: those at the places o to o + 15.
+pub(crate) fn wide(p: &[f32], v: &[f32], o: usize, dim: usize) -> [f32; 16]
+    requires { ⌜ (length (now v) ≡ length (now p) * dim) × (o + 16 ≤ dim) ⌝ }
+    ensures { λ r. ⌜ r ≡ tab 16 (λ l. columnOf (length (now (p .entry))) dim (o + l) (now (p .entry)) (now (v .entry))) ⌝ }
+{
+    let mut b = [0.0f32; 16];
+    let mut j = 0usize;
+    let mut a = o;
+    while j < p.len() {
+        let t = p[j];
+        let next = add_products(b, v, a, t);
+        b = next;
+        a += dim;
+        j += 1;
+    }
+    b
+}
+
+// The sums of a head, sixteen by sixteen while there are as many; how many were written.
+pub(crate) fn weigh_wide(
+    s: &mut [f32],
+    row: usize,
+    v: usize,
+    out: usize,
+    t: usize,
+    dim: usize,
+    hd: usize,
+    o: usize,
+) -> usize
+    requires { ⌜ WeighFits (length (now s)) row v out t dim hd o ⌝ }
+    ensures { λ r. ⌜ (r ≤ hd) × (now (s .exit) ≡ put (now (s .entry)) out (weighedRow t dim r o (region (now (s .entry)) row t) (region (now (s .entry)) v (t * dim)))) ⌝ }
+{
+    let n = t * dim;
+    let mut d = 0usize;
+    while 16 <= hd - d {
+        let b = wide(part(s, row, t), part(s, v, n), o + d, dim);
+        copy_spread(s, out + d, 1, &b, 0, 1, 16);
+        d += 16;
+    }
+    d
+}
+
+// The sums of a head, one after another.
+pub(crate) fn weigh_rest(
     s: &mut [f32],
     row: usize,
     v: usize,
@@ -149,6 +195,23 @@ pub(crate) fn weigh(
         s[out + d] = x;
         d += 1;
     }
+}
+
+pub(crate) fn weigh(
+    s: &mut [f32],
+    row: usize,
+    v: usize,
+    out: usize,
+    t: usize,
+    dim: usize,
+    hd: usize,
+    o: usize,
+)
+    requires { ⌜ WeighFits (length (now s)) row v out t dim hd o ⌝ }
+    ensures { λ _. ⌜ now (s .exit) ≡ put (now (s .entry)) out (weighedRow t dim hd o (region (now (s .entry)) row t) (region (now (s .entry)) v (t * dim))) ⌝ }
+{
+    let d = weigh_wide(s, row, v, out, t, dim, hd, o);
+    weigh_rest(s, row, v, out + d, t, dim, hd - d, o + d);
 }
 
 // One query of one head: its scores, softened, weigh the values. Says whether every score was finite.

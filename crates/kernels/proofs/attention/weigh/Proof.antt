@@ -1,115 +1,92 @@
--- `kernels::attention::weigh` meets its contract. Assumes nothing.
-use mathlib.Core.Path.{_≡_, sym, ap, _∙_}
-use mathlib.Core.List.{List}
-use Prim.Native.Nat.{ℕ, _+_, _*_, _-_, _≤_, _<_}
-use native.Mathlib.Omega.{arith}
+-- `kernels::attention::weigh` meets its contract: the sums sixteen by sixteen, and the rest behind them. Assumes nothing.
 use borrow.Author.Needs.{needs}
-use lib.ListN.{length, set, length-set}
+use Prim.Native.Nat.{ℕ, _+_, _*_, _-_, _≤_}
+use native.Mathlib.Nat.{add-assoc}
+use native.Mathlib.Omega.{arith}
+use mathlib.Core.Path.{_≡_, refl, sym, ap, _∙_}
+use mathlib.Core.List.{List}
+use lib.ListN.{length}
 use lib.Ieee.{Float}
-use Rattle.buffers.proofs.Lists.{length-tab, put-tab}
-use Rattle.buffers.proofs.Regions.{region-put, apart-sub, length-region}
-use Rattle.buffers.specs.Region.{region, put}
 use Rattle.buffers.specs.Rows.{tab}
+use Rattle.buffers.specs.Region.{region, put}
+use Rattle.buffers.proofs.Lists.{length-tab, tab-ext, tab-add}
+use Rattle.buffers.proofs.Regions.{put-append, region-put, apart-sub}
 use Rattle.kernels.specs.Fits.{WeighFits}
 use Rattle.kernels.specs.Attention.{columnOf, weighedRow}
 use Rattle.kernels.proofs.attention.weigh.Statement.{statement}
 use Rattle.kernels.proofs.attention.weigh.Tie as tie
+use Rattle.kernels.proofs.attention.weigh.Reads as reads
+use Rattle.kernels.proofs.attention.weigh.Lts as lts
+use Rattle.kernels.proofs.attention.weigh_rest.Reads as weigh-rest-reads
+use Rattle.kernels.proofs.attention.weigh_wide.Reads as weigh-wide-reads
 
--- a store of one sum, read past the stores before it
-step : (s : List Float) (row v out t dim hd o : ℕ) (d : ℕ) → WeighFits (length s) row v out t dim hd o → d < hd
-    → (let u = put s out (weighedRow t dim d o (region s row t) (region s v (t * dim))) in
-    set u (out + d) (columnOf t dim (o + d) (region u row t) (region u v (t * dim))))
-    ≡ put s out (weighedRow t dim (d + 1) o (region s row t) (region s v (t * dim)))
+rest-fits : {lens row v out t dim hd o : ℕ} (d : ℕ) → WeighFits lens row v out t dim hd o → d ≤ hd → WeighFits lens row v (out + d) t dim (hd - d) (o + d)
+rest-fits d g h = record {
+  vIn = g .vIn;
+  rowIn = g .rowIn;
+  outIn = omega (arith, g .outIn);
+  oIn = omega (arith, g .oIn);
+  rowout = apart-sub (g .rowout) (omega arith) (omega arith) (omega arith) (omega arith);
+  vout = apart-sub (g .vout) (omega arith) (omega arith) (omega arith) (omega arith);
+}
+
+-- the first d sums, and the others behind them, read past the first
+both : (s u z : List Float) (row v out t dim hd o d : ℕ) → WeighFits (length s) row v out t dim hd o → d ≤ hd
+    → u ≡ put s out (weighedRow t dim d o (region s row t) (region s v (t * dim)))
+    → z ≡ put u (out + d) (weighedRow t dim (hd - d) (o + d) (region u row t) (region u v (t * dim)))
+    → z ≡ put s out (weighedRow t dim hd o (region s row t) (region s v (t * dim)))
 unfolding weighedRow
-step s row v out t dim hd o d g h =
+both s u z row v out t dim hd o d g h eu ez =
     let G : ℕ → Float = λ i. columnOf t dim (o + i) (region s row t) (region s v (t * dim)) in
-    let e = length-tab d G in
-    rw (
-      region-put s out (tab d G) row t (rw e (apart-sub (g .rowout) (omega arith) (omega arith) (omega arith) (omega arith))),
-      region-put s out (tab d G) v (t * dim) (rw e (apart-sub (g .vout) (omega arith) (omega arith) (omega arith) (omega arith))),
-    )
-    (put-tab s out d G)
+    let n = length-tab d G in
+    let r = ap (λ x. region x row t) eu ∙ region-put s out (tab d G) row t (rw n (apart-sub (g .rowout) (omega arith) (omega arith) (omega arith) (omega arith))) in
+    let q = ap (λ x. region x v (t * dim)) eu ∙ region-put s out (tab d G) v (t * dim) (rw n (apart-sub (g .vout) (omega arith) (omega arith) (omega arith) (omega arith))) in
+    let k : d + (hd - d) ≡ hd = omega arith in
+    ez ∙ ap (put u (out + d)) (tab-ext (hd - d) _ (λ i. G (d + i)) (λ i l. rw (r, q, add-assoc o d i) refl))
+    ∙ ap (λ x. put x (out + d) (tab (hd - d) (λ i. G (d + i)))) eu
+    ∙ put-append s out (tab d G) (tab (hd - d) (λ i. G (d + i))) (out + d) (rw n refl)
+    ∙ ap (put s out) (sym (tab-add d (hd - d) G) ∙ ap (λ m. tab m G) k)
 
-abbrev Inv-loop : tie.InvT-loop
-Inv-loop s₀ row v out t dim hd o n d₀ s d =
-    (d ≤ hd) × (length s ≡ length s₀)
-    × (s ≡ put s₀ out (weighedRow t dim d o (region s₀ row t) (region s₀ v (t * dim))))
+-- src/attention.rt:213:9
+weigh-wide-requires : tie.Need-weigh-wide-requires
+weigh-wide-requires c κs = search needs
 
-abbrev μ-loop : tie.MeasureT-loop
-μ-loop s₀ row v out t dim hd o n d₀ s d = hd - d
+-- src/attention.rt:214:27
+add-weigh-rest : tie.Need-add-weigh-rest
+add-weigh-rest c = search needs
 
-mul-n : tie.Need-mul-n Inv-loop μ-loop
-mul-n c = search needs
+-- src/attention.rt:214:44
+sub-weigh-rest : tie.Need-sub-weigh-rest
+sub-weigh-rest c = search needs
 
-loop-holds : tie.Need-loop-holds Inv-loop μ-loop
-unfolding put tab weighedRow
-loop-holds c = search needs
+-- src/attention.rt:214:52
+add-weigh-rest-2 : tie.Need-add-weigh-rest-2
+add-weigh-rest-2 c = search needs
 
-part-requires : tie.Need-part-requires Inv-loop μ-loop
-part-requires c κs = search needs
+-- src/attention.rt:214:5
+weigh-rest-requires : tie.Need-weigh-rest-requires
+weigh-rest-requires c κs = let w = c .before .before .before .weigh-wide in rw (w .kept .0) (rest-fits (w .result) (c .before .before .before .before .before .before .pre) (w .ensures .0))
 
-part-requires-2 : tie.Need-part-requires-2 Inv-loop μ-loop
-part-requires-2 c κs = search needs
+-- src/attention.rt:200:1
+same-length : tie.Need-same-length
+same-length c = search needs
 
-add-column : tie.Need-add-column Inv-loop μ-loop
-add-column c = search needs
-
-column-requires : tie.Need-column-requires Inv-loop μ-loop
-column-requires c κs =
-    let a = c .before .before .before .before .before .before .args in
-    let e : length (c .before .part .result .now) ≡ a .t = ap length (c .before .part .ensures) ∙ length-region (c .before .before .before .before .loop .s) (a .row) (a .t) (omega arith) in
-    (ap length (c .part2 .ensures) ∙ length-region (c .before .before .before .before .loop .s) (a .v) (a .t * a .dim) (omega arith) ∙ ap (λ m. m * a .dim) (sym e), omega arith)
-
-add-s : tie.Need-add-s Inv-loop μ-loop
-add-s c = search needs
-
-mul-s : tie.Need-mul-s Inv-loop μ-loop
-mul-s c = search needs
-
-slice-write-s : tie.Need-slice-write-s Inv-loop μ-loop
-slice-write-s c = search needs
-
-add-d : tie.Need-add-d Inv-loop μ-loop
-add-d c = search needs
-
-loop-less : tie.Need-loop-less Inv-loop μ-loop
-loop-less c = search needs
-
-loop-again : tie.Need-loop-again Inv-loop μ-loop
-loop-again c =
-    let l = c .before .before .before .before .before .loop in
-    let a = c .before .before .before .before .before .before .before .args in
-    let e : length (c .before .before .part .result .now) ≡ a .t = ap length (c .before .before .part .ensures) ∙ length-region (l .s) (a .row) (a .t) (omega arith) in (
-      omega arith,
-      simp length-set (l .inv .1),
-      cc (c .column .ensures, e, c .before .before .part .ensures, c .before .part2 .ensures, l .inv .2, step (a .s .now) (a .row) (a .v) (a .out) (a .t) (a .dim) (a .hd) (a .o) (l .d) (c .before .before .before .before .before .before .before .pre) (omega arith)),
-    )
-
-same-length : tie.Need-same-length Inv-loop μ-loop
-same-length c = c .before .loop .inv .1
-
-returns : tie.Need-returns Inv-loop μ-loop
+-- src/attention.rt:200:1
+returns : tie.Need-returns
 returns c =
-    let a = c .before .before .before .args in
-    c .before .loop .inv .2 ∙ ap (λ n. put (a .s .now) (a .out) (weighedRow (a .t) (a .dim) n (a .o) (region (a .s .now) (a .row) (a .t)) (region (a .s .now) (a .v) (a .t * a .dim)))) (omega arith)
+    let k = c .before .before .before .before .before .before .before .before .before in
+    let a = k .args in
+    let w = c .before .before .before .before .before .before .weigh-wide in
+    both (a .s .now) (w .last .0) _ (a .row) (a .v) (a .out) (a .t) (a .dim) (a .hd) (a .o) (w .result) (k .pre) (w .ensures .0) (w .ensures .1) (c .before .before .weigh-rest .ensures)
 
 pub weigh-spec : {M : Type 1} → statement M
 weigh-spec =
     tie.close
     (tie.spec
-    Inv-loop
-    μ-loop
-    mul-n
-    loop-holds
-    part-requires
-    part-requires-2
-    add-column
-    column-requires
-    add-s
-    mul-s
-    slice-write-s
-    add-d
-    loop-less
-    loop-again
+    weigh-wide-requires
+    add-weigh-rest
+    sub-weigh-rest
+    add-weigh-rest-2
+    weigh-rest-requires
     same-length
     returns)
