@@ -1,12 +1,12 @@
 -- Laws of `spread` and `filled`: columns written one after another are rows written one after another. Assumes nothing.
-use mathlib.Core.Path.{_≡_, refl, sym, ap, _∙_}
+use mathlib.Core.Path.{_≡_, refl, ap, _∙_}
 use mathlib.Core.List.{List}
 use Prim.Native.Nat.{ℕ, zero, suc, _+_, _*_, _≤_, _<_}
 use native.Mathlib.Nat.{mul-one, suc-mul, mul-le-mul-right}
 use native.Mathlib.Decide.{decLt}
 use native.Mathlib.Numerals.{add-one}
 use native.Mathlib.Omega.{arith}
-use lib.ListN.{length, getD, set, length-set}
+use lib.ListN.{length, getD}
 use Rattle.buffers.specs.Rows.{tab, rows, grid}
 use Rattle.buffers.specs.Region.{Apart, before, after, put}
 use Rattle.buffers.proofs.Regions.{put-set, length-put, getD-put, getD-put-same}

@@ -1,11 +1,7 @@
 -- `kernels::lanes::add_products` meets its contract. Assumes nothing.
-use Prim.Native.Nat.{ℕ, _+_, _*_, _-_, _≤_, _<_}
-use native.Mathlib.Omega.{arith}
-use mathlib.Core.Path.{_≡_, refl, sym, ap, _∙_}
-use lib.ListN.{length, getD}
-use lib.Ieee.{nan}
-use borrow.Author.Needs.{needs}
+use Prim.Native.Nat.{_-_}
 use native.Mathlib.Nat.{add-zero}
+use borrow.Author.Needs.{needs}
 use Rattle.buffers.specs.Rows.{tab}
 use Rattle.kernels.proofs.lanes.add_products.Statement.{statement}
 use Rattle.kernels.proofs.lanes.add_products.Tie as tie

@@ -1,14 +1,12 @@
 -- `kernels::lanes::columns` meets its contract. Assumes nothing.
-use borrow.Author.Needs.{needs}
+use mathlib.Core.Path.{_≡_, refl, ap, _∙_}
+use mathlib.Core.List.{List}
 use Prim.Native.Nat.{ℕ, _+_, _*_, _-_, _≤_, _<_}
 use native.Mathlib.Omega.{arith}
-use mathlib.Core.Path.{_≡_, refl, sym, ap, _∙_}
-use lib.ListN.{length, getD}
-use lib.Ieee.{nan}
-use mathlib.Core.List.{List}
-use lib.Ieee.{Float, binary32, mul}
-use lib.ListN.{replicate, length-replicate}
 use native.Mathlib.Numerals.{add-one}
+use borrow.Author.Needs.{needs}
+use lib.ListN.{length, getD, replicate, length-replicate}
+use lib.Ieee.{nan, Float, binary32, mul}
 use Rattle.buffers.specs.Rows.{tab}
 use Rattle.buffers.specs.Region.{region, put, zero32}
 use Rattle.buffers.proofs.Regions.{getD-put-same, length-region, getD-region}
@@ -35,9 +33,6 @@ unfolding filled
 turn s₀ w xt y r nin nout k n c s z a v b t h q lz room e₁ e₂ e₃ e₄ e₅ =
     rw (e₅, add-one c, ← e₁) (spread-ext s (y + c) nout r (λ i. getD b (0 + i * 1) nan) (λ l. sumAt s₀ w xt y nin nout k n l c) lane)
   where
-    F : ℕ → ℕ → Float
-    F = sumAt s₀ w xt y nin nout k n
-
     start : (l : ℕ) → l < r → getD a l nan ≡ getD s₀ (y + (l * nout + c)) nan
     start l m =
         let g : ℕ → Float = λ i. getD s (y + c + i * nout) nan in
@@ -65,6 +60,17 @@ Inv-loop s₀ y r nin nout w k n xt c₀ s c =
 abbrev μ-loop : tie.MeasureT-loop
 μ-loop s₀ y r nin nout w k n xt c₀ s c = nout - c
 
+-- row l of the next column is inside s, and the next floats of its weights are inside w
+cell : (c : tie.In-loop Inv-loop μ-loop) (l : ℕ) → l < c .before .before .before .before .before .args .r
+    → (let a = c .before .before .before .before .before .args in a .y + c .before .loop .c + l * a .nout < length (c .before .loop .s))
+cell c l h =
+    let p = c .before .before .before .before .before .pre in
+    let f = fit (c .before .before .before .before .before .args .nout) h in
+    omega (arith, p .yin, c .loop-test .taken, c .before .loop .inv .1)
+
+room : (c : tie.In-loop Inv-loop μ-loop) → (let a = c .before .before .before .before .before .args in c .before .loop .c * a .nin + a .k + a .n ≤ length (a .w .now))
+room c = let p = c .before .before .before .before .before .pre in omega (arith, fit (c .before .before .before .before .before .args .nin) (c .loop-test .taken), p .win, p .kin)
+
 loop-holds : tie.Need-loop-holds Inv-loop μ-loop
 unfolding filled
 loop-holds c = (omega arith, refl, refl)
@@ -73,45 +79,40 @@ slice-aggregate-copy-spread : tie.Need-slice-aggregate-copy-spread Inv-loop μ-l
 slice-aggregate-copy-spread c = search needs
 
 add-copy-spread : tie.Need-add-copy-spread Inv-loop μ-loop
-add-copy-spread c = let f = fit (c .before .before .before .before .before .before .before .args .nout) (c .before .before .before .before .before .before .before .pre .some) in omega (arith, c .before .before .before .before .before .before .before .pre .yin, c .before .before .loop-test .taken, c .before .before .before .loop .inv .1)
+add-copy-spread c = omega (arith, cell (c .before .before) 0 (c .before .before .before .before .before .before .before .pre .some))
 
 copy-spread-requires : tie.Need-copy-spread-requires Inv-loop μ-loop
-copy-spread-requires c κs = record {
-  to = λ i h. simp length-replicate (omega (arith, c .before .before .before .before .before .before .before .pre .rows));
-  from = λ i h. let f = fit (c .before .before .before .before .before .before .before .args .nout) h in omega (arith, c .before .before .before .before .before .before .before .pre .yin, c .before .before .loop-test .taken, c .before .before .before .loop .inv .1);
-}
+copy-spread-requires c κs =
+    record {
+      to = λ i h. simp length-replicate (omega (arith, c .before .before .before .before .before .before .before .pre .rows));
+      from = cell (c .before .before);
+    }
 
 mul-part : tie.Need-mul-part Inv-loop μ-loop
-mul-part c = let f = fit (c .before .before .before .before .before .before .before .before .before .args .nin) (c .before .before .before .before .loop-test .taken) in omega (arith, c .before .before .before .before .before .before .before .before .before .pre .win, c .before .before .before .before .before .before .before .before .before .pre .kin)
+mul-part c = omega (arith, room (c .before .before .before .before))
 
 add-part : tie.Need-add-part Inv-loop μ-loop
-add-part c = let f = fit (c .before .before .before .before .before .before .before .before .before .args .nin) (c .before .before .before .before .loop-test .taken) in omega (arith, c .before .before .before .before .before .before .before .before .before .pre .win, c .before .before .before .before .before .before .before .before .before .pre .kin)
+add-part c = omega (arith, room (c .before .before .before .before))
 
 part-requires : tie.Need-part-requires Inv-loop μ-loop
 part-requires c κs = search needs
 
 lanes-requires : tie.Need-lanes-requires Inv-loop μ-loop
-lanes-requires c κs = let a = c .before .before .before .before .before .before .before .before .before .before .args in
-    let p = c .before .before .before .before .before .before .before .before .before .before .pre in
-    let f = fit (a .nin) (c .before .before .before .before .before .loop-test .taken) in
-    let l = length-region (a .w .now) (c .before .before .before .before .before .before .loop .c * a .nin + a .k) (a .n) (omega (arith, p .win, p .kin)) in (
-      c .before .before .copy-spread .kept .0 ∙ simp length-replicate,
-      omega (arith, p .tin, l, ap length (c .part .ensures)),
-    )
+lanes-requires c κs =
+    let a = c .before .before .before .before .before .before .before .before .before .before .args in
+    let l = length-region (a .w .now) (c .before .before .before .before .before .before .loop .c * a .nin + a .k) (a .n) (room (c .before .before .before .before .before)) in
+    (c .before .before .copy-spread .kept .0 ∙ simp length-replicate, omega (arith, c .before .before .before .before .before .before .before .before .before .before .pre .tin, l, ap length (c .part .ensures)))
 
 add-copy-spread-2 : tie.Need-add-copy-spread-2 Inv-loop μ-loop
-add-copy-spread-2 c = let f = fit (c .before .before .before .before .before .before .before .before .before .before .before .before .args .nout) (c .before .before .before .before .before .before .before .before .before .before .before .before .pre .some) in omega (arith, c .before .before .before .before .before .before .before .before .before .before .before .before .pre .yin, c .before .before .before .before .before .before .before .loop-test .taken, c .before .before .before .before .before .before .before .before .loop .inv .1)
+add-copy-spread-2 c = omega (arith, cell (c .before .before .before .before .before .before .before) 0 (c .before .before .before .before .before .before .before .before .before .before .before .before .pre .some))
 
 slice-aggregate-copy-spread-2 : tie.Need-slice-aggregate-copy-spread-2 Inv-loop μ-loop
 slice-aggregate-copy-spread-2 c = search needs
 
 copy-spread-requires-2 : tie.Need-copy-spread-requires-2 Inv-loop μ-loop
-copy-spread-requires-2 c κs = let p = c .before .before .before .before .before .before .before .before .before .before .before .before .before .pre in
+copy-spread-requires-2 c κs =
     let l : length (c .before .before .lanes .result) ≡ 16 = ap length (c .before .before .lanes .ensures) ∙ length-tab 16 _ in
-    record {
-      to = λ i h. let f = fit (c .before .before .before .before .before .before .before .before .before .before .before .before .before .args .nout) h in omega (arith, c .before .before .before .before .before .before .before .before .before .before .before .before .before .pre .yin, c .before .before .before .before .before .before .before .before .loop-test .taken, c .before .before .before .before .before .before .before .before .before .loop .inv .1);
-      from = λ i h. omega (arith, p .rows, l);
-    }
+    record { to = cell (c .before .before .before .before .before .before .before .before); from = λ i h. omega (arith, c .before .before .before .before .before .before .before .before .before .before .before .before .before .pre .rows, l) }
 
 add-c : tie.Need-add-c Inv-loop μ-loop
 add-c c = search needs
@@ -120,15 +121,14 @@ loop-less : tie.Need-loop-less Inv-loop μ-loop
 loop-less c = search needs
 
 loop-again : tie.Need-loop-again Inv-loop μ-loop
-loop-again c = let l = c .before .before .before .before .before .before .before .before .before .before .before .before .loop in
-    let a = c .before .before .before .before .before .before .before .before .before .before .before .before .before .before .before .before .args in
-    let p = c .before .before .before .before .before .before .before .before .before .before .before .before .before .before .before .before .pre in
-    let f = fit (a .nin) (c .before .before .before .before .before .before .before .before .before .before .before .loop-test .taken) in (
+loop-again c =
+    let l = c .before .before .before .before .before .before .before .before .before .before .before .before .loop in
+    let a = c .before .before .before .before .before .before .before .before .before .before .before .before .before .before .before .before .args in (
       omega (arith, c .before .before .before .before .before .before .before .before .before .before .before .loop-test .taken),
       c .before .before .copy-spread2 .kept .0 ∙ l .inv .1,
       turn (a .s .now) (a .w .now) (a .xt .now) (a .y) (a .r) (a .nin) (a .nout) (a .k) (a .n) (l .c)
           (l .s) (replicate 16 zero32) (c .before .before .before .before .before .before .before .before .copy-spread .last .0) (c .before .before .before .before .before .before .part .result .now) (c .before .before .before .before .before .lanes .result) (c .before .before .copy-spread2 .last .0)
-          (c .before .before .before .before .before .before .before .before .before .before .before .loop-test .taken) (p .rows) (simp length-replicate) (omega (arith, p .win, p .kin))
+          (c .before .before .before .before .before .before .before .before .before .before .before .loop-test .taken) (c .before .before .before .before .before .before .before .before .before .before .before .before .before .before .before .before .pre .rows) (simp length-replicate) (room (c .before .before .before .before .before .before .before .before .before .before .before))
           (l .inv .2) (c .before .before .before .before .before .before .before .before .copy-spread .ensures) (c .before .before .before .before .before .before .part .ensures) (c .before .before .before .before .before .lanes .ensures) (c .before .before .copy-spread2 .ensures),
     )
 
@@ -136,7 +136,8 @@ same-length : tie.Need-same-length Inv-loop μ-loop
 same-length c = c .before .loop .inv .1
 
 returns : tie.Need-returns Inv-loop μ-loop
-returns c = let a = c .before .before .before .before .before .args in
+returns c =
+    let a = c .before .before .before .before .before .args in
     let F = sumAt (a .s .now) (a .w .now) (a .xt .now) (a .y) (a .nin) (a .nout) (a .k) (a .n) in
     c .before .loop .inv .2 ∙ ap (λ m. filled (a .s .now) (a .y) (a .nout) (a .r) m F) (omega arith) ∙ filled-all (a .s .now) (a .y) (a .nout) F (a .r)
 

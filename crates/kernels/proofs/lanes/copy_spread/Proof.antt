@@ -1,9 +1,9 @@
 -- `kernels::lanes::copy_spread` meets its contract. Assumes nothing.
-use borrow.Author.Needs.{needs}
-use Prim.Native.Nat.{ℕ, _+_, _*_, _-_, _≤_, _<_}
-use native.Mathlib.Omega.{arith}
 use mathlib.Core.Path.{_≡_, refl, ap, _∙_}
+use Prim.Native.Nat.{_+_, _*_, _-_, _≤_}
+use native.Mathlib.Omega.{arith}
 use native.Mathlib.Numerals.{add-one}
+use borrow.Author.Needs.{needs}
 use lib.ListN.{length, getD, length-set}
 use lib.Ieee.{nan}
 use Rattle.kernels.specs.Lanes.{spread}
@@ -52,17 +52,19 @@ loop-less c = search needs
 
 loop-again : tie.Need-loop-again Inv-loop μ-loop
 unfolding spread
-loop-again c = let l = c .before .before .loop in (
-  omega arith,
-  simp length-set (l .inv .1),
-  rw (add-one (l .i), ← l .inv .2),
-)
+loop-again c =
+    let l = c .before .before .loop in (
+      omega arith,
+      simp length-set (l .inv .1),
+      rw (add-one (l .i), ← l .inv .2),
+    )
 
 same-length : tie.Need-same-length Inv-loop μ-loop
 same-length c = search needs
 
 returns : tie.Need-returns Inv-loop μ-loop
-returns c = let a = c .before .before .args in
+returns c =
+    let a = c .before .before .args in
     c .before .loop .inv .2 ∙ ap (λ k. spread (a .d .now) (a .at) (a .m) k (λ j. getD (a .v .now) (a .o + j * a .q) nan)) (omega arith)
 
 pub copy-spread-spec : {M : Type 1} → statement M

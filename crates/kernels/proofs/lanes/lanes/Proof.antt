@@ -1,16 +1,15 @@
 -- `kernels::lanes::lanes` meets its contract. Assumes nothing.
-use borrow.Author.Needs.{needs}
-use Prim.Native.Nat.{ℕ, _+_, _*_, _-_, _≤_, _<_}
+use mathlib.Core.Path.{_≡_, sym, ap, _∙_}
+use mathlib.Core.List.{List}
+use Prim.Native.Nat.{ℕ, _+_, _*_, _-_, _≤_}
 use native.Mathlib.Omega.{arith}
-use mathlib.Core.Path.{_≡_, refl, sym, ap, _∙_}
-use lib.ListN.{length, getD}
-use lib.Ieee.{nan}
 use native.Mathlib.Numerals.{add-one}
+use borrow.Author.Needs.{needs}
+use lib.ListN.{length, getD}
+use lib.Ieee.{nan, Float, binary32, add, mul}
 use Rattle.buffers.specs.Rows.{tab}
 use Rattle.buffers.proofs.Lists.{getD-tab, tab-ext, tab-self}
 use Rattle.kernels.specs.Lanes.{sumFrom, laneOf}
-use mathlib.Core.List.{List}
-use lib.Ieee.{Float, binary32, add, mul}
 use Rattle.kernels.proofs.lanes.lanes.Statement.{statement}
 use Rattle.kernels.proofs.lanes.lanes.Tie as tie
 
@@ -52,7 +51,8 @@ loop-less : tie.Need-loop-less Inv-loop μ-loop
 loop-less c = search needs
 
 loop-again : tie.Need-loop-again Inv-loop μ-loop
-loop-again c = let l = c .before .before .before .loop in
+loop-again c =
+    let l = c .before .before .before .loop in
     let a = c .before .before .before .before .before .before .args in (
       omega arith,
       lane-step (l .k) (a .a) (a .xt .now) (a .w .now) (l .b) (c .add-products .result) (l .inv .1) (c .add-products .ensures),

@@ -1,16 +1,15 @@
 -- `kernels::lanes::pack` meets its contract. Assumes nothing.
-use borrow.Author.Needs.{needs}
-use Prim.Native.Nat.{ℕ, _+_, _*_, _-_, _≤_, _<_}
+use mathlib.Core.Path.{_≡_, refl, ap, _∙_}
+use mathlib.Core.List.{List}
+use Prim.Native.Nat.{ℕ, _+_, _*_, _-_, _≤_}
 use native.Mathlib.Omega.{arith}
-use mathlib.Core.Path.{_≡_, refl, sym, ap, _∙_}
-use lib.ListN.{length, getD}
-use lib.Ieee.{nan}
 use native.Mathlib.Numerals.{add-one}
 use native.Mathlib.Nat.{mul-one, zero-add}
+use borrow.Author.Needs.{needs}
+use lib.ListN.{length, getD}
+use lib.Ieee.{nan, Float}
 use Rattle.kernels.specs.Lanes.{spread, filled}
 use Rattle.kernels.proofs.Fills.{spread-ext}
-use mathlib.Core.List.{List}
-use lib.Ieee.{Float}
 use Rattle.kernels.proofs.lanes.pack.Statement.{statement}
 use Rattle.kernels.proofs.lanes.pack.Tie as tie
 
@@ -39,7 +38,8 @@ add-copy-spread : tie.Need-add-copy-spread Inv-loop μ-loop
 add-copy-spread c = omega (arith, c .before .before .before .before .before .pre .xin (c .before .before .loop .l) (c .before .loop-test .taken))
 
 copy-spread-requires : tie.Need-copy-spread-requires Inv-loop μ-loop
-copy-spread-requires c κs = let p = c .before .before .before .before .before .pre in
+copy-spread-requires c κs =
+    let p = c .before .before .before .before .before .pre in
     let l = c .before .before .loop in
     let h = p .xin (l .l) (c .before .loop-test .taken) in
     record { to = λ i k. omega (arith, p .rows, p .tin, l .inv .1, c .before .loop-test .taken); from = λ i k. omega arith }
@@ -51,7 +51,8 @@ loop-less : tie.Need-loop-less Inv-loop μ-loop
 loop-less c = search needs
 
 loop-again : tie.Need-loop-again Inv-loop μ-loop
-loop-again c = let l = c .before .before .before .before .before .loop in
+loop-again c =
+    let l = c .before .before .before .before .before .loop in
     let a = c .before .before .before .before .before .before .before .before .args in (
       omega arith,
       c .before .before .copy-spread .kept .0 ∙ l .inv .1,
@@ -62,7 +63,8 @@ same-length : tie.Need-same-length Inv-loop μ-loop
 same-length c = c .before .loop .inv .1
 
 returns : tie.Need-returns Inv-loop μ-loop
-returns c = let a = c .before .before .before .before .args in
+returns c =
+    let a = c .before .before .before .before .args in
     c .before .loop .inv .2 ∙ ap (λ m. filled (a .xt .now) 0 16 (a .n) m (λ k i. getD (a .x .now) (a .at + i * a .nin + k) nan)) (omega arith)
 
 pub pack-spec : {M : Type 1} → statement M

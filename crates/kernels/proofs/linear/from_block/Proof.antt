@@ -1,13 +1,11 @@
 -- `kernels::linear::from_block` meets its contract. Assumes nothing.
-use borrow.Author.Needs.{needs}
-use Prim.Native.Nat.{ℕ, _+_, _*_, _-_, _≤_, _<_}
+use mathlib.Core.Path.{_≡_, refl, ap, _∙_}
+use Prim.Native.Nat.{_*_, _-_, _≤_}
 use native.Mathlib.Omega.{arith}
-use mathlib.Core.Path.{_≡_, refl, sym, ap, _∙_}
-use lib.ListN.{length, getD}
-use lib.Ieee.{nan}
-use Rattle.buffers.specs.Region.{region, put, zero32}
+use borrow.Author.Needs.{needs}
+use lib.ListN.{length}
+use Rattle.buffers.specs.Region.{region, put}
 use Rattle.buffers.proofs.Regions.{length-region}
-use Rattle.kernels.specs.Linear.{linearOf}
 use Rattle.kernels.specs.Lanes.{begun}
 use Rattle.kernels.proofs.Pieces.{block-turn, cleared-start, block-done}
 use Rattle.kernels.proofs.linear.from_block.Statement.{statement}
@@ -27,7 +25,8 @@ clear-row-requires : tie.Need-clear-row-requires Inv-loop μ-loop
 clear-row-requires c κs = search needs
 
 loop-holds : tie.Need-loop-holds Inv-loop μ-loop
-loop-holds c = let a = c .before .before .before .before .before .before .before .args in
+loop-holds c =
+    let a = c .before .before .before .before .before .before .before .args in
     (omega arith, refl, cleared-start (a .r) (a .nin) (a .nout) (a .w .now) (a .s .now) (c .before .before .clear-row .last .0) (region (a .x .now) (a .xa) (a .r * a .nin)) (a .y) (c .before .before .clear-row .ensures))
 
 sub-least : tie.Need-sub-least Inv-loop μ-loop
@@ -37,7 +36,8 @@ least-requires : tie.Need-least-requires Inv-loop μ-loop
 least-requires c κs = search needs
 
 from-piece-requires : tie.Need-from-piece-requires Inv-loop μ-loop
-from-piece-requires c κs = let l = c .before .before .before .loop in
+from-piece-requires c κs =
+    let l = c .before .before .before .loop in
     let m = c .before .least .ensures in
     let q : length (c .before .before .before .loop .s) ≡ length (c .before .before .before .before .before .before .before .before .before .before .before .args .s .now) = c .before .before .before .loop .inv .1 ∙ c .before .before .before .before .before .before .clear-row .kept .0 in
     record { block = rw q (c .before .before .before .before .before .before .before .before .before .before .before .pre); kin = omega (arith, m .first, l .inv .0); short = m .second }
@@ -49,7 +49,8 @@ loop-less : tie.Need-loop-less Inv-loop μ-loop
 loop-less c = let m = c .before .before .before .before .least .ensures .some (omega (arith, c .before .before .before .before .before .loop-test .taken)) (omega arith) in omega (arith, c .before .before .before .before .before .loop-test .taken)
 
 loop-again : tie.Need-loop-again Inv-loop μ-loop
-loop-again c = let l = c .before .before .before .before .before .before .loop in
+loop-again c =
+    let l = c .before .before .before .before .before .before .loop in
     let a = c .before .before .before .before .before .before .before .before .before .before .before .before .before .before .args in
     let u = c .before .before .before .before .before .before .before .before .before .clear-row .last .0 in
     let q : length u ≡ length (a .s .now) = c .before .before .before .before .before .before .before .before .before .clear-row .kept .0 in (
@@ -62,7 +63,8 @@ same-length : tie.Need-same-length Inv-loop μ-loop
 same-length c = c .before .loop .inv .1 ∙ c .before .before .before .before .clear-row .kept .0
 
 returns : tie.Need-returns Inv-loop μ-loop
-returns c = let l = c .before .loop in
+returns c =
+    let l = c .before .loop in
     let a = c .before .before .before .before .before .before .before .before .before .args in
     let u = c .before .before .before .before .clear-row .last .0 in
     let X = region (a .x .now) (a .xa) (a .r * a .nin) in

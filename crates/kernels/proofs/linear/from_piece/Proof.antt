@@ -1,11 +1,9 @@
 -- `kernels::linear::from_piece` meets its contract. Assumes nothing.
-use Prim.Native.Nat.{ℕ, _+_, _*_, _-_, _≤_, _<_}
+use mathlib.Core.Path.{_≡_, ap, _∙_}
+use Prim.Native.Nat.{_-_}
 use native.Mathlib.Omega.{arith}
-use mathlib.Core.Path.{_≡_, refl, sym, ap, _∙_}
-use lib.ListN.{length, getD}
-use lib.Ieee.{nan}
 use borrow.Author.Needs.{needs}
-use lib.ListN.{length-replicate, replicate}
+use lib.ListN.{length, length-replicate, replicate}
 use Rattle.buffers.specs.Region.{put, zero32}
 use Rattle.buffers.proofs.Lists.{fit}
 use Rattle.kernels.proofs.Pieces.{piece-lanes}
@@ -19,7 +17,8 @@ add-pack : tie.Need-add-pack
 add-pack c = let f = fit (c .before .before .before .before .args .nin) (c .before .before .before .before .pre .block .some) in omega (arith, c .before .before .before .before .pre .block .xin, c .before .before .before .before .pre .kin)
 
 pack-requires : tie.Need-pack-requires
-pack-requires c κs = let p = c .before .before .before .before .pre in
+pack-requires c κs =
+    let p = c .before .before .before .before .pre in
     record {
       rows = p .block .lanes;
       tin = simp length-replicate (omega (arith, p .short));
@@ -36,7 +35,8 @@ same-length : tie.Need-same-length
 same-length c = search needs
 
 returns : tie.Need-returns
-returns c = let a = c .before .before .before .before .before .before .before .before .before .before .before .args in
+returns c =
+    let a = c .before .before .before .before .before .before .before .before .before .before .before .args in
     let p = c .before .before .before .before .before .before .before .before .before .before .before .pre in
     let t : length (replicate 8192 zero32) ≡ 8192 = simp length-replicate in
     c .before .before .columns .ensures

@@ -1,14 +1,13 @@
 -- `kernels::linear::linear_rows` meets its contract. Assumes nothing.
-use borrow.Author.Needs.{needs}
-use Prim.Native.Nat.{ℕ, _+_, _*_, _-_, _≤_, _<_}
+use mathlib.Core.Path.{_≡_, refl, ap, _∙_}
+use Prim.Native.Nat.{_+_, _*_, _-_, _≤_}
 use native.Mathlib.Omega.{arith}
-use mathlib.Core.Path.{_≡_, refl, sym, ap, _∙_}
-use lib.ListN.{length, getD}
-use lib.Ieee.{nan}
+use borrow.Author.Needs.{needs}
+use lib.ListN.{length}
 use Rattle.buffers.specs.Region.{region, put}
 use Rattle.buffers.specs.Rows.{rows}
-use Rattle.kernels.specs.Linear.{linearOf}
 use Rattle.buffers.proofs.Regions.{apart-sub}
+use Rattle.kernels.specs.Linear.{linearOf}
 use Rattle.kernels.proofs.Pieces.{fit-more, rows-turn-in}
 use Rattle.kernels.proofs.linear.linear_rows.Statement.{statement}
 use Rattle.kernels.proofs.linear.linear_rows.Tie as tie
@@ -19,6 +18,17 @@ Inv-loop s₀ x y n nin nout w i₀ s i =
 
 abbrev μ-loop : tie.MeasureT-loop
 μ-loop s₀ x y n nin nout w i₀ s i = n - i
+
+-- the next block's rows end inside all of them
+room : (c : tie.After-least Inv-loop μ-loop)
+    → (let a = c .before .before .before .before .before .args in
+    (c .before .before .loop .i + c .least .result ≤ a .n) × (c .before .before .loop .i * a .nin + c .least .result * a .nin ≤ a .n * a .nin)
+    × (c .before .before .loop .i * a .nout + c .least .result * a .nout ≤ a .n * a .nout))
+room c =
+    let a = c .before .before .before .before .before .args in
+    let i = c .before .before .loop .i in
+    let h : i + c .least .result ≤ a .n = omega (arith, c .least .ensures .first, c .before .before .loop .inv .0) in
+    (h, fit-more i (c .least .result) (a .nin) h, fit-more i (c .least .result) (a .nout) h)
 
 loop-holds : tie.Need-loop-holds Inv-loop μ-loop
 unfolding put rows linearOf
@@ -31,53 +41,23 @@ least-requires : tie.Need-least-requires Inv-loop μ-loop
 least-requires c κs = search needs
 
 mul-block : tie.Need-mul-block Inv-loop μ-loop
-mul-block c = let a = c .before .before .before .before .before .before .args in
-    let p = c .before .before .before .before .before .before .pre in
-    let l = c .before .before .before .loop in
-    let m = c .before .least .ensures in
-    let h : l .i + c .before .least .result ≤ a .n = omega (arith, m .first, l .inv .0) in
-    let f = fit-more (l .i) (c .before .least .result) (a .nin) h in
-    let f′ = fit-more (l .i) (c .before .least .result) (a .nout) h in
-    omega (arith, p .xin)
+mul-block c = omega (arith, room (c .before), c .before .before .before .before .before .before .pre .xin)
 
 add-block : tie.Need-add-block Inv-loop μ-loop
-add-block c = let a = c .before .before .before .before .before .before .args in
-    let p = c .before .before .before .before .before .before .pre in
-    let l = c .before .before .before .loop in
-    let m = c .before .least .ensures in
-    let h : l .i + c .before .least .result ≤ a .n = omega (arith, m .first, l .inv .0) in
-    let f = fit-more (l .i) (c .before .least .result) (a .nin) h in
-    let f′ = fit-more (l .i) (c .before .least .result) (a .nout) h in
-    omega (arith, p .xin)
+add-block c = omega (arith, room (c .before), c .before .before .before .before .before .before .pre .xin)
 
 mul-block-2 : tie.Need-mul-block-2 Inv-loop μ-loop
-mul-block-2 c = let a = c .before .before .before .before .before .before .args in
-    let p = c .before .before .before .before .before .before .pre in
-    let l = c .before .before .before .loop in
-    let m = c .before .least .ensures in
-    let h : l .i + c .before .least .result ≤ a .n = omega (arith, m .first, l .inv .0) in
-    let f = fit-more (l .i) (c .before .least .result) (a .nin) h in
-    let f′ = fit-more (l .i) (c .before .least .result) (a .nout) h in
-    omega (arith, p .yin)
+mul-block-2 c = omega (arith, room (c .before), c .before .before .before .before .before .before .pre .yin)
 
 add-block-2 : tie.Need-add-block-2 Inv-loop μ-loop
-add-block-2 c = let a = c .before .before .before .before .before .before .args in
-    let p = c .before .before .before .before .before .before .pre in
-    let l = c .before .before .before .loop in
-    let m = c .before .least .ensures in
-    let h : l .i + c .before .least .result ≤ a .n = omega (arith, m .first, l .inv .0) in
-    let f = fit-more (l .i) (c .before .least .result) (a .nin) h in
-    let f′ = fit-more (l .i) (c .before .least .result) (a .nout) h in
-    omega (arith, p .yin)
+add-block-2 c = omega (arith, room (c .before), c .before .before .before .before .before .before .pre .yin)
 
 block-requires : tie.Need-block-requires Inv-loop μ-loop
-block-requires c κs = let a = c .before .before .before .before .before .before .args in
+block-requires c κs =
     let p = c .before .before .before .before .before .before .pre in
     let l = c .before .before .before .loop in
     let m = c .before .least .ensures in
-    let h : l .i + c .before .least .result ≤ a .n = omega (arith, m .first, l .inv .0) in
-    let f = fit-more (l .i) (c .before .least .result) (a .nin) h in
-    let f′ = fit-more (l .i) (c .before .least .result) (a .nout) h in
+    let f = room (c .before) in
     record {
       some = m .some (omega (arith, c .before .before .loop-test .taken)) (omega arith);
       lanes = m .second;
@@ -90,15 +70,16 @@ block-requires c κs = let a = c .before .before .before .before .before .before
     }
 
 add-i : tie.Need-add-i Inv-loop μ-loop
-add-i c = omega (arith, c .before .before .before .before .least .ensures .first, c .before .before .before .before .before .before .loop .inv .0)
+add-i c = omega (arith, room (c .before .before .before .before))
 
 loop-less : tie.Need-loop-less Inv-loop μ-loop
 loop-less c = let m = c .before .before .before .before .least .ensures .some (omega (arith, c .before .before .before .before .before .loop-test .taken)) (omega arith) in omega (arith, c .before .before .before .before .before .loop-test .taken)
 
 loop-again : tie.Need-loop-again Inv-loop μ-loop
-loop-again c = let l = c .before .before .before .before .before .before .loop in
+loop-again c =
+    let l = c .before .before .before .before .before .before .loop in
     let a = c .before .before .before .before .before .before .before .before .before .args in
-    let h : l .i + c .before .before .before .before .least .result ≤ a .n = omega (arith, c .before .before .before .before .least .ensures .first, l .inv .0) in (
+    let h = room (c .before .before .before .before) .0 in (
       h,
       c .before .before .block .kept .0 ∙ l .inv .1,
       rows-turn-in (c .before .before .before .before .least .result) (a .nin) (a .nout) (a .w .now) (a .s .now) (l .s) (c .before .before .block .last .0) (a .x) (a .y) (a .n) (l .i) (c .before .before .before .before .before .before .before .before .before .pre .apart) h (l .inv .2) (c .before .before .block .ensures),
@@ -108,7 +89,8 @@ same-length : tie.Need-same-length Inv-loop μ-loop
 same-length c = c .before .loop .inv .1
 
 returns : tie.Need-returns Inv-loop μ-loop
-returns c = let a = c .before .before .before .before .args in
+returns c =
+    let a = c .before .before .before .before .args in
     c .before .loop .inv .2 ∙ ap (λ m. put (a .s .now) (a .y) (linearOf m (a .nin) (a .nout) (a .w .now) (region (a .s .now) (a .x) (a .n * a .nin)))) (omega arith)
 
 pub linear-rows-spec : {M : Type 1} → statement M
