@@ -1,2 +1,4 @@
 pub mod Regions
 pub mod Lists
+pub mod Steps
+pub mod Rooms

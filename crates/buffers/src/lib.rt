@@ -1,7 +1,14 @@
 // Lent buffers. What stands at a place and what is written over it is said in specs/, with its laws
 // in proofs/; here are the functions that the crates above share.
 ghost use mathlib.Core.Path.{_≡_};
-ghost use Rattle.buffers.specs.Region.{region, copied, cleared};
+ghost use lib.ListN.{length};
+ghost use Rattle.buffers.specs.Rows.{tab};
+ghost use Rattle.buffers.specs.Region.{region, copied, cleared, zero32};
+ghost use Rattle.buffers.specs.Room as R;
+
+pub mod room;
+
+use crate::room::inside;
 
 // All of s becomes +0.
 pub fn clear(s: &mut [f32])
@@ -11,6 +18,16 @@ pub fn clear(s: &mut [f32])
     while i < s.len() {
         s[i] = 0.0;
         i += 1;
+    }
+}
+
+// The n floats of s at at become +0; nothing where they do not lie inside.
+pub fn clear_at(s: &mut [f32], at: usize, n: usize)
+    ensures { λ _. ⌜ now (s .exit) ≡ R.whereFits (R.inside (length (now (s .entry))) at n) (now (s .entry)) at (tab n (λ _. zero32)) ⌝ }
+{
+    if inside(s.len(), at, n) {
+        let e = at + n;
+        clear(&mut s[at..e]);
     }
 }
 

@@ -13,7 +13,8 @@ use Rattle.kernels.specs.Element.{rounded}
 use Rattle.encoder.specs.Run.{Run, fine, answer, thenRun}
 use Rattle.encoder.specs.Embed.{patchConv, lnPre, inputsFine, embedRun}
 use Rattle.encoder.specs.Live.{Wrote, hAt, Embedded}
-use Rattle.kernels.proofs.Sums.{length-linear, length-norm, length-rounded}
+use Rattle.sums.proofs.Sums.{length-linear}
+use Rattle.kernels.proofs.Lengths.{length-norm, length-rounded}
 use Rattle.encoder.proofs.Lives.{answer-then, got, long}
 
 module _ (z : Sizes) (f : ℕ) (w x s : List Float) (room : 2 * nOf z ≤ length s) where

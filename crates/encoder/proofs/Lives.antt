@@ -12,18 +12,21 @@ use Rattle.buffers.proofs.Regions.{length-put, region-put, region-put-same}
 use Rattle.encoder.specs.declared.Sizes.{Sizes}
 use Rattle.encoder.specs.Sizes.{hdOf, dimOf, nOf, mOf}
 use Rattle.encoder.specs.Weights.{norm1W, squareW, norm2W, gateW, upW, downW}
-use Rattle.kernels.specs.Each.{blank}
+use Rattle.buffers.specs.Each.{blank}
 use Rattle.kernels.specs.Finite.{sound}
 use Rattle.kernels.specs.Element.{added, gated, rounded}
 use Rattle.encoder.specs.Run.{Run, fine, answer, thenRun}
 use Rattle.encoder.specs.Block.{squareOf, normed1, normed2, turnedAll, mixed, scored, gateOf, upOf, downOf, attnRun, feedRun, blockRun}
 use Rattle.encoder.specs.Live.{Wrote, hAt, qAt, kAt, vAt, gAt, uAt, AttnIn, AttnTurn, AttnMix, FeedIn, FeedOut}
 use Rattle.encoder.specs.Fits.{BlockFits, ScoreRow, SquareAt}
-use Rattle.kernels.specs.Fits.{AttendFits}
-use Rattle.kernels.proofs.Sums.{length-linear, length-norm, length-added, length-gated, length-rounded}
-use Rattle.kernels.proofs.Steps.{blank-region}
+use Rattle.attention.specs.Fits.{KeysFit}
+use Rattle.attention.specs.Keys.{turnedKeys}
+use Rattle.attention.proofs.Keys.{length-turned}
+use Rattle.sums.proofs.Sums.{length-linear}
+use Rattle.kernels.proofs.Lengths.{length-norm, length-added, length-gated, length-rounded}
+use Rattle.buffers.proofs.Steps.{blank-region}
 use Rattle.kernels.proofs.Turn.{length-rotate}
-use Rattle.kernels.proofs.Attends.{length-attention}
+use Rattle.attention.proofs.Attends.{length-attention}
 
 pub answer-then : (a b : Bool) (l m : List Float) (f : List Float → Run) → f l ≡ answer b m → answer (a && b) m ≡ thenRun (answer a l) f
 answer-then true b l m f e = sym e
@@ -136,7 +139,7 @@ module _ (z : Sizes) (w s : List Float) (f : 7 * nOf z + 2 * mOf z ≤ length s)
 
   pub attn-mix : (row : ℕ) → 7 * n + 2 * m ≤ row → row + z .tokens ≤ length s → (s₁ s₂ s₃ : List Float) (ok f₁ f₂ b r : Bool)
       → f₁ ≡ sound (scored z (qAt z s) (kAt z s))
-      → s₁ ≡ put (blank zero32 row (z .tokens) s) (5 * n) (mixed z (qAt z s) (kAt z s) (vAt z s))
+      → s₁ ≡ put (blank zero32 row (z .tokens) (put s n (turnedKeys (z .tokens) (dimOf z) (kAt z s)))) (5 * n) (mixed z (qAt z s) (kAt z s) (vAt z s))
       → length s₁ ≡ length s
       → f₂ ≡ sound (region s₁ (5 * n) n)
       → Wrote s₁ s₂ (6 * n) (squareOf z 3 w (region s₁ (5 * n) n)) ((ok && f₁) && f₂) b
@@ -146,14 +149,17 @@ module _ (z : Sizes) (w s : List Float) (f : 7 * nOf z + 2 * mOf z ≤ length s)
   attn-mix row behind inside s₁ s₂ s₃ ok f₁ f₂ b r e₁ e₂ k₁ e₃ w₁ w₂ =
       let t = z .tokens in
       let A = mixed z (qAt z s) (kAt z s) (vAt z s) in
+      let T = turnedKeys t (dimOf z) (kAt z s) in
+      let s₀ = put s n T in
       let la = length-mixed z (qAt z s) (kAt z s) (vAt z s) in
       let l₁ = length-square z 3 w (region s₁ (5 * n) n) in
       let k₂ = long w₁ n l₁ in
       let l₂ = length-added n (hAt z s₂) (region s₂ (6 * n) n) in
       let a₁ : region s₁ (5 * n) n ≡ A =
-      ap (λ u. region u (5 * n) n) e₂ ∙ region-put-same (blank zero32 row t s) (5 * n) A n (sym la) (rw (la, length-put s row (tab t (λ _. zero32))) (omega arith)) in
+      ap (λ u. region u (5 * n) n) e₂ ∙ region-put-same (blank zero32 row t s₀) (5 * n) A n (sym la) (rw (la, length-put s₀ row (tab t (λ _. zero32)), length-put s n T) (omega arith)) in
       let h₁ : hAt z s₁ ≡ hAt z s =
-      ap (λ u. region u 0 n) e₂ ∙ region-put (blank zero32 row t s) (5 * n) A 0 n (rw la (before (omega arith))) ∙ blank-region zero32 row t s 0 n (before (omega arith)) in
+      ap (λ u. region u 0 n) e₂ ∙ region-put (blank zero32 row t s₀) (5 * n) A 0 n (rw la (before (omega arith))) ∙ blank-region zero32 row t s₀ 0 n (before (omega arith))
+      ∙ region-put s n T 0 n (rw (length-turned t (dimOf z) (kAt z s)) (before (omega arith))) in
       let h₂ : hAt z s₂ ≡ hAt z s = left w₁ n l₁ 0 n (before (omega arith)) ∙ h₁ in
       let o₂ : region s₂ (6 * n) n ≡ squareOf z 3 w A = got w₁ n l₁ (omega arith) ∙ ap (squareOf z 3 w) a₁ in
       record {
@@ -223,21 +229,26 @@ pub square-at : (z : Sizes) {len len′ lenw : ℕ} (i x y : ℕ) → len′ ≡
 square-at z i x y e f h a b p = record { fits = rw e f; which = h; xIn = rw e a; yIn = rw e b; apart = p }
 
 pub attend-at : (z : Sizes) {len lenw row : ℕ} → BlockFits z len lenw → ScoreRow z len row
-    → AttendFits len (2 * nOf z) (3 * nOf z) (4 * nOf z) row (5 * nOf z) (z .tokens) (z .heads) (z .half + z .half)
+    → KeysFit len (2 * nOf z) (3 * nOf z) (4 * nOf z) (nOf z) row (5 * nOf z) (z .tokens) (z .heads) (z .half + z .half)
 attend-at z f r =
     let g = f .scratch in let b = r .behind in let i = r .inside in
     record {
-      qIn = omega arith;
-      kIn = omega arith;
-      vIn = omega arith;
-      rowIn = omega arith;
-      outIn = omega arith;
-      dimIn = f .dimIn;
-      qrow = before (omega arith);
-      krow = before (omega arith);
-      vrow = before (omega arith);
-      outrow = before (omega arith);
-      qout = before (omega arith);
-      kout = before (omega arith);
-      vout = before (omega arith);
+      turned = record {
+        qIn = omega arith;
+        kIn = omega arith;
+        vIn = omega arith;
+        rowIn = omega arith;
+        outIn = omega arith;
+        dimIn = f .dimIn;
+        qrow = before (omega arith);
+        krow = before (omega arith);
+        vrow = before (omega arith);
+        outrow = before (omega arith);
+        qout = before (omega arith);
+        kout = before (omega arith);
+        vout = before (omega arith);
+      };
+      turn = record { kIn = omega arith; ktIn = omega arith; apart = after (omega arith) };
+      qkt = after (omega arith);
+      vkt = after (omega arith);
     }

@@ -18,7 +18,8 @@ use Rattle.encoder.specs.Run.{fine, answer}
 use Rattle.encoder.specs.Project.{projNorm, mergingLayer, linear1, linear2, projectRun}
 use Rattle.encoder.specs.Live.{Wrote}
 use Rattle.encoder.specs.Fits.{ProjFits}
-use Rattle.kernels.proofs.Sums.{length-linear, length-norm, length-gelued}
+use Rattle.sums.proofs.Sums.{length-linear}
+use Rattle.kernels.proofs.Lengths.{length-norm, length-gelued}
 use Rattle.encoder.proofs.Lives.{got, long}
 
 -- the merged rows of o output tokens

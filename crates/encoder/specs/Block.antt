@@ -5,11 +5,11 @@ use lib.Ieee.{Float}
 use Rattle.encoder.specs.declared.Sizes.{Sizes}
 use Rattle.encoder.specs.Sizes.{dimOf, nOf, mOf}
 use Rattle.encoder.specs.Weights.{norm1W, squareW, norm2W, gateW, upW, downW}
-use Rattle.kernels.specs.Linear.{linearOf}
+use Rattle.sums.specs.Linear.{linearOf}
 use Rattle.kernels.specs.Element.{added, gated, rounded}
 use Rattle.kernels.specs.Norm.{normOf}
 use Rattle.kernels.specs.Rotate.{rotateOf}
-use Rattle.kernels.specs.Attention.{scoresOf, attentionOf}
+use Rattle.attention.specs.Attention.{scoresOf, attentionOf}
 use Rattle.encoder.specs.Run.{Run, checked, thenRun}
 
 -- a square linear layer of the tokens

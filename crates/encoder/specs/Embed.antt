@@ -6,7 +6,7 @@ use lib.Ieee.{Float}
 use Rattle.buffers.specs.Region.{region}
 use Rattle.encoder.specs.declared.Sizes.{Sizes}
 use Rattle.encoder.specs.Sizes.{dimOf, nOf}
-use Rattle.kernels.specs.Linear.{linearOf}
+use Rattle.sums.specs.Linear.{linearOf}
 use Rattle.kernels.specs.Finite.{sound}
 use Rattle.kernels.specs.Element.{rounded}
 use Rattle.kernels.specs.Norm.{normOf}

@@ -4,7 +4,7 @@ use mathlib.Core.List.{List, [], _∷_}
 use Prim.Native.Nat.{ℕ, _+_, _*_}
 use lib.Ieee.{Float}
 use Rattle.buffers.specs.Region.{region}
-use Rattle.kernels.specs.Linear.{linearOf}
+use Rattle.sums.specs.Linear.{linearOf}
 use Rattle.kernels.specs.Norm.{normOf}
 use Rattle.kernels.specs.Element.{gelued}
 use Rattle.encoder.specs.Merge.{mergeOf}

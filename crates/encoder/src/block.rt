@@ -16,8 +16,8 @@ use crate::stage::matrix;
 use crate::stage::norm_fine;
 use crate::stage::rotate_fine;
 use crate::stage::round_fine;
+use attention::attention::attend;
 use buffers::part;
-use kernels::attention::attend;
 use kernels::finite::finite;
 
 // The norm before the attention, of h.
@@ -75,7 +75,7 @@ pub(crate) fn attn_turn(s: &mut [f32], z: Sizes, cos: &[f32], sin: &[f32], ok: b
     rotate_fine(s, 3 * n, z, cos, sin, a)
 }
 
-// Scores, sums, o, residual.
+// Scores, sums, o, residual. The keys are turned where the norm stood, which nothing reads any more.
 pub(crate) fn attn_mix(s: &mut [f32], z: Sizes, row: usize, w: &[f32], ok: bool) -> bool
     requires { ⌜ BlockFits z (length (now s)) (length (now w)) ⌝ }
     requires { ⌜ ScoreRow z (length (now s)) row ⌝ }
@@ -90,6 +90,7 @@ pub(crate) fn attn_mix(s: &mut [f32], z: Sizes, row: usize, w: &[f32], ok: bool)
         2 * n,
         3 * n,
         4 * n,
+        n,
         row,
         5 * n,
         t,

@@ -3,13 +3,14 @@ ghost use Prim.Native.Nat.{_+_, _*_, _≤_};
 ghost use lib.ListN.{length};
 ghost use Rattle.buffers.specs.Region.{region};
 ghost use Rattle.encoder.specs.Sizes.{nOf};
-ghost use Rattle.kernels.specs.Linear.{linearOf};
+ghost use Rattle.sums.specs.Linear.{linearOf};
 ghost use Rattle.kernels.specs.Element.{added, gated, gelued, rounded};
 ghost use Rattle.kernels.specs.Norm.{normOf};
 ghost use Rattle.encoder.specs.Block.{turnedAll};
 ghost use Rattle.encoder.specs.Live.{Wrote};
 ghost use Rattle.encoder.specs.Fits.{TurnAt, MatrixAt};
-ghost use Rattle.kernels.specs.Fits.{LinearFits, NormFits, PairFits, FromFits};
+ghost use Rattle.sums.specs.Fits.{LinearFits, FromFits};
+ghost use Rattle.kernels.specs.Fits.{NormFits, PairFits};
 use crate::Sizes;
 use buffers::part;
 use kernels::element::add_into;
@@ -17,10 +18,10 @@ use kernels::element::gate;
 use kernels::element::gelu_inplace;
 use kernels::element::truncate_to_bf16_inplace;
 use kernels::finite::finite;
-use kernels::linear::linear_from;
-use kernels::linear::linear_no_bias_forward;
 use kernels::norm::rms_norm;
 use kernels::rotate::rotate;
+use sums::linear::linear_from;
+use sums::linear::linear_no_bias_forward;
 
 // A linear layer of the scratch, and whether all is finite up to here.
 pub(crate) fn linear_fine(

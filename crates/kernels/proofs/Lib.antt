@@ -1,10 +1,5 @@
-pub mod Sums
-pub mod Steps
-pub mod Fills
-pub mod Pieces
+pub mod Lengths
 pub mod Finites
 pub mod Turn
-pub mod Products
-pub mod Attends
 pub mod Rooms
 pub mod Constants

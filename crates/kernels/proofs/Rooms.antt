@@ -1,88 +1,15 @@
 -- Laws of what fits: a test that passes gives what the inner functions ask, and what they ask passes the test.
 -- Assumes nothing.
-use mathlib.Core.Bool.{Bool, true, false, _&&_, _||_}
-use mathlib.Core.Path.{_≡_, refl}
+use mathlib.Core.Bool.{Bool, true, _&&_}
+use mathlib.Core.Path.{_≡_}
 use Prim.Native.Nat.{ℕ, _+_, _*_, _≤_}
 use native.Mathlib.Omega.{arith}
-use borrow.Author.Tests.{ltb-true, leb-true, leb-false, eqb-true, lt-ltb, le-leb, eq-eqb}
+use borrow.Author.Tests.{ltb-true, leb-true, eqb-true, lt-ltb, le-leb, eq-eqb}
 use lib.Dec.{leb, ltb, eqb}
-use Rattle.buffers.specs.Region.{Apart, before, after}
-use Rattle.buffers.proofs.Lists.{and-left, and-right}
-use Rattle.kernels.specs.Room.{inside, aside, linearFits, fromFits, normFits, pairFits, rotateFits, threeAside, placesFit, attendFits}
-use Rattle.kernels.specs.Fits.{LinearFits, FromFits, NormFits, PairFits, RotateFits, AttendFits}
-
-both : (a b : Bool) → a && b ≡ true → (a ≡ true) × (b ≡ true)
-both a b h = (and-left a b h, and-right a b h)
-
-two : {a b : Bool} → a ≡ true → b ≡ true → a && b ≡ true
-two p q = rw (p, q)
-
--- tests of facts that follow from each other are equal
-pub leb-same : (a b c d : ℕ) → (a ≤ b → c ≤ d) → (c ≤ d → a ≤ b) → leb a b ≡ leb c d
-leb-same a b c d f g = go (leb a b) (leb c d) refl refl
-  where
-    go : (x y : Bool) → leb a b ≡ x → leb c d ≡ y → x ≡ y
-    go true true p q = refl
-    go false false p q = refl
-    go true false p q = let h = f (leb-true a b p) in let k = leb-false c d q in absurd (omega arith)
-    go false true p q = let h = g (leb-true c d q) in let k = leb-false a b p in absurd (omega arith)
-
--- ---- two regions apart
-
-pub aside-says : (x n y m : ℕ) → aside x n y m ≡ true → Apart x n y m
-aside-says x n y m h = go (inside y x n) refl h
-  where
-    go : (b : Bool) → inside y x n ≡ b → b || inside x y m ≡ true → Apart x n y m
-    go true e g = before (leb-true (x + n) y e)
-    go false e g = after (leb-true (y + m) x g)
-
-or-true : (b : Bool) → b || true ≡ true
-or-true true = refl
-or-true false = refl
-
-pub aside-is : {x n y m : ℕ} → Apart x n y m → aside x n y m ≡ true
-aside-is {x} {n} {y} {m} (before h) = rw (le-leb (x + n) y h)
-aside-is {x} {n} {y} {m} (after h) = rw (le-leb (y + m) x h) (or-true (inside y x n))
-
--- ---- each kernel's test
-
-module _ {lens lenw x y n nin nout : ℕ} where
-  pub linear-says : linearFits lens lenw x y n nin nout ≡ true → LinearFits lens lenw x y n nin nout
-  unfolding linearFits
-  linear-says h =
-      let p = both (inside lens x (n * nin) && inside lens y (n * nout)) (inside lenw 0 (nout * nin) && aside x (n * nin) y (n * nout)) h in
-      let a = both (inside lens x (n * nin)) (inside lens y (n * nout)) (p .0) in
-      let b = both (inside lenw 0 (nout * nin)) (aside x (n * nin) y (n * nout)) (p .1) in
-      let w = leb-true (0 + nout * nin) lenw (b .0) in
-      record {
-        xin = leb-true (x + n * nin) lens (a .0);
-        yin = leb-true (y + n * nout) lens (a .1);
-        win = omega arith;
-        apart = aside-says x (n * nin) y (n * nout) (b .1);
-      }
-
-  pub linear-fits : LinearFits lens lenw x y n nin nout → linearFits lens lenw x y n nin nout ≡ true
-  unfolding linearFits
-  linear-fits f =
-      let w : 0 + nout * nin ≤ lenw = omega (arith, f .win) in
-      two (two (le-leb (x + n * nin) lens (f .xin)) (le-leb (y + n * nout) lens (f .yin))) (two (le-leb (0 + nout * nin) lenw w) (aside-is (f .apart)))
-
-module _ {lenx lens lenw y n nin nout : ℕ} where
-  pub from-says : fromFits lenx lens lenw y n nin nout ≡ true → FromFits lenx lens lenw y n nin nout
-  unfolding fromFits
-  from-says h =
-      let p = both (inside lenx 0 (n * nin) && inside lens y (n * nout)) (inside lenw 0 (nout * nin)) h in
-      let a = both (inside lenx 0 (n * nin)) (inside lens y (n * nout)) (p .0) in
-      let x = leb-true (0 + n * nin) lenx (a .0) in
-      let w = leb-true (0 + nout * nin) lenw (p .1) in
-      record { xin = omega arith; yin = leb-true (y + n * nout) lens (a .1); win = omega arith }
-
-  pub from-fits : FromFits lenx lens lenw y n nin nout → fromFits lenx lens lenw y n nin nout ≡ true
-  unfolding fromFits
-  from-fits f =
-      let x : 0 + n * nin ≤ lenx = omega (arith, f .xin) in
-      let w : 0 + nout * nin ≤ lenw = omega (arith, f .win) in
-      two (two (le-leb (0 + n * nin) lenx x) (le-leb (y + n * nout) lens (f .yin))) (le-leb (0 + nout * nin) lenw w)
+use Rattle.buffers.specs.Room.{inside, aside}
+use Rattle.buffers.proofs.Rooms.{both, two, aside-says, aside-is}
+use Rattle.kernels.specs.Room.{normFits, pairFits, rotateFits}
+use Rattle.kernels.specs.Fits.{NormFits, PairFits, RotateFits}
 
 module _ {lens lenw x y n dim : ℕ} where
   pub norm-says : normFits lens lenw x y n dim ≡ true → NormFits lens lenw x y n dim
@@ -159,50 +86,3 @@ module _ {lens lenc lenn x tokens heads half gw side : ℕ} where
       two (le-leb half 128 narrow) (two (le-leb side 2048 (f .tables)) (two (le-leb gw side (f .wide)) (two (le-leb (0 + dim) lens dimin)
       (two (two (le-leb (x + tokens * dim) lens (f .xin)) (two (lt-ltb 0 gw (f .some)) (le-leb tokens (side * gw) (f .high))))
       (two (eq-eqb lenc table (f .cin)) (eq-eqb lenn table (f .sin′)))))))
-
-module _ {len q k v row out t heads hd : ℕ} where
-  pub attend-says : attendFits len q k v row out t heads hd ≡ true → AttendFits len q k v row out t heads hd
-  unfolding attendFits
-  attend-says h =
-      let n = t * (heads * hd) in
-      let held = (inside len k n && inside len v n) && (inside len out n && inside len row t) in
-      let rows = threeAside q k v n row t in
-      let outs = threeAside q k v n out n in
-      let a = both (inside len 0 (heads * hd)) (inside len q n && placesFit len q k v row out t n) h in
-      let b = both (inside len q n) (placesFit len q k v row out t n) (a .1) in
-      let c = both held ((rows && outs) && aside out n row t) (b .1) in
-      let d = both (inside len k n && inside len v n) (inside len out n && inside len row t) (c .0) in
-      let kv = both (inside len k n) (inside len v n) (d .0) in
-      let or = both (inside len out n) (inside len row t) (d .1) in
-      let e = both (rows && outs) (aside out n row t) (c .1) in
-      let f = both rows outs (e .0) in
-      let r = both (aside q n row t && aside k n row t) (aside v n row t) (f .0) in
-      let r′ = both (aside q n row t) (aside k n row t) (r .0) in
-      let o = both (aside q n out n && aside k n out n) (aside v n out n) (f .1) in
-      let o′ = both (aside q n out n) (aside k n out n) (o .0) in
-      let dim = leb-true (0 + heads * hd) len (a .0) in
-      record {
-        qIn = leb-true (q + n) len (b .0);
-        kIn = leb-true (k + n) len (kv .0);
-        vIn = leb-true (v + n) len (kv .1);
-        rowIn = leb-true (row + t) len (or .1);
-        outIn = leb-true (out + n) len (or .0);
-        dimIn = omega arith;
-        qrow = aside-says q n row t (r′ .0);
-        krow = aside-says k n row t (r′ .1);
-        vrow = aside-says v n row t (r .1);
-        outrow = aside-says out n row t (e .1);
-        qout = aside-says q n out n (o′ .0);
-        kout = aside-says k n out n (o′ .1);
-        vout = aside-says v n out n (o .1);
-      }
-
-  pub attend-fits : AttendFits len q k v row out t heads hd → attendFits len q k v row out t heads hd ≡ true
-  unfolding attendFits
-  attend-fits f =
-      let n = t * (heads * hd) in
-      let dim : 0 + heads * hd ≤ len = omega (arith, f .dimIn) in
-      two (le-leb (0 + heads * hd) len dim) (two (le-leb (q + n) len (f .qIn))
-      (two (two (two (le-leb (k + n) len (f .kIn)) (le-leb (v + n) len (f .vIn))) (two (le-leb (out + n) len (f .outIn)) (le-leb (row + t) len (f .rowIn))))
-      (two (two (two (two (aside-is (f .qrow)) (aside-is (f .krow))) (aside-is (f .vrow))) (two (two (aside-is (f .qout)) (aside-is (f .kout))) (aside-is (f .vout))))
-      (aside-is (f .outrow)))))

@@ -6,7 +6,7 @@ use lib.Ieee.{Float, nan, binary32, add, mul, div, neg, ofBits}
 use Rattle.number.specs.Bf16.{bf16Of}
 use Rattle.number.specs.Exp.{E}
 use Rattle.number.specs.Tanh.{T}
-use Rattle.kernels.specs.Each.{both}
+use Rattle.buffers.specs.Each.{both}
 
 abbrev pub one32 : Float
 one32 = ofBits binary32 0x3F800000

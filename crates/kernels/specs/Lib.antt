@@ -1,10 +1,6 @@
-pub mod Each
-pub mod Linear
-pub mod Lanes
 pub mod Finite
 pub mod Element
 pub mod Norm
 pub mod Rotate
-pub mod Attention
 pub mod Room
 pub mod Fits

@@ -6,8 +6,8 @@ use lib.ListN.{getD}
 use lib.Ieee.{Float, nan, binary32, add, mul, div, ofBits, ofInt}
 use Rattle.number.specs.Root.{rootOf}
 use Rattle.buffers.specs.Rows.{tab}
-use Rattle.kernels.specs.Each.{eachRow}
-use Rattle.kernels.specs.Linear.{dotOf}
+use Rattle.buffers.specs.Each.{eachRow}
+use Rattle.sums.specs.Linear.{dotOf}
 use Rattle.kernels.specs.Element.{one32}
 
 -- 1e-5 as an f32

@@ -6,7 +6,7 @@ use lib.ListN.{getD}
 use lib.Ieee.{Float, nan, binary32, add, mul, neg}
 use Rattle.buffers.specs.Rows.{tab}
 use Rattle.buffers.specs.Region.{region}
-use Rattle.kernels.specs.Each.{eachRow}
+use Rattle.buffers.specs.Each.{eachRow}
 
 abbrev pub lowOf : ℕ → List Float → List Float → List Float → ℕ → Float
 lowOf half x cos sin j = add binary32 (mul binary32 (getD x j nan) (getD cos j nan)) (mul binary32 (neg (getD x (j + half) nan)) (getD sin j nan))

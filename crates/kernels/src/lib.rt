@@ -1,9 +1,6 @@
 // What a layer is made of: each kernel reads and writes floats where it is told, and nothing where they do not fit.
-pub mod attention;
 pub mod element;
 pub mod finite;
-mod lanes;
-pub mod linear;
 pub mod norm;
 mod room;
 pub mod rotate;

@@ -3,13 +3,27 @@ ghost use mathlib.Core.Path.{_≡_};
 ghost use Prim.Native.Nat.{_*_, _≤_};
 ghost use lib.ListN.{length};
 ghost use Rattle.buffers.specs.Region.{region, put};
+ghost use Rattle.sums.specs.Linear.{dotOf};
 ghost use Rattle.kernels.specs.Norm.{invRms, normRow, normOf};
-ghost use Rattle.kernels.specs.Room.{whereFits, normFits};
+ghost use Rattle.buffers.specs.Room.{whereFits};
+ghost use Rattle.kernels.specs.Room.{normFits};
 ghost use Rattle.kernels.specs.Fits.{NormRowFits, NormFits};
-use crate::linear::dot;
 use crate::room::norm_fits;
 use buffers::part;
 use number::root::root_f32;
+
+pub(crate) fn dot(x: &[f32], w: &[f32]) -> f32
+    requires { ⌜ length (now x) ≡ length (now w) ⌝ }
+    ensures { λ r. ⌜ r ≡ dotOf (now (x .entry)) (now (w .entry)) ⌝ }
+{
+    let mut acc = 0.0f32;
+    let mut k = 0usize;
+    while k < x.len() {
+        acc = acc + x[k] * w[k];
+        k += 1;
+    }
+    acc
+}
 
 pub(crate) fn inv_rms(x: &[f32], dim: usize) -> f32
     requires { ⌜ dim ≤ 2048 ⌝ }

@@ -7,7 +7,7 @@ use Rattle.buffers.specs.Region.{before, after}
 use Rattle.encoder.specs.Block.{mixed, scored}
 use Rattle.encoder.specs.Sizes.{nOf}
 use Rattle.kernels.specs.Finite.{sound}
-use Rattle.kernels.proofs.Rooms.{attend-fits}
+use Rattle.attention.proofs.Rooms.{attend-fits}
 use Rattle.encoder.proofs.Lives.{attn-mix, square-at, attend-at}
 use Rattle.encoder.proofs.block.attn_mix.Statement.{statement}
 use Rattle.encoder.proofs.block.attn_mix.Tie as tie

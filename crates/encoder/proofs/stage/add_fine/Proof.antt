@@ -2,7 +2,7 @@
 use borrow.Author.Needs.{needs}
 use Rattle.buffers.specs.Region.{region}
 use Rattle.kernels.specs.Element.{added}
-use Rattle.kernels.proofs.Sums.{length-added}
+use Rattle.kernels.proofs.Lengths.{length-added}
 use Rattle.kernels.proofs.Rooms.{pair-fits}
 use Rattle.encoder.proofs.Lives.{wrote}
 use Rattle.encoder.proofs.stage.add_fine.Statement.{statement}

@@ -1,9 +1,9 @@
 -- `encoder::stage::from_fine` meets its contract. Assumes nothing.
 use Prim.Native.Nat.{_*_}
 use borrow.Author.Needs.{needs}
-use Rattle.kernels.specs.Linear.{linearOf}
-use Rattle.kernels.proofs.Sums.{length-linear}
-use Rattle.kernels.proofs.Rooms.{from-fits}
+use Rattle.sums.specs.Linear.{linearOf}
+use Rattle.sums.proofs.Sums.{length-linear}
+use Rattle.sums.proofs.Rooms.{from-fits}
 use Rattle.encoder.proofs.Lives.{wrote}
 use Rattle.encoder.proofs.stage.from_fine.Statement.{statement}
 use Rattle.encoder.proofs.stage.from_fine.Tie as tie

@@ -3,7 +3,7 @@ use borrow.Author.Needs.{needs}
 use Rattle.buffers.specs.Region.{region}
 use Rattle.kernels.specs.Element.{gated}
 use Rattle.encoder.proofs.Lives.{wrote}
-use Rattle.kernels.proofs.Sums.{length-gated}
+use Rattle.kernels.proofs.Lengths.{length-gated}
 use Rattle.kernels.proofs.Rooms.{pair-fits}
 use Rattle.encoder.proofs.stage.gate_fine.Statement.{statement}
 use Rattle.encoder.proofs.stage.gate_fine.Tie as tie

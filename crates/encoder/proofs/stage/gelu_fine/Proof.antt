@@ -5,7 +5,7 @@ use borrow.Author.Tests.{le-leb}
 use lib.ListN.{length}
 use Rattle.buffers.specs.Region.{region}
 use Rattle.kernels.specs.Element.{gelued}
-use Rattle.kernels.proofs.Sums.{length-gelued}
+use Rattle.kernels.proofs.Lengths.{length-gelued}
 use Rattle.encoder.proofs.Lives.{wrote}
 use Rattle.encoder.proofs.stage.gelu_fine.Statement.{statement}
 use Rattle.encoder.proofs.stage.gelu_fine.Tie as tie

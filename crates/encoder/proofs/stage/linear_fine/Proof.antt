@@ -2,10 +2,10 @@
 use Prim.Native.Nat.{_*_}
 use borrow.Author.Needs.{needs}
 use Rattle.buffers.specs.Region.{region}
-use Rattle.kernels.specs.Linear.{linearOf}
+use Rattle.sums.specs.Linear.{linearOf}
 use Rattle.encoder.proofs.Lives.{wrote}
-use Rattle.kernels.proofs.Sums.{length-linear}
-use Rattle.kernels.proofs.Rooms.{linear-fits}
+use Rattle.sums.proofs.Sums.{length-linear}
+use Rattle.sums.proofs.Rooms.{linear-fits}
 use Rattle.encoder.proofs.stage.linear_fine.Statement.{statement}
 use Rattle.encoder.proofs.stage.linear_fine.Tie as tie
 

@@ -4,7 +4,7 @@ use borrow.Author.Needs.{needs}
 use Rattle.buffers.specs.Region.{region}
 use Rattle.kernels.specs.Norm.{normOf}
 use Rattle.encoder.proofs.Lives.{wrote}
-use Rattle.kernels.proofs.Sums.{length-norm}
+use Rattle.kernels.proofs.Lengths.{length-norm}
 use Rattle.kernels.proofs.Rooms.{norm-fits}
 use Rattle.encoder.proofs.stage.norm_fine.Statement.{statement}
 use Rattle.encoder.proofs.stage.norm_fine.Tie as tie

@@ -6,7 +6,7 @@ use lib.ListN.{length}
 use Rattle.buffers.specs.Region.{region}
 use Rattle.kernels.specs.Element.{rounded}
 use Rattle.encoder.proofs.Lives.{wrote}
-use Rattle.kernels.proofs.Sums.{length-rounded}
+use Rattle.kernels.proofs.Lengths.{length-rounded}
 use Rattle.encoder.proofs.stage.round_fine.Statement.{statement}
 use Rattle.encoder.proofs.stage.round_fine.Tie as tie
 

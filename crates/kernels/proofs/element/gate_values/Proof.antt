@@ -9,8 +9,8 @@ use Rattle.buffers.proofs.Regions.{apart-sub}
 use Rattle.buffers.specs.Region.{region, put}
 use Rattle.buffers.specs.Rows.{tab}
 use Rattle.kernels.specs.Element.{siluOf, gated}
-use Rattle.kernels.specs.Each.{both}
-use Rattle.kernels.proofs.Steps.{elem-step}
+use Rattle.buffers.specs.Each.{both}
+use Rattle.buffers.proofs.Steps.{elem-step}
 use Rattle.kernels.proofs.element.gate_values.Statement.{statement}
 use Rattle.kernels.proofs.element.gate_values.Tie as tie
 

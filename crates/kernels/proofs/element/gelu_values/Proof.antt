@@ -8,8 +8,8 @@ use lib.Ieee.{nan}
 use Rattle.buffers.specs.Region.{after, region, put}
 use Rattle.buffers.specs.Rows.{tab}
 use Rattle.kernels.specs.Element.{geluOf, gelued}
-use Rattle.kernels.specs.Each.{both}
-use Rattle.kernels.proofs.Steps.{elem-step}
+use Rattle.buffers.specs.Each.{both}
+use Rattle.buffers.proofs.Steps.{elem-step}
 use Rattle.kernels.proofs.element.gelu_values.Statement.{statement}
 use Rattle.kernels.proofs.element.gelu_values.Tie as tie
 

@@ -9,8 +9,8 @@ use Rattle.number.specs.Bf16.{bf16Of}
 use Rattle.buffers.specs.Region.{after, region, put}
 use Rattle.buffers.specs.Rows.{tab}
 use Rattle.kernels.specs.Element.{rounded}
-use Rattle.kernels.specs.Each.{both}
-use Rattle.kernels.proofs.Steps.{elem-step}
+use Rattle.buffers.specs.Each.{both}
+use Rattle.buffers.proofs.Steps.{elem-step}
 use Rattle.kernels.proofs.element.round_values.Statement.{statement}
 use Rattle.kernels.proofs.element.round_values.Tie as tie
 

@@ -9,7 +9,7 @@ use Rattle.buffers.proofs.Regions.{apart-sub}
 use Rattle.buffers.specs.Region.{region, put}
 use Rattle.buffers.specs.Rows.{tab}
 use Rattle.kernels.specs.Norm.{invRms, normRow}
-use Rattle.kernels.proofs.Steps.{elem-step}
+use Rattle.buffers.proofs.Steps.{elem-step}
 use Rattle.kernels.proofs.norm.norm_row.Statement.{statement}
 use Rattle.kernels.proofs.norm.norm_row.Tie as tie
 

@@ -10,10 +10,10 @@ use Rattle.buffers.proofs.Lists.{fit}
 use Rattle.buffers.proofs.Regions.{apart-sub}
 use Rattle.buffers.specs.Region.{region, put}
 use Rattle.buffers.specs.Rows.{rows}
-use Rattle.kernels.specs.Each.{eachRow}
+use Rattle.buffers.specs.Each.{eachRow}
 use Rattle.kernels.specs.Norm.{normRow, normOf}
-use Rattle.kernels.proofs.Steps.{row-step}
-use Rattle.kernels.proofs.Sums.{length-norm-row}
+use Rattle.buffers.proofs.Steps.{row-step}
+use Rattle.kernels.proofs.Lengths.{length-norm-row}
 use Rattle.kernels.proofs.norm.norm_rows.Statement.{statement}
 use Rattle.kernels.proofs.norm.norm_rows.Tie as tie
 

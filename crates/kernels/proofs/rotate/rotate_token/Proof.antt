@@ -9,9 +9,9 @@ use lib.ListN.{length}
 use Rattle.buffers.proofs.Lists.{fit}
 use Rattle.buffers.specs.Region.{after, region, put}
 use Rattle.buffers.specs.Rows.{rows}
-use Rattle.kernels.specs.Each.{eachRow}
+use Rattle.buffers.specs.Each.{eachRow}
 use Rattle.kernels.specs.Rotate.{turned, turnedToken}
-use Rattle.kernels.proofs.Steps.{row-step}
+use Rattle.buffers.proofs.Steps.{row-step}
 use Rattle.kernels.proofs.Turn.{length-turned}
 use Rattle.kernels.proofs.rotate.rotate_token.Statement.{statement}
 use Rattle.kernels.proofs.rotate.rotate_token.Tie as tie

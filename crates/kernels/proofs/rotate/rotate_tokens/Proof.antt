@@ -10,9 +10,9 @@ use Rattle.buffers.proofs.Lists.{fit}
 use Rattle.buffers.proofs.Regions.{length-region}
 use Rattle.buffers.specs.Region.{after, region, put}
 use Rattle.buffers.specs.Rows.{rows}
-use Rattle.kernels.specs.Each.{eachRow}
+use Rattle.buffers.specs.Each.{eachRow}
 use Rattle.kernels.specs.Rotate.{turnedToken, position, turnedAt, rotateOf}
-use Rattle.kernels.proofs.Steps.{row-step}
+use Rattle.buffers.proofs.Steps.{row-step}
 use Rattle.kernels.proofs.Turn.{length-token, position-lt}
 use Rattle.kernels.proofs.rotate.rotate_tokens.Statement.{statement}
 use Rattle.kernels.proofs.rotate.rotate_tokens.Tie as tie

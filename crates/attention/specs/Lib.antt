@@ -1,0 +1,4 @@
+pub mod Attention
+pub mod Keys
+pub mod Room
+pub mod Fits

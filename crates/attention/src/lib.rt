@@ -1,0 +1,3 @@
+// Attention, with one score row for the source's matrix of scores.
+pub mod attention;
+mod room;

@@ -1,0 +1,5 @@
+pub mod Sums
+pub mod Fills
+pub mod Pieces
+pub mod Products
+pub mod Rooms

@@ -1,0 +1,153 @@
+-- Laws of sums that run on piece after piece, and of the linear layer made of them. Assumes nothing.
+use mathlib.Core.Path.{_≡_, refl, sym, ap, _∙_}
+use mathlib.Core.List.{List, _++_}
+use Prim.Native.Nat.{ℕ, zero, suc, _+_, _*_, _≤_, _<_}
+use native.Mathlib.Nat.{add-zero, add-suc, add-mul, mul-le-mul-right}
+use native.Mathlib.Omega.{arith}
+use lib.ListN.{length, getD}
+use lib.Ieee.{Float, nan, binary32, mul}
+use Rattle.buffers.specs.Rows.{tab, rows, grid}
+use Rattle.buffers.specs.Region.{Apart, region, put, zero32}
+use Rattle.buffers.proofs.Regions.{put-put, put-append, region-put, region-put-same, region-region, length-region, getD-region, apart-sub}
+use Rattle.buffers.proofs.Lists.{fit, length-tab, getD-tab, tab-ext, tab-mul, length-rows, getD-rows, rows-ext, rows-add}
+use Rattle.buffers.specs.Each.{blank}
+use Rattle.sums.specs.Linear.{sumOf, linearRow, linearOf}
+use Rattle.sums.specs.Lanes.{sumFrom, filled, product, begun, goneOn}
+use Rattle.sums.proofs.Sums.{sum-ext, length-linear}
+use Rattle.sums.proofs.Fills.{filled-in}
+
+pub from-ext : (a : Float) (n : ℕ) (f g : ℕ → Float) → ((k : ℕ) → k < n → f k ≡ g k) → sumFrom a n f ≡ sumFrom a n g
+unfolding sumFrom
+from-ext a zero f g h = refl
+from-ext a (suc n) f g h = let e = from-ext a n f g (λ k l. h k (omega arith)) in let e′ = h n (omega arith) in cc
+
+-- the sum of n, gone on by m
+sum-more : (n m : ℕ) (f : ℕ → Float) → sumFrom (sumOf n f) m (λ k. f (n + k)) ≡ sumOf (n + m) f
+unfolding sumFrom sumOf
+sum-more n zero f = ap (λ k. sumOf k f) (sym (add-zero n))
+sum-more n (suc m) f = rw (sum-more n m f) (ap (λ k. sumOf k f) (sym (add-suc n m)))
+
+-- r rows of n behind i rows end inside m rows
+pub fit-more : {m : ℕ} (i r n : ℕ) → i + r ≤ m → i * n + r * n ≤ m * n
+fit-more i r n h = rw add-mul at (mul-le-mul-right n h)
+
+pub grid-ext : (r m : ℕ) (f g : ℕ → ℕ → Float) → ((i j : ℕ) → i < r → j < m → f i j ≡ g i j) → grid r m f ≡ grid r m g
+grid-ext r m f g h = rows-ext r (λ i. tab m (f i)) (λ i. tab m (g i)) (λ i p. tab-ext m (f i) (g i) (λ j q. h i j p q))
+
+pub length-grid : (r m : ℕ) (f : ℕ → ℕ → Float) → length (grid r m f) ≡ r * m
+length-grid r m f = length-rows (λ i. tab m (f i)) m (λ i. length-tab m (f i)) r
+
+pub getD-grid : (r m : ℕ) (f : ℕ → ℕ → Float) (i j : ℕ) → i < r → j < m → getD (grid r m f) (i * m + j) nan ≡ f i j
+getD-grid r m f i j p q = getD-rows (λ i. tab m (f i)) m (λ i. length-tab m (f i)) r i j nan p q ∙ getD-tab m j (f i) nan q
+
+module _ (r nin nout : ℕ) (w : List Float) where
+  pub begun-none : (x : List Float) → tab (r * nout) (λ _. zero32) ≡ begun 0 r nin nout w x
+  unfolding sumOf
+  begun-none x = tab-mul r nout (λ _. zero32)
+
+  begun-more : (k n : ℕ) (x : List Float) → goneOn k n r nin nout w x (begun k r nin nout w x) ≡ begun (k + n) r nin nout w x
+  begun-more k n x =
+      grid-ext r nout
+      (λ l c. sumFrom (getD (begun k r nin nout w x) (l * nout + c) nan) n (λ j. product nin w x l c (k + j)))
+      (λ l c. sumOf (k + n) (product nin w x l c))
+      (λ l c p q.
+      ap (λ a. sumFrom a n (λ j. product nin w x l c (k + j))) (getD-grid r nout (λ l c. sumOf k (product nin w x l c)) l c p q)
+      ∙ sum-more k n (product nin w x l c))
+
+  pub begun-all : (x : List Float) → r * nin ≤ length x → begun nin r nin nout w x ≡ linearOf r nin nout w x
+  unfolding linearOf linearRow
+  begun-all x h =
+      grid-ext r nout
+      (λ l c. sumOf nin (product nin w x l c))
+      (λ l c. sumOf (length (region x (l * nin) nin)) (λ k. mul binary32 (getD (region x (l * nin) nin) k nan) (getD (region w (c * nin) nin) k nan)))
+      (λ l c p q.
+      let b = fit nin p in
+      rw (length-region x (l * nin) nin (omega arith))
+      (sum-ext nin (product nin w x l c) (λ k. mul binary32 (getD (region x (l * nin) nin) k nan) (getD (region w (c * nin) nin) k nan))
+      (λ k g. rw (getD-region x (l * nin) nin k nan g, getD-region w (c * nin) nin k nan g))))
+
+  -- a turn of the loop over pieces
+  pub block-turn : (s u v x : List Float) (y k n : ℕ) → y + r * nout ≤ length s → u ≡ put s y (begun k r nin nout w x)
+      → v ≡ put u y (goneOn k n r nin nout w x (region u y (r * nout))) → v ≡ put s y (begun (k + n) r nin nout w x)
+  block-turn s u v x y k n h e g =
+      let B = begun k r nin nout w x in
+      let l : length B ≡ r * nout = length-grid r nout (λ l c. sumOf k (product nin w x l c)) in
+      let l′ : length (begun (k + n) r nin nout w x) ≡ r * nout = length-grid r nout (λ l c. sumOf (k + n) (product nin w x l c)) in
+      let b : region u y (r * nout) ≡ B = ap (λ t. region t y (r * nout)) e ∙ region-put-same s y B (r * nout) (sym l) (rw l h) in
+      g ∙ ap (λ t. put u y (goneOn k n r nin nout w x t)) b ∙ rw (begun-more k n x, e) (put-put s y B (begun (k + n) r nin nout w x) (l ∙ sym l′))
+
+  -- the lanes of a piece are the rows
+  pub piece-lanes : (s t t′ S : List Float) (x y k n : ℕ) → r ≤ 16 → n * 16 ≤ length t → k + n ≤ nin
+      → t′ ≡ filled t 0 16 n r (λ j l. getD S (x + k + l * nin + j) nan)
+      → grid r nout (λ l c. sumFrom (getD s (y + (l * nout + c)) nan) n (λ j. mul binary32 (getD t′ (j * 16 + l) nan) (getD w (c * nin + (k + j)) nan)))
+      ≡ goneOn k n r nin nout w (region S x (r * nin)) (region s y (r * nout))
+  piece-lanes s t t′ S x y k n a b d e =
+      grid-ext r nout
+      (λ l c. sumFrom (getD s (y + (l * nout + c)) nan) n (λ j. mul binary32 (getD t′ (j * 16 + l) nan) (getD w (c * nin + (k + j)) nan)))
+      (λ l c. sumFrom (getD (region s y (r * nout)) (l * nout + c) nan) n (λ j. product nin w (region S x (r * nin)) l c (k + j)))
+      (λ l c p q.
+      let h = fit nout p in
+      rw (getD-region s y (r * nout) (l * nout + c) nan (omega arith))
+      (from-ext (getD s (y + (l * nout + c)) nan) n (λ j. mul binary32 (getD t′ (j * 16 + l) nan) (getD w (c * nin + (k + j)) nan)) (λ j. product nin w (region S x (r * nin)) l c (k + j))
+      (λ j g. ap (λ v. mul binary32 v (getD w (c * nin + (k + j)) nan)) (lane l j p g))))
+    where
+      lane : (l j : ℕ) → l < r → j < n → getD t′ (j * 16 + l) nan ≡ getD (region S x (r * nin)) (l * nin + (k + j)) nan
+      lane l j p g =
+          let h = fit nin p in
+          ap (λ u. getD u (j * 16 + l) nan) e
+          ∙ ap (λ i. getD (filled t 0 16 n r (λ j l. getD S (x + k + l * nin + j) nan)) i nan) (omega arith)
+          ∙ filled-in t 0 16 (λ j l. getD S (x + k + l * nin + j) nan) n r j l nan a g p (omega arith)
+          ∙ ap (λ i. getD S i nan) (omega arith)
+          ∙ sym (getD-region S x (r * nin) (l * nin + (k + j)) nan (omega arith))
+
+  linear-add : (i : ℕ) (x : List Float) → linearOf (i + r) nin nout w x ≡ linearOf i nin nout w x ++ linearOf r nin nout w (region x (i * nin) (r * nin))
+  unfolding linearOf
+  linear-add i x =
+      let f : ℕ → List Float = λ j. linearRow nin nout w (region x (j * nin) nin) in
+      rows-add i r f
+      ∙ ap (λ t. rows i f ++ t)
+      (rows-ext r (λ j. f (i + j)) (λ j. linearRow nin nout w (region (region x (i * nin) (r * nin)) (j * nin) nin))
+      (λ j p. ap (linearRow nin nout w) (ap (λ m. region x m nin) (add-mul i j nin) ∙ sym (region-region x (i * nin) (r * nin) (j * nin) nin (fit nin p)))))
+
+  -- a turn of the loop over blocks
+  pub rows-turn : (s u v x : List Float) (y i : ℕ) → u ≡ put s y (linearOf i nin nout w x)
+      → v ≡ put u (y + i * nout) (linearOf r nin nout w (region x (i * nin) (r * nin))) → v ≡ put s y (linearOf (i + r) nin nout w x)
+  rows-turn s u v x y i e g =
+      rw (g, e, linear-add i x)
+      (put-append s y (linearOf i nin nout w x) (linearOf r nin nout w (region x (i * nin) (r * nin))) (y + i * nout) (ap (λ m. y + m) (sym (length-linear i nin nout w x))))
+
+  -- the same where the rows stand in s itself, apart from the sums
+  pub rows-turn-in : (s u v : List Float) (x y n i : ℕ) → Apart x (n * nin) y (n * nout) → i + r ≤ n → u ≡ put s y (linearOf i nin nout w (region s x (n * nin)))
+      → v ≡ put u (y + i * nout) (linearOf r nin nout w (region u (x + i * nin) (r * nin))) → v ≡ put s y (linearOf (i + r) nin nout w (region s x (n * nin)))
+  rows-turn-in s u v x y n i a h e g =
+      let X = region s x (n * nin) in
+      let L = linearOf i nin nout w X in
+      let f = fit-more i r nin h in
+      let f′ = fit-more i r nout h in
+      let same : region u (x + i * nin) (r * nin) ≡ region X (i * nin) (r * nin) =
+      ap (λ t. region t (x + i * nin) (r * nin)) e
+      ∙ region-put s y L (x + i * nin) (r * nin) (rw (length-linear i nin nout w X) (apart-sub a (omega arith) (omega arith) (omega arith) (omega arith)))
+      ∙ sym (region-region s x (n * nin) (i * nin) (r * nin) f) in
+      rows-turn s u v X y i e (g ∙ ap (λ t. put u (y + i * nout) (linearOf r nin nout w t)) same)
+
+  pub block-turn-in : (s u v : List Float) (x y k n : ℕ) → Apart x (r * nin) y (r * nout) → y + r * nout ≤ length s → u ≡ put s y (begun k r nin nout w (region s x (r * nin)))
+      → v ≡ put u y (goneOn k n r nin nout w (region u x (r * nin)) (region u y (r * nout))) → v ≡ put s y (begun (k + n) r nin nout w (region s x (r * nin)))
+  block-turn-in s u v x y k n a h e g =
+      let X = region s x (r * nin) in
+      let B = begun k r nin nout w X in
+      let l : length B ≡ r * nout = length-grid r nout (λ l c. sumOf k (product nin w X l c)) in
+      let same : region u x (r * nin) ≡ X = ap (λ t. region t x (r * nin)) e ∙ region-put s y B x (r * nin) (rw l a) in
+      block-turn s u v X y k n h e (g ∙ ap (λ t. put u y (goneOn k n r nin nout w t (region u y (r * nout)))) same)
+
+  -- u is s with the block cleared: no product is summed yet
+  pub cleared-start : (s u x : List Float) (y : ℕ) → u ≡ blank zero32 y (r * nout) s → u ≡ put u y (begun 0 r nin nout w x)
+  cleared-start s u x y e =
+      let Z = tab (r * nout) (λ _. zero32) in
+      e ∙ sym (ap (λ t. put t y (begun 0 r nin nout w x)) e ∙ rw (← begun-none x) (put-put s y Z Z refl))
+
+  -- every product is
+  pub block-done : (s u v x : List Float) (y : ℕ) → r * nin ≤ length x → u ≡ blank zero32 y (r * nout) s → v ≡ put u y (begun nin r nin nout w x)
+      → v ≡ put s y (linearOf r nin nout w x)
+  block-done s u v x y h e g =
+      let L = linearOf r nin nout w x in
+      g ∙ rw (begun-all x h, e) (put-put s y (tab (r * nout) (λ _. zero32)) L (length-tab (r * nout) (λ _. zero32) ∙ sym (length-linear r nin nout w x)))

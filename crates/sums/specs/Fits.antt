@@ -1,0 +1,74 @@
+-- What the inner functions ask of the places and lengths that they are handed. Assumes nothing.
+use Prim.Native.Nat.{ℕ, _+_, _*_, _≤_, _<_}
+use Rattle.buffers.specs.Region.{Apart}
+
+-- n floats of v, from o on with step q, to at with step m
+pub record StrideFits (lend at m lenv o q n : ℕ) : Type 0 where
+  pub to : (i : ℕ) → i < n → at + i * m < lend
+  pub from : (i : ℕ) → i < n → o + i * q < lenv
+
+-- n floats of each of r rows, to sixteen lanes
+pub record PackFits (lent lenx at r nin n : ℕ) : Type 0 where
+  pub rows : r ≤ 16
+  pub tin : n * 16 ≤ lent
+  pub xin : (l : ℕ) → l < r → at + l * nin + n ≤ lenx
+
+-- r rows of sums at y, by n of the floats of each row of the weights
+pub record ColumnsFits (lens lenw lent y r nin nout k n : ℕ) : Type 0 where
+  pub some : 0 < r
+  pub rows : r ≤ 16
+  pub yin : y + r * nout ≤ lens
+  pub win : nout * nin ≤ lenw
+  pub tin : n * 16 ≤ lent
+  pub kin : k + n ≤ nin
+
+-- r is the least of a and b
+pub record Least (a b r : ℕ) : Type 0 where
+  pub first : r ≤ a
+  pub second : r ≤ b
+  pub some : 0 < a → 0 < b → 0 < r
+
+-- n rows at x, by the nout rows of the weights, to y
+pub record LinearFits (lens lenw x y n nin nout : ℕ) : Type 0 where
+  pub xin : x + n * nin ≤ lens
+  pub yin : y + n * nout ≤ lens
+  pub win : nout * nin ≤ lenw
+  pub apart : Apart x (n * nin) y (n * nout)
+
+-- up to sixteen of them, and n of the products of each sum
+pub record BlockFits (lens lenw x y r nin nout : ℕ) : Type 0 where
+  pub some : 0 < r
+  pub lanes : r ≤ 16
+  pub all : LinearFits lens lenw x y r nin nout
+
+pub record PieceFits (lens lenw x y r nin nout k n : ℕ) : Type 0 where
+  pub block : BlockFits lens lenw x y r nin nout
+  pub kin : k + n ≤ nin
+  pub short : n ≤ 1024
+
+-- the same with rows of another slice
+pub record FromFits (lenx lens lenw y n nin nout : ℕ) : Type 0 where
+  pub xin : n * nin ≤ lenx
+  pub yin : y + n * nout ≤ lens
+  pub win : nout * nin ≤ lenw
+
+pub record FromBlockFits (lenx lens lenw x y r nin nout : ℕ) : Type 0 where
+  pub some : 0 < r
+  pub lanes : r ≤ 16
+  pub xin : x + r * nin ≤ lenx
+  pub yin : y + r * nout ≤ lens
+  pub win : nout * nin ≤ lenw
+
+pub record FromPieceFits (lenx lens lenw x y r nin nout k n : ℕ) : Type 0 where
+  pub block : FromBlockFits lenx lens lenw x y r nin nout
+  pub kin : k + n ≤ nin
+  pub short : n ≤ 1024
+
+-- where the weights, the rows and the sums stand
+pub record WeighFits (len : ℕ) (row v out t dim hd o : ℕ) : Type 0 where
+  pub vIn : v + t * dim ≤ len
+  pub rowIn : row + t ≤ len
+  pub outIn : out + hd ≤ len
+  pub oIn : o + hd ≤ dim
+  pub rowout : Apart row t out hd
+  pub vout : Apart v (t * dim) out hd

@@ -1,0 +1,5 @@
+pub mod Linear
+pub mod Lanes
+pub mod Weighed
+pub mod Room
+pub mod Fits

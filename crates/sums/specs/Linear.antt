@@ -1,0 +1,25 @@
+-- Sums, from +0 upward, each product and each sum rounded once; and the linear layer: row r of the result holds, for
+-- each row c of w, the sum of x[r, k] * w[c, k]. Assumes nothing.
+use mathlib.Core.List.{List}
+use Prim.Native.Nat.{ℕ, zero, suc, _*_}
+use lib.ListN.{length, getD}
+use lib.Ieee.{Float, nan, binary32, add, mul}
+use Rattle.buffers.specs.Rows.{tab}
+use Rattle.buffers.specs.Region.{region, zero32}
+use Rattle.buffers.specs.Each.{eachRow}
+
+-- f 0 + .. + f (n - 1)
+unfoldable pub sumOf : ℕ → (ℕ → Float) → Float
+sumOf zero f = zero32
+sumOf (suc n) f = add binary32 (sumOf n f) (f n)
+
+abbrev pub dotOf : List Float → List Float → Float
+dotOf x w = sumOf (length x) (λ k. mul binary32 (getD x k nan) (getD w k nan))
+
+-- one row of nin by each of the nout rows of w
+unfoldable pub linearRow : ℕ → ℕ → List Float → List Float → List Float
+linearRow nin nout w x = tab nout (λ c. dotOf x (region w (c * nin) nin))
+
+-- n rows of nin by each of the nout rows of w
+unfoldable pub linearOf : ℕ → ℕ → ℕ → List Float → List Float → List Float
+linearOf n nin nout w x = eachRow n nin (λ _. linearRow nin nout w) x

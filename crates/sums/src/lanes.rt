@@ -1,0 +1,98 @@
+// Sixteen sums side by side. Each runs upward by itself, so that its bits are those of one sum alone.
+ghost use mathlib.Core.Path.{_≡_};
+ghost use Prim.Native.Nat.{_+_, _*_, _≤_};
+ghost use lib.ListN.{length, getD};
+ghost use lib.Ieee.{nan, binary32, add, mul};
+ghost use Rattle.buffers.specs.Region.{put};
+ghost use Rattle.buffers.specs.Rows.{tab, grid};
+ghost use Rattle.sums.specs.Lanes.{sumFrom, laneOf, spread, filled};
+ghost use Rattle.sums.specs.Fits.{StrideFits, PackFits, ColumnsFits};
+use buffers::part;
+
+// Each lane and its product with t.
+pub(crate) fn add_products(a: [f32; 16], xt: &[f32], j: usize, t: f32) -> [f32; 16]
+    requires { ⌜ (length a ≡ 16) × (j + 16 ≤ length (now xt)) ⌝ }
+    ensures { λ r. ⌜ r ≡ tab 16 (λ l. add binary32 (getD a l nan) (mul binary32 (getD (now (xt .entry)) (j + l) nan) t)) ⌝ }
+{
+    let mut b = a;
+    let mut l = 0usize;
+    while l < 16 {
+        b[l] = b[l] + xt[j + l] * t;
+        l += 1;
+    }
+    b
+}
+
+// The lanes, from a on, by all of w.
+pub(crate) fn lanes(a: [f32; 16], xt: &[f32], w: &[f32]) -> [f32; 16]
+    requires { ⌜ (length a ≡ 16) × (length (now w) * 16 ≤ length (now xt)) ⌝ }
+    ensures { λ r. ⌜ r ≡ tab 16 (laneOf (length (now (w .entry))) a (now (xt .entry)) (now (w .entry))) ⌝ }
+{
+    let mut b = a;
+    let mut k = 0usize;
+    while k < w.len() {
+        let t = w[k];
+        let next = add_products(b, xt, k * 16, t);
+        b = next;
+        k += 1;
+    }
+    b
+}
+
+// v[o], v[o + q], .. to d[at], d[at + m], ..: n of them.
+pub(crate) fn copy_spread(
+    d: &mut [f32],
+    at: usize,
+    m: usize,
+    v: &[f32],
+    o: usize,
+    q: usize,
+    n: usize,
+)
+    requires { ⌜ StrideFits (length (now d)) at m (length (now v)) o q n ⌝ }
+    ensures { λ _. ⌜ now (d .exit) ≡ spread (now (d .entry)) at m n (λ i. getD (now (v .entry)) (o + i * q) nan) ⌝ }
+{
+    let mut i = 0usize;
+    while i < n {
+        d[at + i * m] = v[o + i * q];
+        i += 1;
+    }
+}
+
+// The n floats at at of each of r rows, one row to a lane.
+pub(crate) fn pack(xt: &mut [f32], x: &[f32], at: usize, r: usize, nin: usize, n: usize)
+    requires { ⌜ PackFits (length (now xt)) (length (now x)) at r nin n ⌝ }
+    ensures { λ _. ⌜ now (xt .exit) ≡ filled (now (xt .entry)) 0 16 n r (λ k l. getD (now (x .entry)) (at + l * nin + k) nan) ⌝ }
+{
+    let mut l = 0usize;
+    while l < r {
+        copy_spread(xt, l, 16, x, at + l * nin, 1, n);
+        l += 1;
+    }
+}
+
+// The r rows of sums at y go on by n products: a lane of xt by the floats from k on of each of the nout rows of w.
+pub(crate) fn columns(
+    s: &mut [f32],
+    y: usize,
+    r: usize,
+    nin: usize,
+    nout: usize,
+    w: &[f32],
+    k: usize,
+    n: usize,
+    xt: &[f32],
+)
+    requires { ⌜ ColumnsFits (length (now s)) (length (now w)) (length (now xt)) y r nin nout k n ⌝ }
+    ensures { λ _. ⌜ now (s .exit) ≡ put (now (s .entry)) y (grid r nout (λ l c. sumFrom (getD (now (s .entry)) (y + (l * nout + c)) nan) n
+        (λ j. mul binary32 (getD (now (xt .entry)) (j * 16 + l) nan) (getD (now (w .entry)) (c * nin + (k + j)) nan)))) ⌝ }
+{
+    let mut c = 0usize;
+    while c < nout {
+        let mut a = [0.0f32; 16];
+        copy_spread(&mut a, 0, 1, s, y + c, nout, r);
+        let b = lanes(a, xt, part(w, c * nin + k, n));
+        copy_spread(s, y + c, nout, &b, 0, 1, r);
+        c += 1;
+    }
+}
