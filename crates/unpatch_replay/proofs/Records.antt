@@ -10,7 +10,7 @@ use lib.ListN.{length, take, drop, length-drop}
 use lib.Seq.{take-at, drop-drop}
 use Rattle.buffers.proofs.Lists.{and-left, and-right}
 use Rattle.buffers.specs.Region.{region}
-use Rattle.unpatch_text.specs.Words.{same}
+use Rattle.unpatch_form.specs.Words.{same}
 use Rattle.unpatch_text.specs.Answer.{answer, room, lengthLeft, textLeft}
 use Rattle.unpatch_replay.specs.declared.record.Step.{Step}
 use Rattle.unpatch_replay.specs.declared.replay.Counts.{Counts}

@@ -5,7 +5,7 @@ use Prim.Native.Nat.{ℕ, zero, suc, _+_, _-_, _*_}
 use lib.Dec.{ltb}
 use lib.ListN.{length, getD, drop}
 use Rattle.buffers.specs.Region.{region}
-use Rattle.unpatch_text.specs.Words.{same}
+use Rattle.unpatch_form.specs.Words.{same}
 use Rattle.unpatch_text.specs.Answer.{answer}
 use Rattle.unpatch_replay.specs.declared.record.Step.{Step}
 use Rattle.unpatch_replay.specs.declared.replay.Counts.{Counts}

@@ -2,7 +2,7 @@
 ghost use mathlib.Core.Path.{_≡_};
 ghost use Prim.Native.Nat.{_-_, _≤_, _<_};
 ghost use lib.ListN.{length};
-ghost use Rattle.unpatch_text.specs.Words.{same};
+ghost use Rattle.unpatch_form.specs.Words.{same};
 ghost use Rattle.unpatch_text.specs.Answer.{answer};
 ghost use Rattle.unpatch_replay.specs.Record.{sizeOf, unread, stepOf};
 use libc::STDOUT_FILENO;

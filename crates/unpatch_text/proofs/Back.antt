@@ -15,16 +15,16 @@ use Rattle.buffers.proofs.Lists.{fit}
 use Rattle.buffers.specs.Rows as B
 use Rattle.buffers.specs.Region.{region}
 use Rattle.picture.proofs.Same.{Bytes}
-use Rattle.unpatch_text.specs.Words.{word, same, onto, pieces, _>>=_, first, end, joined, behind}
-use Rattle.unpatch_text.specs.Decimal.{isDigit, digitsFrom, decimal, lastDigits, decimalText}
-use Rattle.unpatch_text.specs.Hex.{nibble, pair, hexPairs, hexBytes, glyph, hexText}
-use Rattle.unpatch_text.specs.Print.{line, gridLine, rowLine, rowLines}
-use Rattle.unpatch_text.specs.Form.{fields, lines, rowFields, row, rows}
-use Rattle.unpatch_text.proofs.Decimals.{decimal-one, decimal-more}
-use Rattle.unpatch_text.proofs.Hexes.{hex-some}
+use Rattle.unpatch_form.specs.Words.{word, same, onto, pieces, _>>=_, first, end, joined, behind}
+use Rattle.unpatch_form.specs.Decimal.{isDigit, digitsFrom, decimal}
+use Rattle.unpatch_form.specs.Hex.{nibble, pair, hexPairs, hexBytes}
+use Rattle.unpatch_text.specs.Print.{lastDigits, decimalText, glyph, hexText, line, gridLine, rowLine, rowLines}
+use Rattle.unpatch_form.specs.Form.{fields, lines, rowFields, row, rows}
+use Rattle.unpatch_form.proofs.Decimals.{decimal-one, decimal-more}
+use Rattle.unpatch_form.proofs.Hexes.{hex-some}
 use Rattle.unpatch_text.proofs.Writes.{digits-one, digits-more, length-hex}
-use Rattle.unpatch_text.proofs.Fields.{some-piece}
-use Rattle.unpatch_text.proofs.Answers.{joined-nil, joined-joined}
+use Rattle.unpatch_form.proofs.Fields.{some-piece}
+use Rattle.unpatch_form.proofs.Answers.{joined-nil, joined-joined}
 
 -- ---- pieces
 -- no element is s

@@ -29,13 +29,13 @@ use Rattle.picture.proofs.Places.{times, length-picture}
 use Rattle.picture.proofs.Accepts.{acceptance}
 use Rattle.picture.proofs.Undo.{Undone, undo, own-bytes, spanned, bytes-append, no-bytes, one-byte, bytes-tab, bytes-rows}
 use Rattle.picture.proofs.Unique.{one}
-use Rattle.unpatch_text.specs.Words.{word, _>>=_, first, end, joined, behind}
-use Rattle.unpatch_text.specs.Decimal.{decimal, lastDigits}
-use Rattle.unpatch_text.specs.Hex.{nibble, pair, hexPairs, hexBytes}
-use Rattle.unpatch_text.specs.Form.{Request, fields, lines, rowFields, row, rows, vision, picture, requestOf, pictured, form}
-use Rattle.unpatch_text.specs.Print.{refusedLine, outsideLine, gridLine, rowLines}
+use Rattle.unpatch_form.specs.Words.{word, _>>=_, first, end, joined, behind}
+use Rattle.unpatch_form.specs.Decimal.{decimal}
+use Rattle.unpatch_form.specs.Hex.{nibble, pair, hexPairs, hexBytes}
+use Rattle.unpatch_form.specs.Form.{Request, fields, lines, rowFields, row, rows, vision, picture, requestOf, pictured, form}
+use Rattle.unpatch_text.specs.Print.{lastDigits, refusedLine, outsideLine, gridLine, rowLines}
 use Rattle.unpatch_text.specs.Answer.{settings, restoredText, preprocessedText, ran, answered, answer, lengthLeft, textLeft}
-use Rattle.unpatch_text.proofs.Limits.{read-on, read-first, read-end}
+use Rattle.unpatch_form.proofs.Limits.{read-on, read-first, read-end}
 use Rattle.unpatch_text.proofs.Back.{rows-back}
 
 -- ---- any two results that satisfy the contract are equal

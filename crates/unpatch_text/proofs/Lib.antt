@@ -1,10 +1,3 @@
-pub mod Answers
-pub mod Pieces
-pub mod Decimals
-pub mod Hexes
-pub mod Fields
-pub mod Limits
-pub mod Rows
 pub mod Writes
 pub mod Short
 pub mod Rooms

@@ -12,8 +12,7 @@ use Rattle.picture.specs.declared.Refusal.{Refusal}
 use Rattle.picture.specs.declared.Refusal.the-variants.{Setting, Side, RgbLength, ImageSize, Output, Grid, PatchesLength, Sample, WeightsLength, TableLength, Scratch, NotFinite}
 use Rattle.picture.specs.Refusal.{number}
 use Rattle.picture.proofs.Places.{times}
-use Rattle.unpatch_text.specs.Decimal.{decimalText}
-use Rattle.unpatch_text.specs.Print.{refusedLine, gridLine, rowLine, rowLines}
+use Rattle.unpatch_text.specs.Print.{decimalText, refusedLine, gridLine, rowLine, rowLines}
 use Rattle.unpatch_text.proofs.Writes.{digits-one, digits-more, length-refused, length-grid, length-row}
 
 -- a number below 10 ^ k has at most k digits

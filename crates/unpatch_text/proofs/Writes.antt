@@ -13,10 +13,8 @@ use lib.Seq.{take-suc}
 use Rattle.buffers.specs.Rows.{rows}
 use Rattle.buffers.specs.Region.{put}
 use Rattle.buffers.proofs.Regions.{put-one, put-append}
-use Rattle.unpatch_text.specs.Decimal.{lastDigits, decimalText}
-use Rattle.unpatch_text.specs.Hex.{glyph, hexText}
-use Rattle.unpatch_text.specs.Words.{word}
-use Rattle.unpatch_text.specs.Print.{line, refusedLine, gridLine, rowLine}
+use Rattle.unpatch_form.specs.Words.{word}
+use Rattle.unpatch_text.specs.Print.{lastDigits, decimalText, glyph, hexText, line, refusedLine, gridLine, rowLine}
 use Rattle.unpatch_text.specs.Steps.{Wrote}
 
 -- ---- one text behind another

@@ -14,7 +14,7 @@ use Rattle.picture.specs.declared.Restored.the-variants as R
 use Rattle.picture.specs.Refusal.{number}
 use Rattle.picture.specs.Preprocess.{floatsOf, preprocessed, patchesOf}
 use Rattle.picture.specs.Restore.{restored, bytesOf}
-use Rattle.unpatch_text.specs.Form.{Request, form}
+use Rattle.unpatch_form.specs.Form.{Request, form}
 use Rattle.unpatch_text.specs.Print.{refusedLine, outsideLine, gridLine, rowLines}
 
 abbrev pub settings : Request → PictureSettings

@@ -1,7 +1,3 @@
-pub mod Words
-pub mod Decimal
-pub mod Hex
-pub mod Form
 pub mod Print
 pub mod Answer
 pub mod Steps

@@ -1,17 +1,12 @@
 // Text in, text out: a picture and its settings, to patches and back.
-mod decimal;
-mod hex;
-mod lines;
 mod print;
-mod read;
 mod run;
-mod scan;
 
 use crate::print::put_bytes;
-use crate::read::Reading;
-use crate::read::read;
 use crate::run::run;
 use picture::PictureSettings;
+use unpatch_form::read::Reading;
+use unpatch_form::read::read;
 ghost use mathlib.Core.Path.{_≡_};
 ghost use Rattle.unpatch_text.specs.Answer.{answer, lengthLeft, textLeft};
 

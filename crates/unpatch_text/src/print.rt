@@ -3,9 +3,8 @@ ghost use mathlib.Core.Path.{_≡_};
 ghost use mathlib.Core.List.{_∷_};
 ghost use Prim.Native.Nat.{_+_, _*_, _≤_, _<_};
 ghost use lib.ListN.{length};
-ghost use Rattle.unpatch_text.specs.Decimal.{decimalText};
-ghost use Rattle.unpatch_text.specs.Hex.{hexText, glyph as Hex·glyph};
-ghost use Rattle.unpatch_text.specs.Print.{refusedLine, gridLine, rowLine, rowLines};
+ghost use Rattle.unpatch_text.specs.Print as Print;
+ghost use Rattle.unpatch_text.specs.Print.{decimalText, hexText, refusedLine, gridLine, rowLine, rowLines};
 ghost use Rattle.unpatch_text.specs.Steps.{Wrote};
 
 pub(crate) fn put_bytes(s: &[u8], at: usize, out: &mut [u8]) -> usize
@@ -36,7 +35,7 @@ fn put_decimal(n: usize, at: usize, out: &mut [u8]) -> usize
 
 fn glyph(d: u8) -> u8
     requires { ⌜ d < 16 ⌝ }
-    ensures { λ r. ⌜ r ≡ Hex·glyph d ⌝ }
+    ensures { λ r. ⌜ r ≡ Print.glyph d ⌝ }
 {
     if d < 10 { b'0' + d } else { 87 + d }
 }

@@ -5,7 +5,7 @@ use Prim.Native.Nat.{ℕ, _≤_}
 use mathlib.Core.Path.{_≡_, refl, sym, _∙_}
 use lib.ListN.{length, take, replicate, length-replicate}
 use lib.Seq.{length-take-le}
-use Rattle.unpatch_text.specs.Words.{same}
+use Rattle.unpatch_form.specs.Words.{same}
 use Rattle.unpatch_text.specs.Answer.{answer}
 use Rattle.unpatch_text.proofs.Left.{length-inside}
 use Rattle.unpatch_replay.proofs.Records.{same-by, left}

@@ -5,7 +5,7 @@ use native.Mathlib.Omega.{arith}
 use mathlib.Core.Path.{_≡_, refl, sym, ap, _∙_}
 use lib.ListN.{length, take, drop, drop-of-length-le}
 use lib.Seq.{take-all}
-use Rattle.unpatch_text.proofs.Fields.{rest}
+use Rattle.unpatch_form.proofs.Fields.{rest}
 use Rattle.unpatch_replay.specs.Record.{none, stepOf, tally}
 use Rattle.unpatch_replay.proofs.Records.{Left, turn, tally-end, counted-sum}
 use Rattle.unpatch_replay.proofs.replay.replay.Statement.{statement}

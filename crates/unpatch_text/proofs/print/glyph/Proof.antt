@@ -7,19 +7,19 @@ use Rattle.unpatch_text.proofs.print.glyph.Tie as tie
 use Rattle.unpatch_text.proofs.print.glyph.Reads as reads
 use Rattle.unpatch_text.proofs.print.glyph.Lts as lts
 
--- src/print.rt:41:17
+-- src/print.rt:40:17
 add-result : tie.Need-add-result
 add-result c = search needs
 
--- src/print.rt:41:35
+-- src/print.rt:40:35
 add-result-2 : tie.Need-add-result-2
 add-result-2 c = search needs
 
--- src/print.rt:37:1
+-- src/print.rt:36:1
 returns : tie.Need-returns
 returns c = rw (lt-ltb _ _ (c .if1 .taken)) refl
 
--- src/print.rt:37:1
+-- src/print.rt:36:1
 returns-2 : tie.Need-returns-2
 returns-2 c = rw (le-ltb _ _ (c .if1 .left)) refl
 

@@ -21,31 +21,31 @@ Inv-loop s at out₀ i₀ out i = (i ≤ length s) × (length out ≡ length out
 abbrev μ-loop : tie.MeasureT-loop
 μ-loop s at out₀ i₀ out i = length s - i
 
--- src/print.rt:16:5
+-- src/print.rt:15:5
 loop-holds : tie.Need-loop-holds Inv-loop μ-loop
 loop-holds c = (omega arith, refl, sym (put-nil _ _))
 
--- src/print.rt:17:23
+-- src/print.rt:16:23
 shared-slice-read-out : tie.Need-shared-slice-read-out Inv-loop μ-loop
 shared-slice-read-out c = search needs
 
--- src/print.rt:17:13
+-- src/print.rt:16:13
 add-out : tie.Need-add-out Inv-loop μ-loop
 add-out c = omega arith
 
--- src/print.rt:17:9
+-- src/print.rt:16:9
 slice-write-out : tie.Need-slice-write-out Inv-loop μ-loop
 slice-write-out c = omega arith
 
--- src/print.rt:18:9
+-- src/print.rt:17:9
 add-i : tie.Need-add-i Inv-loop μ-loop
 add-i c = search needs
 
--- src/print.rt:16:5
+-- src/print.rt:15:5
 loop-less : tie.Need-loop-less Inv-loop μ-loop
 loop-less c = search needs
 
--- src/print.rt:16:5
+-- src/print.rt:15:5
 loop-again : tie.Need-loop-again Inv-loop μ-loop
 loop-again c =
     let l = c .before .before .loop in
@@ -55,15 +55,15 @@ loop-again c =
     let n : a .at + l .i ≡ a .at + length (take (l .i) s) = ap (λ (k : ℕ). a .at + k) (sym (length-take-le (l .i) s (omega arith))) in
     (omega arith, simp length-set (l .inv .1), rw (l .inv .2, add-one (l .i), take-suc s (l .i) 0 h) (sym (put-one _ _ _) ∙ put-append (a .out .now) (a .at) (take (l .i) s) (getD s (l .i) 0 ∷ []) (a .at + l .i) n))
 
--- src/print.rt:20:5
+-- src/print.rt:19:5
 add-result : tie.Need-add-result Inv-loop μ-loop
 add-result c = omega arith
 
--- src/print.rt:11:1
+-- src/print.rt:10:1
 same-length : tie.Need-same-length Inv-loop μ-loop
 same-length c = omega arith
 
--- src/print.rt:11:1
+-- src/print.rt:10:1
 returns : tie.Need-returns Inv-loop μ-loop
 returns c =
     let l = c .before .loop in

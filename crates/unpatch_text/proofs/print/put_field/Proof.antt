@@ -8,23 +8,23 @@ use Rattle.unpatch_text.proofs.print.put_field.Lts as lts
 use Rattle.unpatch_text.proofs.print.put_bytes.Reads as put-bytes-reads
 use Rattle.unpatch_text.proofs.print.put_decimal.Reads as put-decimal-reads
 
--- src/print.rt:65:23
+-- src/print.rt:64:23
 slice-aggregate-put-bytes : tie.Need-slice-aggregate-put-bytes
 slice-aggregate-put-bytes c = search needs
 
--- src/print.rt:65:9
+-- src/print.rt:64:9
 put-bytes-requires : tie.Need-put-bytes-requires
 put-bytes-requires c κs = search needs
 
--- src/print.rt:66:5
+-- src/print.rt:65:5
 put-decimal-requires : tie.Need-put-decimal-requires
 put-decimal-requires c κs = search needs
 
--- src/print.rt:61:1
+-- src/print.rt:60:1
 same-length : tie.Need-same-length
 same-length c = search needs
 
--- src/print.rt:61:1
+-- src/print.rt:60:1
 returns : tie.Need-returns
 returns c = wrote-then (c .before .before .before .before .before .before .put-bytes .ensures) (c .before .before .put-decimal .ensures)
 

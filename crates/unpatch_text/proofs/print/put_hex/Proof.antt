@@ -8,7 +8,7 @@ use lib.ListN.{length, getD, take, set, length-set}
 use lib.Seq.{take-all, length-take-le}
 use Rattle.buffers.specs.Region.{put}
 use Rattle.buffers.proofs.Regions.{put-nil, put-append}
-use Rattle.unpatch_text.specs.Hex.{glyph, hexText}
+use Rattle.unpatch_text.specs.Print.{glyph, hexText}
 use Rattle.unpatch_text.proofs.Writes.{length-hex, hex-more, put-two}
 use Rattle.unpatch_text.proofs.print.put_hex.Statement.{statement}
 use Rattle.unpatch_text.proofs.print.put_hex.Tie as tie
@@ -22,48 +22,48 @@ Inv-loop s at out₀ i₀ o₀ out i o = (i ≤ length s) × (o ≡ at + 2 * i) 
 abbrev μ-loop : tie.MeasureT-loop
 μ-loop s at out₀ i₀ o₀ out i o = length s - i
 
--- src/print.rt:50:5
+-- src/print.rt:49:5
 loop-holds : tie.Need-loop-holds Inv-loop μ-loop
 unfolding hexText
 loop-holds c = (omega arith, omega arith, refl, sym (put-nil _ _))
 
--- src/print.rt:51:17
+-- src/print.rt:50:17
 shared-slice-read-b : tie.Need-shared-slice-read-b Inv-loop μ-loop
 shared-slice-read-b c = search needs
 
--- src/print.rt:52:18
+-- src/print.rt:51:18
 glyph-requires : tie.Need-glyph-requires Inv-loop μ-loop
 glyph-requires c κs = omega (arith, c .shared-slice-known2 .given (c .before .before .loop .i))
 
--- src/print.rt:52:9
+-- src/print.rt:51:9
 slice-write-out : tie.Need-slice-write-out Inv-loop μ-loop
 slice-write-out c = omega arith
 
--- src/print.rt:53:22
+-- src/print.rt:52:22
 glyph-requires-2 : tie.Need-glyph-requires-2 Inv-loop μ-loop
 glyph-requires-2 c κs = omega arith
 
--- src/print.rt:53:13
+-- src/print.rt:52:13
 add-out : tie.Need-add-out Inv-loop μ-loop
 add-out c = omega arith
 
--- src/print.rt:53:9
+-- src/print.rt:52:9
 slice-write-out-2 : tie.Need-slice-write-out-2 Inv-loop μ-loop
 slice-write-out-2 c = simp length-set (omega arith)
 
--- src/print.rt:54:9
+-- src/print.rt:53:9
 add-o : tie.Need-add-o Inv-loop μ-loop
 add-o c = omega arith
 
--- src/print.rt:55:9
+-- src/print.rt:54:9
 add-i : tie.Need-add-i Inv-loop μ-loop
 add-i c = search needs
 
--- src/print.rt:50:5
+-- src/print.rt:49:5
 loop-less : tie.Need-loop-less Inv-loop μ-loop
 loop-less c = search needs
 
--- src/print.rt:50:5
+-- src/print.rt:49:5
 loop-again : tie.Need-loop-again Inv-loop μ-loop
 loop-again c =
     let l = c .before .before .before .before .loop in
@@ -76,11 +76,11 @@ loop-again c =
     let t : set (set (l .out) (l .o) x) (l .o + 1) y ≡ put (a .out .now) (a .at) (hexText (take (l .i) s) ++ (x ∷ (y ∷ []))) = sym (put-two (l .out) (l .o) x y) ∙ ap (λ (z : List ℕ). put z (l .o) (x ∷ (y ∷ []))) (l .inv .3) ∙ put-append (a .out .now) (a .at) (hexText (take (l .i) s)) (x ∷ (y ∷ [])) (l .o) n in
     (omega arith, omega arith, simp length-set (l .inv .2), rw (hex-more s (l .i) h, ← c .before .glyph .ensures, ← c .glyph2 .ensures) t)
 
--- src/print.rt:44:1
+-- src/print.rt:43:1
 same-length : tie.Need-same-length Inv-loop μ-loop
 same-length c = omega arith
 
--- src/print.rt:44:1
+-- src/print.rt:43:1
 returns : tie.Need-returns Inv-loop μ-loop
 returns c =
     let l = c .before .loop in

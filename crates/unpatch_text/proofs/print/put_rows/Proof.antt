@@ -24,13 +24,13 @@ Inv-loop h n s at out₀ y₀ from₀ o₀ out y from o = (y ≤ h) × (from ≡
 abbrev μ-loop : tie.MeasureT-loop
 μ-loop h n s at out₀ y₀ from₀ o₀ out y from o = h - y
 
--- src/print.rt:108:5
+-- src/print.rt:107:5
 loop-holds : tie.Need-loop-holds Inv-loop μ-loop
 loop-holds c =
     let a = c .before .before .args in
     (omega arith, sym (zero-mul (a .n)), refl, wrote-none (λ y. rowLine y (region (a .s .now) (y * a .n) (a .n))) (a .out .now) (a .at))
 
--- src/print.rt:109:18
+-- src/print.rt:108:18
 add-to : tie.Need-add-to Inv-loop μ-loop
 add-to c =
     let l = c .before .loop in
@@ -38,7 +38,7 @@ add-to c =
     let s = a .s .now in
     omega (arith, l .inv .1, fit (a .n) (c .loop-test .taken))
 
--- src/print.rt:110:24
+-- src/print.rt:109:24
 sub-put-row : tie.Need-sub-put-row Inv-loop μ-loop
 sub-put-row c =
     let l = c .before .loop in
@@ -46,7 +46,7 @@ sub-put-row c =
     let s = a .s .now in
     omega (arith, l .inv .1, fit (a .n) (c .loop-test .taken))
 
--- src/print.rt:110:24
+-- src/print.rt:109:24
 part-put-row-start : tie.Need-part-put-row-start Inv-loop μ-loop
 part-put-row-start c =
     let l = c .before .loop in
@@ -54,7 +54,7 @@ part-put-row-start c =
     let s = a .s .now in
     omega (arith, l .inv .1, fit (a .n) (c .loop-test .taken))
 
--- src/print.rt:110:24
+-- src/print.rt:109:24
 part-put-row-end : tie.Need-part-put-row-end Inv-loop μ-loop
 part-put-row-end c =
     let l = c .before .loop in
@@ -62,7 +62,7 @@ part-put-row-end c =
     let s = a .s .now in
     omega (arith, l .inv .1, fit (a .n) (c .loop-test .taken))
 
--- src/print.rt:110:9
+-- src/print.rt:109:9
 put-row-requires : tie.Need-put-row-requires Inv-loop μ-loop
 put-row-requires c κs =
     let l = c .before .before .before .loop in
@@ -71,15 +71,15 @@ put-row-requires c κs =
     let e : take (l .from + a .n - l .from) (drop (l .from) s) ≡ region s (l .y * a .n) (a .n) = ap (λ (k : ℕ). take k (drop (l .from) s)) (add-sub-cancel-left (l .from) (a .n)) ∙ ap (λ (k : ℕ). region s k (a .n)) (l .inv .1) in
     rw e (omega (arith, l .inv .2, l .inv .3 .next-is, row-room (λ y. rowLine y (region s (y * a .n) (a .n))) (a .h) (l .y) (c .before .before .loop-test .taken)))
 
--- src/print.rt:112:9
+-- src/print.rt:111:9
 add-y : tie.Need-add-y Inv-loop μ-loop
 add-y c = search needs
 
--- src/print.rt:108:5
+-- src/print.rt:107:5
 loop-less : tie.Need-loop-less Inv-loop μ-loop
 loop-less c = search needs
 
--- src/print.rt:108:5
+-- src/print.rt:107:5
 loop-again : tie.Need-loop-again Inv-loop μ-loop
 loop-again c =
     let l = c .before .before .before .before .before .before .loop in
@@ -90,11 +90,11 @@ loop-again c =
     let m : (l .y + 1) * a .n ≡ l .y * a .n + a .n = ap (λ (k : ℕ). k * a .n) (add-one (l .y)) ∙ suc-mul (l .y) (a .n) in
     (omega arith, ap (λ (k : ℕ). k + a .n) (l .inv .1) ∙ sym m, c .before .before .put-row .kept .1 .1 .1 .0 ∙ l .inv .2, wrote-row (λ y. rowLine y (region s (y * a .n) (a .n))) (l .y) (l .inv .3) w)
 
--- src/print.rt:101:1
+-- src/print.rt:100:1
 same-length : tie.Need-same-length Inv-loop μ-loop
 same-length c = omega arith
 
--- src/print.rt:101:1
+-- src/print.rt:100:1
 returns : tie.Need-returns Inv-loop μ-loop
 returns c =
     let l = c .before .loop in

@@ -1,0 +1,146 @@
+-- `read::read_picture` meets its contract. Assumes nothing.
+use borrow.Author.Needs.{needs}
+use Prim.Native.Nat.{ℕ, suc, _+_, _*_, _-_, _≤_, _<_}
+use native.Mathlib.Omega.{arith}
+use mathlib.Core.Path.{_≡_, refl, sym, ap, _∙_}
+use mathlib.Core.Option.{none, some}
+use lib.ListN.{length, take, drop, length-drop}
+use lib.Seq.{length-take-le}
+use Rattle.buffers.specs.Region.{region}
+use Rattle.unpatch_form.specs.Words.{_>>=_}
+use Rattle.unpatch_form.specs.Form.{lines, picture, rows, requestOf}
+use Rattle.unpatch_form.specs.Steps.{count, foundPair, bytesAt}
+use Rattle.unpatch_form.proofs.Fields.{rest, first-alone, first-cut}
+use Rattle.unpatch_form.proofs.Rows.{rows-none}
+use Rattle.unpatch_form.proofs.read.read_picture.Statement.{statement}
+use Rattle.unpatch_form.proofs.read.read_picture.Tie as tie
+use Rattle.unpatch_form.proofs.read.read_picture.Reads as reads
+use Rattle.unpatch_form.proofs.read.read_picture.Lts as lts
+use Rattle.unpatch_form.proofs.lines.picture.Reads as picture-reads
+use Rattle.unpatch_form.proofs.lines.rows.Reads as rows-reads
+use Rattle.unpatch_form.proofs.scan.find.Reads as find-reads
+
+-- src/read.rt:35:9
+find-requires : tie.Need-find-requires
+find-requires c κs = search needs
+
+-- src/read.rt:37:9
+returns : tie.Need-returns
+returns c =
+    let a = c .before .before .before .before .args in
+    (sym (first-alone picture (λ p ls. rows 0 ls >>= requestOf (a .patch, a .merge, a .image) p) (λ p. rw (rows-none 0) refl) 10 (a .text .now) (sym (c .before .find .ensures .0) ∙ c .if1 .taken)), omega arith)
+
+-- src/read.rt:39:43
+slice-aggregate-picture : tie.Need-slice-aggregate-picture
+slice-aggregate-picture c = sym (length-take-le _ _ (c .before .before .find .ensures .1))
+
+-- src/read.rt:39:35
+picture-requires : tie.Need-picture-requires
+picture-requires c κs = search needs
+
+-- src/read.rt:39:18
+enum-known-height : tie.Need-enum-known-height
+enum-known-height c = search needs
+
+-- src/read.rt:40:9
+enum-told : tie.Need-enum-told
+enum-told c = search needs
+
+-- src/read.rt:40:9
+returns-2 : tie.Need-returns-2
+returns-2 c =
+    let a = c .before .before .before .before .before .before .before .before .args in
+    let f = c .before .before .before .before .before .find in
+    let text = a .text .now in
+    let h : f .result < length text = omega arith in
+    let e : picture (take (f .result) text) ≡ none = sym (c .before .before .picture .ensures) ∙ ap foundPair (c .enum-told .given .1) in
+    (sym (first-cut picture (λ p ls. rows 0 ls >>= requestOf (a .patch, a .merge, a .image) p) 10 text (f .result) (f .ensures .0) h ∙ rw e refl), omega arith)
+
+-- src/read.rt:42:16
+add-next : tie.Need-add-next
+add-next c = search needs
+
+-- src/read.rt:43:37
+sub-rows : tie.Need-sub-rows
+sub-rows c = search needs
+
+-- src/read.rt:43:37
+part-rows-start : tie.Need-part-rows-start
+part-rows-start c = search needs
+
+-- src/read.rt:43:37
+part-rows-end : tie.Need-part-rows-end
+part-rows-end c = search needs
+
+-- src/read.rt:43:32
+rows-requires : tie.Need-rows-requires
+rows-requires c κs =
+    let a = c .before .before .before .before .before .before .before .before .before .before .before .args in
+    let f = c .before .before .before .before .before .before .before .before .find in
+    rw (rest (a .text .now) (f .result + 1), length-drop) (omega arith)
+
+-- src/read.rt:43:23
+enum-known-bytes : tie.Need-enum-known-bytes
+enum-known-bytes c = search needs
+
+-- src/read.rt:44:9
+enum-told-2 : tie.Need-enum-told-2
+enum-told-2 c = search needs
+
+-- src/read.rt:44:9
+same-length : tie.Need-same-length
+same-length c = omega arith
+
+-- src/read.rt:44:9
+returns-3 : tie.Need-returns-3
+returns-3 c =
+    let a = c .before .before .before .before .before .before .before .before .before .before .before .before .before .before .before .before .args in
+    let f = c .before .before .before .before .before .before .before .before .before .before .before .before .before .find in
+    let text = a .text .now in
+    let h : f .result < length text = omega arith in
+    let e : picture (take (f .result) text) ≡ some _ = sym (c .before .before .before .before .before .before .before .before .before .before .picture .ensures) ∙ ap foundPair (c .before .before .before .before .before .before .before .before .height .given .1) in
+    let w = rw (rest text (f .result + 1)) at (c .before .before .before .before .rows .ensures) in
+    let r : rows 0 (lines (drop (f .result + 1) text)) ≡ none = sym (w .answer) ∙ ap (λ r. bytesAt r 0 (c .before .before .before .before .rows .last .1 .0)) (c .enum-told2 .given .1) in
+    (sym (first-cut picture (λ p ls. rows 0 ls >>= requestOf (a .patch, a .merge, a .image) p) 10 text (f .result) (f .ensures .0) h ∙ rw (e, r) refl), omega arith)
+
+-- src/read.rt:31:1
+same-length-2 : tie.Need-same-length-2
+same-length-2 c = omega arith
+
+-- src/read.rt:31:1
+returns-4 : tie.Need-returns-4
+returns-4 c =
+    let a = c .before .before .before .before .before .before .before .before .before .before .before .before .before .before .before .before .before .args in
+    let f = c .before .before .before .before .before .before .before .before .before .before .before .before .before .before .find in
+    let text = a .text .now in
+    let h : f .result < length text = omega arith in
+    let k = c .before .bytes .given .0 .0 in
+    let new = c .before .before .before .before .before .rows .last .1 .0 in
+    let e : picture (take (f .result) text) ≡ some _ = sym (c .before .before .before .before .before .before .before .before .before .before .before .picture .ensures) ∙ ap foundPair (c .before .before .before .before .before .before .before .before .before .height .given .1) in
+    let w = rw (rest text (f .result + 1)) at (c .before .before .before .before .before .rows .ensures) in
+    let r : rows 0 (lines (drop (f .result + 1) text)) ≡ some (region new 0 k) = sym (w .answer) ∙ ap (λ r. bytesAt r 0 new) (c .before .bytes .given .1) in
+    let q = ap count (c .before .bytes .given .1) in
+    (sym (first-cut picture (λ p ls. rows 0 ls >>= requestOf (a .patch, a .merge, a .image) p) 10 text (f .result) (f .ensures .0) h ∙ rw (e, r) refl), omega (arith, w .few, length-drop (f .result + 1) text, c .before .before .before .before .before .rows .kept .1 .0))
+
+pub read-picture-spec : {M : Type 1} → statement M
+read-picture-spec =
+    tie.close
+    (tie.spec
+    find-requires
+    returns
+    slice-aggregate-picture
+    picture-requires
+    enum-known-height
+    enum-told
+    returns-2
+    add-next
+    sub-rows
+    part-rows-start
+    part-rows-end
+    rows-requires
+    enum-known-bytes
+    enum-told-2
+    same-length
+    returns-3
+    same-length-2
+    returns-4)

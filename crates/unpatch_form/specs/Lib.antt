@@ -1,0 +1,6 @@
+pub mod Words
+pub mod Decimal
+pub mod Hex
+pub mod Form
+pub mod Steps
+pub mod Read
