@@ -74,7 +74,7 @@ fn settings(v: &[usize; 25]) -> EncoderSettings
         num_layers: v[6],
         intermediate_size: v[7],
         text_hidden_size: v[8],
-        scaling: number::pattern::f32_of_bits((v[9] % 4294967296) as u32),
+        scaling: floats::pattern::f32_of_bits((v[9] % 4294967296) as u32),
     }
 }
 

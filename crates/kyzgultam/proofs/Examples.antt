@@ -8,7 +8,7 @@ use Rattle.buffers.specs.Rows.{tab, rows}
 use Rattle.number.specs.Bf16.{bf16}
 use Rattle.number.specs.Half.{subnormal, halfSize, half}
 use Rattle.number.specs.Root.{wholeRoot, nearRoot, rootOfNumber, root}
-use Rattle.number.specs.Narrow.{narrow}
+use Rattle.floats.specs.Narrow.{narrow}
 use Rattle.number.specs.Exp.{series, E, expBits}
 use Rattle.picture.specs.declared.PictureSettings.{PictureSettings}
 use Rattle.picture.specs.declared.Preprocessed.{Preprocessed}

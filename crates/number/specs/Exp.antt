@@ -3,15 +3,12 @@ use Prim.Native.Nat.{ℕ, zero, suc}
 use lib.IntN.{pos}
 use mathlib.Core.Bool.{false, cond}
 use lib.Ieee.{Float, nan, inf, fin, binary32, binary64, minus, neg, add, sub, mul, div, le, ne, ofInt, ofBits, toBits, toUnsigned}
-use Rattle.number.specs.Whole.{floor}
-use Rattle.number.specs.Narrow.{narrow}
+use Rattle.floats.specs.Whole.{oneHalf, floor}
+use Rattle.floats.specs.Narrow.{narrow}
 
--- L, one half and one, as f64
+-- L and one, as f64
 abbrev pub L : Float
 L = ofBits binary64 0x3FE6_2E42_FEFA_39EF
-
-abbrev pub oneHalf : Float
-oneHalf = ofBits binary64 0x3FE0_0000_0000_0000
 
 abbrev pub one : Float
 one = ofBits binary64 0x3FF0_0000_0000_0000

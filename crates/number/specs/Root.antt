@@ -4,7 +4,7 @@ use mathlib.Core.Bool.{cond}
 use Prim.Native.Nat.{ℕ, zero, suc, _+_, _-_, _*_, _/_, _%_, _^_, _≤_, _<_}
 use lib.Dec.{eqb, leb, ltb}
 use lib.Ieee.{Float, binary32, size, ofBits, toBits}
-use Rattle.number.specs.Size.{count}
+use Rattle.floats.specs.Size.{count}
 
 -- the largest n below 2 ^ 24 whose square is at most v, found digit by digit: n holds the digits above the i that are left
 unfoldable pub wholeRoot : ℕ → ℕ → ℕ → ℕ

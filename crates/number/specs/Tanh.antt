@@ -2,7 +2,7 @@
 use Prim.Native.Nat.{ℕ}
 use mathlib.Core.Bool.{cond}
 use lib.Ieee.{Float, nan, binary32, binary64, neg, add, sub, mul, div, le, ne, ofBits, toBits}
-use Rattle.number.specs.Narrow.{narrow}
+use Rattle.floats.specs.Narrow.{narrow}
 use Rattle.number.specs.Exp.{one, F}
 
 -- two, as f64; one and ten, as f32

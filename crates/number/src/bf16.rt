@@ -12,5 +12,5 @@ pub fn bf16(x: u32) -> u32
 pub fn bf16_f32(x: f32) -> f32
     ensures { λ r. ⌜ r ≡ S.bf16Of x ⌝ }
 {
-    crate::pattern::f32_of_bits(bf16(crate::pattern::bits_of_f32(x)))
+    floats::pattern::f32_of_bits(bf16(floats::pattern::bits_of_f32(x)))
 }

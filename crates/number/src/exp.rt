@@ -1,6 +1,6 @@
 // E, the exponential of the rules, and F, its f64 before narrowing.
 ghost use mathlib.Core.Path.{_≡_};
-ghost use Rattle.number.specs.Whole.{AtMost};
+ghost use Rattle.floats.specs.Whole.{AtMost};
 ghost use Rattle.number.specs.Exp.{one, series, twoTo, F, E, expBits};
 
 // 2^k for a whole number k.
@@ -33,7 +33,7 @@ pub(crate) fn exp_f64(x: f64) -> f64
     ensures { λ r. ⌜ r ≡ F x ⌝ }
 {
     let l = f64::from_bits(0x3FE6_2E42_FEFA_39EF);
-    let k = crate::whole::floor_f64(x / l + 0.5);
+    let k = floats::whole::floor_f64(x / l + 0.5);
     let p = series_of(x - k * l);
     p * two_to(k)
 }
@@ -50,11 +50,11 @@ pub fn exp_f32(x: f32) -> f32
     if x <= -104.0 {
         return 0.0;
     }
-    crate::narrow::narrow_f64(exp_f64(crate::narrow::widen_f32(x)))
+    floats::narrow::narrow_f64(exp_f64(floats::narrow::widen_f32(x)))
 }
 
 pub fn exp(x: u32) -> u32
     ensures { λ r. ⌜ r ≡ expBits x ⌝ }
 {
-    crate::pattern::bits_of_f32(exp_f32(crate::pattern::f32_of_bits(x)))
+    floats::pattern::bits_of_f32(exp_f32(floats::pattern::f32_of_bits(x)))
 }

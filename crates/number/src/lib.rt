@@ -1,14 +1,11 @@
 // The arithmetic of the encoder: five rules on bit patterns, which this crate exports, and the same
-// rules with narrowing, widening and whole numbers on floats, for the crates above.
+// rules on floats, for the crates above.
 // No function here has a `requires`, and a NaN pattern gives what the rules say.
 pub mod bf16;
 pub mod exp;
 pub mod half;
-pub mod narrow;
-pub mod pattern;
 pub mod root;
 pub mod tanh;
-pub mod whole;
 
 ghost use mathlib.Core.Path.{_≡_};
 ghost use Rattle.number.specs.Bf16 as Bf16;

@@ -74,5 +74,5 @@ pub fn root(x: u32) -> u32
 pub fn root_f32(x: f32) -> f32
     ensures { λ r. ⌜ r ≡ S.rootOf x ⌝ }
 {
-    crate::pattern::f32_of_bits(root(crate::pattern::bits_of_f32(x)))
+    floats::pattern::f32_of_bits(root(floats::pattern::bits_of_f32(x)))
 }

@@ -15,12 +15,12 @@ pub fn tanh_f32(y: f32) -> f32
     if y <= -10.0 {
         return -1.0;
     }
-    let f = crate::exp::exp_f64(2.0 * crate::narrow::widen_f32(y));
-    crate::narrow::narrow_f64((f - 1.0) / (f + 1.0))
+    let f = crate::exp::exp_f64(2.0 * floats::narrow::widen_f32(y));
+    floats::narrow::narrow_f64((f - 1.0) / (f + 1.0))
 }
 
 pub fn tanh(y: u32) -> u32
     ensures { λ r. ⌜ r ≡ tanhBits y ⌝ }
 {
-    crate::pattern::bits_of_f32(tanh_f32(crate::pattern::f32_of_bits(y)))
+    floats::pattern::bits_of_f32(tanh_f32(floats::pattern::f32_of_bits(y)))
 }

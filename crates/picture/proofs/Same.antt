@@ -11,8 +11,8 @@ use native.Mathlib.Omega.{arith}
 use lib.Dec.{lit≤, lit<}
 use lib.ListN.{length, getD}
 use lib.Ieee.{Float, nan, inf, fin, up, down, binary64, add, sub, mul, div, lt, ofInt, ofBits, toUnsigned}
-use Rattle.number.specs.Whole.{floor}
-use Rattle.number.specs.Whole.{away, Small}
+use Rattle.floats.specs.Whole.{floor}
+use Rattle.floats.specs.Whole.{away, Small}
 use Rattle.picture.specs.declared.resize.Near.{Near}
 use Rattle.buffers.specs.Rows.{tab, rows}
 use Rattle.picture.specs.Sides.{side}

@@ -12,8 +12,8 @@ use lib.Ieee.Fits.{down-pos, up-pos, ofInt-fits}
 use lib.Ieee.Exact.{HasValue}
 use lib.Ieee.Scale.{round-same}
 use lib.Ieee.Back.{round-whole, unsigned-back}
-use Rattle.number.specs.Whole.{floor}
-use Rattle.number.specs.Whole.{away}
+use Rattle.floats.specs.Whole.{floor}
+use Rattle.floats.specs.Whole.{away}
 use Rattle.picture.specs.Resize.{whole}
 
 -- x is the whole number a

@@ -6,7 +6,7 @@ use lib.IntN.{pos}
 use lib.Dec.{eqb, ltb}
 use lib.ListN.{length, getD}
 use lib.Ieee.{Float, binary64, add, sub, mul, div, lt, ofInt, ofBits, toUnsigned}
-use Rattle.number.specs.Whole.{floor, away}
+use Rattle.floats.specs.Whole.{floor, away}
 use Rattle.picture.specs.declared.resize.Near.{Near}
 use Rattle.picture.specs.Settings.{sided}
 

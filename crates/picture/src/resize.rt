@@ -29,7 +29,7 @@ pub(crate) fn near_of(from: usize, to: usize, i: usize) -> Near
     let y = whole_of(i) * (whole_of(from) / whole_of(to));
     let last = from - 1;
     let low = smaller(
-        number::whole::f64_to_usize(number::whole::floor_f64(y)),
+        floats::whole::f64_to_usize(floats::whole::floor_f64(y)),
         last,
     );
     let high = smaller(low + 1, last);
@@ -86,7 +86,7 @@ fn byte_of(x: f64) -> u8
             return (n + 1 - under) as u8;
         }
     }
-    number::whole::f64_to_u8(clamp_of(number::whole::round_f64(x)))
+    floats::whole::f64_to_u8(clamp_of(floats::whole::round_f64(x)))
 }
 
 // The byte at a row, a column and a channel, as a float.

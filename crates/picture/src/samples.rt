@@ -817,7 +817,7 @@ pub(crate) fn guess(c: usize, v: f32) -> usize
     ensures { λ r. ⌜ r ≡ guessed c v ⌝ }
 {
     let s = v * slope_of(c) + shift_of(c) + 8388608.0;
-    (number::pattern::bits_of_f32(s) % 256) as usize
+    (floats::pattern::bits_of_f32(s) % 256) as usize
 }
 
 // The byte whose sample in channel c has the bits of v, and 256 where there is none.

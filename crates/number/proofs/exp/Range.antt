@@ -8,9 +8,9 @@ use lib.IntN.{pos, negsuc}
 use lib.Dec.{T, ltb, nltb→le, lit<, lit≤}
 use lib.Ieee.{Float, nan, inf, fin, binary32, binary64, up, down, neg, add, div, ne, le, isNan, ofBits}
 use lib.Ieee.Compare.{nan-differs}
-use Rattle.number.specs.Whole.{AtMost}
-use Rattle.number.specs.Exp.{L, oneHalf, kOf}
-use Rattle.number.proofs.Bound.{at-most-add, at-most-div, at-most-floor}
+use Rattle.floats.specs.Whole.{oneHalf, AtMost}
+use Rattle.number.specs.Exp.{L, kOf}
+use Rattle.floats.proofs.Bound.{at-most-add, at-most-div, at-most-floor}
 
 -- a test `a < b or a = b` that failed
 neither : (a b : ℕ) (r : Bool) → ltb a b || r ≡ false → b ≤ a

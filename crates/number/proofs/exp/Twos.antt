@@ -12,9 +12,9 @@ use lib.Count.{trailingZeros}
 use lib.Ieee.{Float, nan, inf, fin, binary64, up, down, minus, neg, lt, odd, ofFields, ofBits, nanBits, isNan, toUnsigned, hid, top, ones}
 use lib.Ieee.Bits.{nanBits-is}
 use lib.Ieee.Fits.{down-pos}
-use Rattle.number.proofs.Ways.{lt-or-ge}
-use Rattle.number.specs.Whole.{AtMost}
-use Rattle.number.proofs.whole.Cuts.{Cuttable, Zero, cuttable, cuttable-zero, cut-le, cut-zero, below-zero, not-below}
+use Rattle.floats.proofs.Ways.{lt-or-ge}
+use Rattle.floats.specs.Whole.{AtMost}
+use Rattle.floats.proofs.whole.Cuts.{Cuttable, Zero, cuttable, cuttable-zero, cut-le, cut-zero, below-zero, not-below}
 
 -- ---- a difference
 pub minus-same : (a b c d : ℕ) → a + d ≡ c + b → minus a b ≡ minus c d

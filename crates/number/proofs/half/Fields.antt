@@ -12,7 +12,7 @@ use lib.Pow.{pow-pos, pow-add, pow-mono, shl-lt}
 use lib.Ieee.{size}
 use lib.Ieee.Digits.{size-lt, size-le, size-reaches}
 use Rattle.number.specs.Half.{subnormal, halfSize}
-use Rattle.number.proofs.Ways.{lt-or-ge}
+use Rattle.floats.proofs.Ways.{lt-or-ge}
 
 -- ---- the shift
 lt-of-pow : (a b : ℕ) → 2 ^ a < 2 ^ b → a < b

@@ -7,10 +7,10 @@ use native.Mathlib.Omega.{arith}
 use lib.Dec.{lit<}
 use lib.Pow as Pow
 use lib.Pow.{pow-pos, pow-add}
-use Rattle.number.specs.Size.{sizeOf, count}
+use Rattle.floats.specs.Size.{sizeOf, count}
 use Rattle.number.specs.Half.{subnormal, halfSize, half}
-use Rattle.number.proofs.Ways.{lt-or-ge}
-use Rattle.number.proofs.Sizes.{at-kept}
+use Rattle.floats.proofs.Ways.{lt-or-ge}
+use Rattle.floats.proofs.Sizes.{at-kept}
 use Rattle.number.proofs.half.Fields.{few, subnormal-is, shifted, at-subnormal, at-normal, half-size-lt}
 
 number : (k t : ℕ) → 0 < k → t < 2 ^ 10 → count (2 ^ 23) (k * 2 ^ 23 + t * 2 ^ 13) ≡ (2 ^ 10 + t) * 2 ^ 12 * 2 ^ k

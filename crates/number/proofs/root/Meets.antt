@@ -10,9 +10,9 @@ use lib.Dec.{T, leb, ltb, leb→le, nleb→lt, ltb→lt, nltb→le, lit<, lit≤
 use lib.Pow.{pow-pos, pow-add, shl-lt}
 use lib.Ieee.{size}
 use lib.Ieee.Digits.{size-lt, size-le, size-reaches}
-use Rattle.number.specs.Size.{sizeOf, count}
+use Rattle.floats.specs.Size.{sizeOf, count}
 use Rattle.number.specs.Root.{wholeRoot, nearRoot, digits, place, rootOfNumber, root, NearRoot, Rooted, RootRule}
-use Rattle.number.proofs.Ways.{lt-or-ge}
+use Rattle.floats.proofs.Ways.{lt-or-ge}
 use Rattle.number.proofs.root.Scale.{rooted, scaled-from, scaled-to}
 
 abbrev top : ℕ

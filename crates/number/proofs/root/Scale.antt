@@ -6,8 +6,8 @@ use native.Mathlib.Nat.{mul-assoc, mul-comm, add-comm, mul-one, mod-lt, lt-irref
 use native.Mathlib.Omega.{arith}
 use lib.Dec.{lit<, lit≤}
 use lib.Pow.{pow-pos, pow-add, pow-mono}
-use Rattle.number.specs.Size.{sizeOf, count}
-use Rattle.number.proofs.Sizes.{grows, at-kept}
+use Rattle.floats.specs.Size.{sizeOf, count}
+use Rattle.floats.proofs.Sizes.{grows, at-kept}
 use Rattle.number.specs.Root.{NearRoot, Rooted}
 
 pub size-pos : (x : ℕ) → 0 < x → 0 < count (2 ^ 23) x

@@ -6,9 +6,9 @@ use native.Mathlib.Nat.{eq-or-lt-of-le, mul-le-mul, mul-lt-mul-of-pos-right, eq-
 use native.Mathlib.Omega.{arith}
 use lib.Dec.{lit<}
 use lib.Pow.{pow-pos, pow-add, pow-mono}
-use Rattle.number.specs.Size.{count}
-use Rattle.number.proofs.Ways.{lt-or-ge}
-use Rattle.number.proofs.Sizes.{size-same}
+use Rattle.floats.specs.Size.{count}
+use Rattle.floats.proofs.Ways.{lt-or-ge}
+use Rattle.floats.proofs.Sizes.{size-same}
 use Rattle.number.specs.Root.{NearRoot, Rooted}
 
 -- a larger scale has a larger value

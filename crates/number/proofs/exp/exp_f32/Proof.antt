@@ -3,10 +3,10 @@ use mathlib.Core.Path.{_≡_, sym, ap, _∙_, subst}
 use borrow.Author.Needs.{needs}
 use lib.Dec.{lit≤}
 use lib.Ieee.{Float, le, neg, div, ofBits}
-use Rattle.number.specs.Whole.{AtMost}
-use Rattle.number.specs.Narrow.{narrow}
+use Rattle.floats.specs.Whole.{AtMost}
+use Rattle.floats.specs.Narrow.{narrow}
 use Rattle.number.specs.Exp.{E, F}
-use Rattle.number.proofs.Patterns.{is-nan}
+use Rattle.floats.proofs.Patterns.{is-nan}
 use Rattle.number.proofs.exp.Range.{in-range}
 use Rattle.number.proofs.exp.exp_f32.Statement.{statement}
 use Rattle.number.proofs.exp.exp_f32.Tie as tie

@@ -3,7 +3,7 @@ use mathlib.Core.Path.{_≡_, sym, ap, ap₂, _∙_, subst}
 use borrow.Author.Needs.{needs}
 use lib.Dec.{lit≤}
 use lib.Ieee.{Float, binary64, mul, sub, nanBits}
-use Rattle.number.specs.Whole.{AtMost}
+use Rattle.floats.specs.Whole.{AtMost}
 use Rattle.number.specs.Exp.{L, one, series, twoTo, kOf, rOf}
 use Rattle.number.proofs.exp.Range.{k-at-most, wider}
 use Rattle.number.proofs.exp.exp_f64.Statement.{statement}

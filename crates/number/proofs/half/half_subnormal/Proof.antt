@@ -6,7 +6,7 @@ use native.Mathlib.Nat.{mod-eq-of-lt, mul-one}
 use native.Mathlib.Omega.{arith}
 use lib.Bits.{bitAnd, bitOr, and-mask, and-high}
 use Rattle.number.specs.Half.{subnormal}
-use Rattle.number.proofs.Ways.{lt-or-ge}
+use Rattle.floats.proofs.Ways.{lt-or-ge}
 use Rattle.number.proofs.half.Fields.{few, further, subnormal-is, joined}
 use Rattle.number.proofs.half.half_subnormal.Statement.{statement}
 use Rattle.number.proofs.half.half_subnormal.Tie as tie

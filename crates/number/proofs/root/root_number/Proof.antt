@@ -6,7 +6,7 @@ use native.Mathlib.Nat.{mod-eq-of-lt, lt-of-lt-of-le}
 use native.Mathlib.Omega.{arith}
 use lib.Bits.{bitAnd, and-mask}
 use lib.Dec.{lit<, lit≤}
-use Rattle.number.specs.Size.{count}
+use Rattle.floats.specs.Size.{count}
 use Rattle.number.specs.Root.{NearRoot, Rooted}
 use Rattle.number.proofs.root.Scale.{size-pos, start-normal, start-small, left, turn, scaled-from, scaled-to, rooted}
 use Rattle.number.proofs.root.root_number.Statement.{statement}

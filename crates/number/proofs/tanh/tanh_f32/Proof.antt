@@ -3,13 +3,13 @@ use mathlib.Core.Path.{_≡_, sym, ap, _∙_, subst}
 use borrow.Author.Needs.{needs}
 use lib.Dec.{lit≤}
 use lib.Ieee.{Float, binary64, mul, le, neg, ofBits}
-use Rattle.number.specs.Whole.{AtMost}
-use Rattle.number.specs.Narrow.{narrow}
+use Rattle.floats.specs.Whole.{AtMost}
+use Rattle.floats.specs.Narrow.{narrow}
 use Rattle.number.specs.Exp.{F}
 use Rattle.number.specs.Tanh as S
 use Rattle.number.specs.Tanh.{two, fromF}
-use Rattle.number.proofs.Patterns.{is-nan}
-use Rattle.number.proofs.Bound.{at-most-mul}
+use Rattle.floats.proofs.Patterns.{is-nan}
+use Rattle.floats.proofs.Bound.{at-most-mul}
 use Rattle.number.proofs.exp.Range.{in-range, wider}
 use Rattle.number.proofs.tanh.tanh_f32.Statement.{statement}
 use Rattle.number.proofs.tanh.tanh_f32.Tie as tie

@@ -10,9 +10,8 @@ use lib.ListN.{length, set, getD, length-set}
 use lib.IntN.{pos}
 use mir.Val.{boolByte}
 use lib.Ieee.{Float, binary64, lt, mul, ofInt, ofBits, toUnsigned}
-use Rattle.number.specs.Exp.{oneHalf}
-use Rattle.number.specs.Whole.{away, Small}
-use Rattle.number.proofs.whole.Halves.{Cut, cut}
+use Rattle.floats.specs.Whole.{oneHalf, away, Small}
+use Rattle.floats.proofs.whole.Halves.{Cut, cut}
 use Rattle.picture.specs.Resize.{whole, toByte}
 use Rattle.picture.proofs.Same.{small, byte-at}
 use borrow.Author.Needs.{needs}

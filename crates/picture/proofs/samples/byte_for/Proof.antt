@@ -4,7 +4,7 @@ use native.Mathlib.Omega.{arith}
 use borrow.Author.Needs.{needs}
 use lib.Dec.{T}
 use lib.Ieee.{Float, binary32, fits, toBits}
-use Rattle.number.proofs.Patterns.{is-nan, no-nan}
+use Rattle.floats.proofs.Patterns.{is-nan, no-nan}
 use Rattle.picture.specs.Samples.{byteOf, entry}
 use Rattle.picture.proofs.Guesses.{guess-lt, guess-found, guess-missed, nan-missed}
 use Rattle.picture.proofs.samples.byte_for.Statement.{statement}
