@@ -7,13 +7,13 @@ use native.Mathlib.Omega.{arith}
 use borrow.Author.Tests.{leb-true, eqb-true}
 use lib.Dec.{leb, eqb}
 use Rattle.buffers.proofs.Lists.{and-left, and-right}
-use Rattle.picture.specs.Settings as P
-use Rattle.picture.specs.Settings.{within}
-use Rattle.picture.specs.Patches.{patchFloats}
-use Rattle.picture.specs.Shape.{most}
-use Rattle.picture.proofs.Places.{square, times}
-use Rattle.picture.proofs.Sides as Sides
-use Rattle.picture.proofs.Sides.{within-says}
+use Rattle.limits.specs.Settings as P
+use Rattle.limits.specs.Settings.{within}
+use Rattle.limits.specs.Patches.{patchFloats}
+use Rattle.limits.specs.Shape.{most}
+use Rattle.limits.proofs.Places.{square, times}
+use Rattle.limits.proofs.Sides as Sides
+use Rattle.limits.proofs.Sides.{within-says}
 use Rattle.encoder.specs.declared.EncoderSettings.{EncoderSettings}
 use Rattle.encoder.specs.Weights.{layerFloats}
 use Rattle.encoder.specs.Settings.{ranged, scalingAllowed, allowed, Bounded, Counted}

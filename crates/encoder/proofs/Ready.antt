@@ -10,14 +10,14 @@ use lib.Dec.{leb, eqb}
 use lib.Ieee.{Float}
 use Rattle.buffers.specs.Region.{before}
 use Rattle.buffers.proofs.Lists.{and-left, and-right}
-use Rattle.picture.specs.declared.Refusal.{Refusal}
-use Rattle.picture.specs.declared.Refusal.the-variants.{Setting, Output, WeightsLength, TableLength, Scratch}
-use Rattle.picture.specs.declared.Shape.{Shape}
-use Rattle.picture.specs.declared.Shape.the-variants.{Shaped, Unshaped}
-use Rattle.picture.specs.Patches.{patchFloats}
-use Rattle.picture.specs.Shape.{most, shaped}
-use Rattle.picture.proofs.Shapes as Shapes
-use Rattle.picture.proofs.Shapes.{shaped-says}
+use Rattle.limits.specs.declared.Refusal.{Refusal}
+use Rattle.limits.specs.declared.Refusal.the-variants.{Setting, Output, WeightsLength, TableLength, Scratch}
+use Rattle.limits.specs.declared.Shape.{Shape}
+use Rattle.limits.specs.declared.Shape.the-variants.{Shaped, Unshaped}
+use Rattle.limits.specs.Patches.{patchFloats}
+use Rattle.limits.specs.Shape.{most, shaped}
+use Rattle.limits.proofs.Shapes as Shapes
+use Rattle.limits.proofs.Shapes.{shaped-says}
 use Rattle.encoder.specs.declared.EncoderSettings.{EncoderSettings}
 use Rattle.encoder.specs.declared.Sizes.{Sizes}
 use Rattle.encoder.specs.declared.Checked.{Checked}

@@ -5,7 +5,7 @@ use Prim.Native.Nat.{ℕ, _*_, _/_}
 use native.Mathlib.Omega.{arith}
 use lib.ListN.{length}
 use lib.Ieee.{Float}
-use Rattle.picture.proofs.Unique.{one}
+use Rattle.limits.proofs.Unique.{one}
 use Rattle.encoder.specs.declared.EncoderSettings.{EncoderSettings}
 use Rattle.encoder.specs.declared.Checked.{Checked}
 use Rattle.encoder.specs.declared.Checked.the-variants as C

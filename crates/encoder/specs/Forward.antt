@@ -5,10 +5,10 @@ use Prim.Native.Nat.{ℕ, _+_, _*_, _/_}
 use lib.ListN.{length}
 use lib.Ieee.{Float}
 use Rattle.buffers.specs.Region.{region, over, cleared}
-use Rattle.picture.specs.declared.Refusal.the-variants.{NotFinite}
-use Rattle.picture.specs.Refusal as R
-use Rattle.picture.specs.Patches.{patchFloats}
-use Rattle.picture.specs.Shape.{most}
+use Rattle.limits.specs.declared.Refusal.the-variants.{NotFinite}
+use Rattle.limits.specs.Refusal as R
+use Rattle.limits.specs.Patches.{patchFloats}
+use Rattle.limits.specs.Shape.{most}
 use Rattle.encoder.specs.declared.Sizes.{Sizes}
 use Rattle.encoder.specs.declared.Places.{Places}
 use Rattle.encoder.specs.declared.EncoderSettings.{EncoderSettings}

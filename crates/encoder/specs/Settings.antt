@@ -4,15 +4,15 @@ use Prim.Native.Nat.{ℕ, _+_, _*_, _/_, _%_, _≤_}
 use lib.Dec.{leb, eqb}
 use lib.Ieee.{lt, inf}
 use Rattle.buffers.specs.Region.{zero32}
-use Rattle.picture.specs.declared.PictureSettings.{PictureSettings}
-use Rattle.picture.specs.declared.Refusal.{Refusal}
-use Rattle.picture.specs.declared.Refusal.the-variants.{Setting, Output, WeightsLength, TableLength, Scratch}
-use Rattle.picture.specs.declared.Shape.{Shape}
-use Rattle.picture.specs.declared.Shape.the-variants.{Shaped, Unshaped}
-use Rattle.picture.specs.Settings as P
-use Rattle.picture.specs.Settings.{within}
-use Rattle.picture.specs.Patches.{patchFloats}
-use Rattle.picture.specs.Shape.{most, shaped}
+use Rattle.limits.specs.declared.PictureSettings.{PictureSettings}
+use Rattle.limits.specs.declared.Refusal.{Refusal}
+use Rattle.limits.specs.declared.Refusal.the-variants.{Setting, Output, WeightsLength, TableLength, Scratch}
+use Rattle.limits.specs.declared.Shape.{Shape}
+use Rattle.limits.specs.declared.Shape.the-variants.{Shaped, Unshaped}
+use Rattle.limits.specs.Settings as P
+use Rattle.limits.specs.Settings.{within}
+use Rattle.limits.specs.Patches.{patchFloats}
+use Rattle.limits.specs.Shape.{most, shaped}
 use Rattle.encoder.specs.declared.EncoderSettings.{EncoderSettings}
 use Rattle.encoder.specs.declared.Checked.{Checked}
 use Rattle.encoder.specs.declared.Checked.the-variants.{Accepted, Refused}

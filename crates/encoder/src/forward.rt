@@ -25,7 +25,7 @@ use buffers::clear;
 use buffers::copy;
 use buffers::part;
 use kernels::finite::finite;
-use picture::Refusal;
+use limits::Refusal;
 
 pub(crate) fn sizes_of(s: EncoderSettings, t: usize, gw: usize) -> Sizes
     requires { ⌜ 1 ≤ s .picture .«patch_size» ⌝ }

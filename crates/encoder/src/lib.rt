@@ -6,8 +6,8 @@ mod projector;
 mod settings;
 mod stage;
 
-use picture::PictureSettings;
-use picture::Refusal;
+use limits::PictureSettings;
+use limits::Refusal;
 
 // The sizes of a call: half is half of the head width, side is P, the most patches on a side.
 pub(crate) struct Sizes {

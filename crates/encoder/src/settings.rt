@@ -4,9 +4,9 @@ ghost use Rattle.encoder.specs.Settings as S;
 ghost use Rattle.encoder.specs.Settings.{ranged, scalingAllowed, allowed, weightFloats, tableFloats, scratchFloats, checkedOf, Bounded, Counted};
 use crate::Checked;
 use crate::EncoderSettings;
-use picture::Refusal;
-use picture::Shape;
-use picture::settings::shape;
+use limits::Refusal;
+use limits::Shape;
+use limits::settings::shape;
 
 pub(crate) fn in_range(s: EncoderSettings) -> bool
     ensures { λ r. ⌜ r ≡ ranged s ⌝ }
@@ -33,7 +33,7 @@ pub(crate) fn settings_allowed(s: EncoderSettings) -> bool
     ensures { λ r. ⌜ r ≡ allowed s ⌝ }
 {
     let p = s.picture;
-    if !picture::settings::settings_allowed(p) {
+    if !limits::settings::settings_allowed(p) {
         return false;
     }
     if !in_range(s) {

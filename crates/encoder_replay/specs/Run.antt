@@ -5,7 +5,7 @@ use mathlib.Core.Path.{_≡_}
 use lib.ListN.{length, getD, take}
 use lib.Ieee.{Float, binary32, ofBits}
 use Rattle.buffers.specs.Region.{region}
-use Rattle.picture.specs.Refusal as R
+use Rattle.limits.specs.Refusal as R
 use Rattle.encoder.specs.declared.EncoderSettings.{EncoderSettings}
 use Rattle.encoder.specs.declared.Encoded.{Encoded}
 use Rattle.encoder.specs.declared.Encoded.the-variants.{Tokens, Refused}

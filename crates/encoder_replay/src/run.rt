@@ -4,7 +4,7 @@ ghost use lib.ListN.{length};
 ghost use Rattle.encoder_replay.specs.Run.{answerOf, settingsOf, inputsFrom, callOf, runOf, Small, Room};
 use encoder::Encoded;
 use encoder::EncoderSettings;
-use picture::PictureSettings;
+use limits::PictureSettings;
 use replay::damage::damage;
 use replay::hash::hash_floats;
 use replay::marks::MARKS;
@@ -50,7 +50,7 @@ fn encode(
             scratch: work,
         },
         Encoded::Refused(r) => Answer {
-            number: picture::settings::number(r) as usize,
+            number: limits::settings::number(r) as usize,
             tokens: 0,
             out: left,
             scratch: work,

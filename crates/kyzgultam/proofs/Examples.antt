@@ -10,11 +10,11 @@ use Rattle.number.specs.Half.{subnormal, halfSize, half}
 use Rattle.number.specs.Root.{wholeRoot, nearRoot, rootOfNumber, root}
 use Rattle.floats.specs.Narrow.{narrow}
 use Rattle.number.specs.Exp.{series, E, expBits}
-use Rattle.picture.specs.declared.PictureSettings.{PictureSettings}
+use Rattle.limits.specs.declared.PictureSettings.{PictureSettings}
 use Rattle.picture.specs.declared.Preprocessed.{Preprocessed}
-use Rattle.picture.specs.Settings.{allowed}
-use Rattle.picture.specs.Sides.{side, resized}
-use Rattle.picture.specs.Resize.{whole, near, blend, toByte, mix}
+use Rattle.limits.specs.Settings.{allowed}
+use Rattle.limits.specs.Sides.{side, resized}
+use Rattle.resize.specs.Resize.{whole, near, blend, toByte, mix}
 use Rattle.picture.specs.Preprocess.{preprocessed, resizedBytes}
 use Rattle.encoder.specs.Merge.{mergeOf}
 

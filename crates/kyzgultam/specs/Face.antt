@@ -2,13 +2,13 @@
 use mathlib.Core.Bool.{cond, _&&_}
 use Prim.Native.Nat.{ℕ, _+_, _*_}
 use lib.Dec.{leb}
-use Rattle.picture.specs.declared.PictureSettings as P
+use Rattle.limits.specs.declared.PictureSettings as P
 use Rattle.picture.specs.declared.Preprocessed.{Preprocessed}
-use Rattle.picture.specs.declared.Restored.{Restored}
-use Rattle.picture.specs.Settings.{within}
-use Rattle.picture.specs.Patches.{patchFloats}
+use Rattle.restore.specs.declared.Restored.{Restored}
+use Rattle.limits.specs.Settings.{within}
+use Rattle.limits.specs.Patches.{patchFloats}
 use Rattle.picture.specs.Preprocess as Pre
-use Rattle.picture.specs.Restore as Res
+use Rattle.restore.specs.Restore as Res
 use Rattle.encoder.specs.declared.EncoderSettings as E
 use Rattle.encoder.specs.declared.Encoded.{Encoded}
 use Rattle.encoder.specs.Forward as Fwd

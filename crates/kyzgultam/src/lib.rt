@@ -2,11 +2,11 @@
 // as it is when the settings inside grow.
 use encoder::Encoded;
 use picture::Preprocessed;
-use picture::Restored;
+use restore::Restored;
 ghost use mathlib.Core.Path.{_≡_};
 ghost use lib.ListN.{length};
 ghost use Rattle.picture.specs.Preprocess.{preprocessed, patchesOf, patchesLeft};
-ghost use Rattle.picture.specs.Restore.{restored, bytesOf, bytesLeft};
+ghost use Rattle.restore.specs.Restore.{restored, bytesOf, bytesLeft};
 ghost use Rattle.kyzgultam.specs.Face.{inner, innerEncoder, preprocessReport, restoreReport, forwardReport, placeOf};
 ghost use Rattle.encoder.specs.Forward.{encodedOf, outOf, scratchOf};
 
@@ -57,10 +57,10 @@ pub struct ForwardReport {
     pub tokens: usize,
 }
 
-fn settings(s: PictureSettings) -> picture::PictureSettings
+fn settings(s: PictureSettings) -> limits::PictureSettings
     ensures { λ r. ⌜ r ≡ inner s ⌝ }
 {
-    picture::PictureSettings {
+    limits::PictureSettings {
         patch_size: s.patch_size,
         spatial_merge_size: s.spatial_merge_size,
         image_size: s.image_size,
@@ -106,7 +106,7 @@ pub extern "C" fn kz_preprocess(
             floats,
         },
         Preprocessed::Refused(r) => PreprocessReport {
-            number: picture::settings::number(r),
+            number: limits::settings::number(r),
             grid_h: 0,
             grid_w: 0,
             floats: 0,
@@ -125,7 +125,7 @@ pub extern "C" fn kz_restore(
     ensures answer { λ r. ⌜ r ≡ restoreReport (restored (inner s) (now (patches .entry)) «grid_h» «grid_w» (length (now (out .entry)))) ⌝ }
     ensures output { λ _. ⌜ now (out .exit) ≡ bytesLeft (restored (inner s) (now (patches .entry)) «grid_h» «grid_w» (length (now (out .entry)))) (bytesOf (inner s) (now (patches .entry)) «grid_h» «grid_w») (now (out .entry)) ⌝ }
 {
-    let found = picture::restore::restore(settings(s), patches, grid_h, grid_w, out);
+    let found = restore::restore(settings(s), patches, grid_h, grid_w, out);
     match found {
         Restored::Picture { height, width } => RestoreReport {
             number: 0,
@@ -133,7 +133,7 @@ pub extern "C" fn kz_restore(
             width,
         },
         Restored::Refused(r) => RestoreReport {
-            number: picture::settings::number(r),
+            number: limits::settings::number(r),
             height: 0,
             width: 0,
         },
@@ -187,7 +187,7 @@ pub extern "C" fn kz_forward(
             tokens: count,
         },
         Encoded::Refused(r) => ForwardReport {
-            number: picture::settings::number(r),
+            number: limits::settings::number(r),
             tokens: 0,
         },
     }

@@ -9,18 +9,18 @@ use borrow.Author.Tests.{eq-eqb, le-leb, eqb-true, leb-true}
 use lib.Dec.{eqb, leb}
 use lib.ListN.{length}
 use lib.Ieee.{Float}
-use Rattle.picture.specs.declared.PictureSettings.{PictureSettings}
-use Rattle.picture.specs.declared.Refusal.{Refusal}
+use Rattle.limits.specs.declared.PictureSettings.{PictureSettings}
+use Rattle.limits.specs.declared.Refusal.{Refusal}
 use Rattle.picture.specs.declared.Preprocessed.{Preprocessed}
 use Rattle.picture.specs.declared.Preprocessed.the-variants.{Patches, Refused}
-use Rattle.buffers.specs.Region.{put}
-use Rattle.picture.specs.Settings.{allowed, sided, align}
-use Rattle.picture.specs.Sides.{gridOf}
-use Rattle.picture.specs.Samples.{sample}
-use Rattle.picture.specs.Patches.{patchFloats}
+use Rattle.buffers.specs.Region.{over}
+use Rattle.limits.specs.Settings.{allowed, sided, align}
+use Rattle.limits.specs.Sides.{gridOf}
+use Rattle.samples.specs.Samples.{sample}
+use Rattle.limits.specs.Patches.{patchFloats}
 use Rattle.picture.specs.Preprocess.{floatsOf, unless, preprocessed, resizedPixel, patchesOf, patchesLeft}
 use Rattle.buffers.proofs.Regions.{put-over}
-use Rattle.picture.proofs.Places.{length-patches}
+use Rattle.patches.proofs.Patches.{length-patches}
 
 -- what preprocess asks
 pub record Accepts (s : PictureSettings) (len h w room : ℕ) : Type 0 where
@@ -60,11 +60,7 @@ acceptance s len h w room gh gw n e =
       count = cc;
     }
 
--- what the loops wrote is what the definition says
+-- what was written is what the definition says
 pub written : (s : PictureSettings) (rgb : List ℕ) (h w : ℕ) (old : List Float) → Accepts s (length rgb) h w (length old)
-    → put old 0 (patchesOf s rgb h w) ≡ patchesLeft (preprocessed s (length rgb) h w (length old)) (patchesOf s rgb h w) old
-written s rgb h w old a =
-    let p = s .«patch_size» in
-    let v : ℕ → ℕ → ℕ → Float = λ y x c. sample c (resizedPixel s rgb h w y x c) in
-    rw (accepted s (length rgb) h w (length old) a)
-    (put-over old (patchesOf s rgb h w) (omega (arith, a .fits, length-patches p v (gridOf s h) (gridOf s w), mul-assoc (gridOf s h) (gridOf s w) (patchFloats p))))
+    → over (patchesOf s rgb h w) old ≡ patchesLeft (preprocessed s (length rgb) h w (length old)) (patchesOf s rgb h w) old
+written s rgb h w old a = rw (accepted s (length rgb) h w (length old) a)

@@ -1,14 +1,4 @@
 pub mod Places
-pub mod Sides
-pub mod Shapes
-pub mod Table
-pub mod Finds
-pub mod Guesses
-pub mod Wholes
-pub mod Same
-pub mod Nears
-pub mod Plain
-pub mod Stored
 pub mod Accepts
 pub mod Undo
 pub mod Unseen

@@ -1,25 +1,20 @@
 -- Any two results that satisfy the contract of a public function are equal. Each contract is one equation for the result and one for each lent buffer. Assumes nothing.
-use mathlib.Core.Path.{_≡_, sym, _∙_}
-use mathlib.Core.Bool.{Bool}
+use mathlib.Core.Path.{_≡_}
 use mathlib.Core.List.{List}
 use Prim.Native.Nat.{ℕ}
 use lib.ListN.{length}
 use lib.Ieee.{Float}
-use Rattle.picture.specs.declared.PictureSettings.{PictureSettings}
-use Rattle.picture.specs.declared.Refusal.{Refusal}
-use Rattle.picture.specs.declared.Shape.{Shape}
+use Rattle.limits.specs.declared.PictureSettings.{PictureSettings}
 use Rattle.picture.specs.declared.Preprocessed.{Preprocessed}
-use Rattle.picture.specs.declared.Restored.{Restored}
-use Rattle.picture.specs.Refusal.{number}
-use Rattle.picture.specs.Settings.{allowed}
-use Rattle.picture.specs.Shape.{shaped}
-use Rattle.picture.specs.Resize.{resizedByte}
+use Rattle.restore.specs.declared.Restored.{Restored}
+use Rattle.limits.proofs.Unique.{one}
+use Rattle.samples.specs.Samples.{sampleTable}
+use Rattle.resize.specs.declared.Near.{Near}
+use Rattle.resize.specs.Resize.{near, blend, toByte, resizedByte}
+use Rattle.patches.specs.Resized.{patchesOver}
 use Rattle.picture.specs.Part.{patchPart}
 use Rattle.picture.specs.Preprocess.{preprocessed, patchesOf, patchesLeft}
-use Rattle.picture.specs.Restore.{restored, bytesOf, bytesLeft}
-
-pub one : {A : Type 0} (x : A) {a b : A} → a ≡ x → b ≡ x → a ≡ b
-one x p q = p ∙ sym q
+use Rattle.restore.specs.Restore.{restored, bytesOf, bytesLeft}
 
 -- the contracts, as types of an answer and of the output at exit
 abbrev pub Preprocesses : PictureSettings → List ℕ → ℕ → ℕ → List Float → Preprocessed → List Float → Type 0
@@ -42,11 +37,14 @@ patch-unique l p i x y = one _
 pub resize-unique : (rgb : List ℕ) (h w h′ w′ y x c : ℕ) (a b : ℕ) → a ≡ resizedByte rgb h w h′ w′ y x c → b ≡ resizedByte rgb h w h′ w′ y x c → a ≡ b
 resize-unique rgb h w h′ w′ y x c a b = one _
 
-pub shape-unique : (s : PictureSettings) (gh gw n : ℕ) (a b : Shape) → a ≡ shaped s gh gw n → b ≡ shaped s gh gw n → a ≡ b
-shape-unique s gh gw n a b = one _
+pub patches-unique : (rgb : List ℕ) (h w th tw p : ℕ) (old x y : List Float) → x ≡ patchesOver rgb h w th tw p old → y ≡ patchesOver rgb h w th tw p old → x ≡ y
+patches-unique rgb h w th tw p old x y = one _
 
-pub allowed-unique : (s : PictureSettings) (a b : Bool) → a ≡ allowed s → b ≡ allowed s → a ≡ b
-allowed-unique s a b = one _
+pub blend-unique : (v00 v01 v10 v11 fy fx : Float) (a b : ℕ) → a ≡ toByte (blend v00 v01 v10 v11 fy fx) → b ≡ toByte (blend v00 v01 v10 v11 fy fx) → a ≡ b
+blend-unique v00 v01 v10 v11 fy fx a b = one _
 
-pub number-unique : (r : Refusal) (a b : ℕ) → a ≡ number r → b ≡ number r → a ≡ b
-number-unique r a b = one _
+pub near-unique : (from to i : ℕ) (a b : Near) → a ≡ near from to i → b ≡ near from to i → a ≡ b
+near-unique from to i a b = one _
+
+pub samples-unique : (a b : List ℕ) → a ≡ sampleTable → b ≡ sampleTable → a ≡ b
+samples-unique a b = one _

@@ -1,12 +1,2 @@
-pub mod Refusal
-pub mod Settings
-pub mod Sides
-pub mod Resize
-pub mod Samples
-pub mod Patches
-pub mod Shape
 pub mod Preprocess
-pub mod Restore
 pub mod Part
-pub mod Frame
-pub mod Guess

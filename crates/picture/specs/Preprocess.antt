@@ -5,17 +5,18 @@ use Prim.Native.Nat.{ℕ, _*_}
 use lib.Dec.{leb, eqb}
 use lib.Ieee.{Float}
 use Rattle.buffers.specs.Region.{over}
-use Rattle.picture.specs.declared.PictureSettings.{PictureSettings}
-use Rattle.picture.specs.declared.Refusal.{Refusal}
-use Rattle.picture.specs.declared.Refusal.the-variants.{Setting, Side, RgbLength, ImageSize, Output}
+use Rattle.limits.specs.declared.PictureSettings.{PictureSettings}
+use Rattle.limits.specs.declared.Refusal.{Refusal}
+use Rattle.limits.specs.declared.Refusal.the-variants.{Setting, Side, RgbLength, ImageSize, Output}
 use Rattle.picture.specs.declared.Preprocessed.{Preprocessed}
 use Rattle.picture.specs.declared.Preprocessed.the-variants.{Patches, Refused}
-use Rattle.picture.specs.Refusal as R
-use Rattle.picture.specs.Settings.{allowed, sided, align}
-use Rattle.picture.specs.Sides.{resized, gridOf}
-use Rattle.picture.specs.Resize.{resizedAt}
-use Rattle.picture.specs.Samples.{sample}
-use Rattle.picture.specs.Patches.{patchFloats, patches, picture}
+use Rattle.limits.specs.Refusal as R
+use Rattle.limits.specs.Settings.{allowed, sided, align}
+use Rattle.limits.specs.Sides.{resized, gridOf}
+use Rattle.resize.specs.Resize.{resizedAt}
+use Rattle.samples.specs.Samples.{sample}
+use Rattle.limits.specs.Patches.{patchFloats, picture}
+use Rattle.patches.specs.Patches.{patches}
 
 -- the answer where the test passes, and the refusal where it fails
 abbrev pub unless : Bool → Refusal → Preprocessed → Preprocessed

@@ -1,32 +1,8 @@
-// A picture to patches, and patches back to the picture.
+// A picture to patches, and a patch of them.
 pub mod patch;
 pub mod preprocess;
-pub mod resize;
-pub mod restore;
-pub mod samples;
-pub mod settings;
 
-pub struct PictureSettings {
-    pub patch_size: usize,
-    pub spatial_merge_size: usize,
-    pub image_size: usize,
-}
-
-// Why a call is refused, in the order of the paper's numbers, from 1 on.
-pub enum Refusal {
-    Setting,
-    Side,
-    RgbLength,
-    ImageSize,
-    Output,
-    Grid,
-    PatchesLength,
-    Sample,
-    WeightsLength,
-    TableLength,
-    Scratch,
-    NotFinite,
-}
+use limits::Refusal;
 
 pub enum Preprocessed {
     Patches {
@@ -35,15 +11,4 @@ pub enum Preprocessed {
         floats: usize,
     },
     Refused(Refusal),
-}
-
-pub enum Restored {
-    Picture { height: usize, width: usize },
-    Refused(Refusal),
-}
-
-// What the settings, the grid and the length of the patches say before anything else is looked at.
-pub enum Shape {
-    Shaped { tokens: usize },
-    Unshaped(Refusal),
 }

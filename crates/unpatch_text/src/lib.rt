@@ -4,7 +4,7 @@ mod run;
 
 use crate::print::put_bytes;
 use crate::run::run;
-use picture::PictureSettings;
+use limits::PictureSettings;
 use unpatch_form::read::Reading;
 use unpatch_form::read::read;
 ghost use mathlib.Core.Path.{_≡_};

@@ -1,7 +1,7 @@
 -- `kyzgultam::encoder_settings` meets its contract. Assumes nothing.
 use mathlib.Core.Path.{_≡_, ap}
 use borrow.Author.Needs.{needs}
-use Rattle.picture.specs.declared.PictureSettings.{PictureSettings}
+use Rattle.limits.specs.declared.PictureSettings.{PictureSettings}
 use Rattle.encoder.specs.declared.EncoderSettings.{EncoderSettings}
 use Rattle.kyzgultam.proofs.encoder_settings.Statement.{statement}
 use Rattle.kyzgultam.proofs.encoder_settings.Tie as tie

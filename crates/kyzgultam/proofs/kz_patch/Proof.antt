@@ -11,11 +11,11 @@ use lib.ListN.{length, take, drop, length-drop}
 use lib.Seq.{length-take-le}
 use lib.Ieee.{Float}
 use Rattle.buffers.proofs.Lists.{and-left, and-right}
-use Rattle.picture.specs.Settings.{within}
-use Rattle.picture.specs.Patches.{patchFloats}
+use Rattle.limits.specs.Settings.{within}
+use Rattle.limits.specs.Patches.{patchFloats}
 use Rattle.picture.specs.Part.{patchPart}
-use Rattle.picture.proofs.Places.{times}
-use Rattle.picture.proofs.Sides.{within-says}
+use Rattle.limits.proofs.Places.{times}
+use Rattle.limits.proofs.Sides.{within-says}
 use Rattle.kyzgultam.specs.declared.PatchPlace.{PatchPlace}
 use Rattle.kyzgultam.specs.Face.{placeOf}
 use Rattle.kyzgultam.proofs.kz_patch.Statement.{statement}

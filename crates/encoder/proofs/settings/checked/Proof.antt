@@ -6,8 +6,8 @@ use Prim.Native.Nat.{_≤_}
 use native.Mathlib.Nat.{div-le-self}
 use native.Mathlib.Omega.{arith}
 use borrow.Author.Needs.{needs}
-use Rattle.picture.proofs.Places.{times}
-use Rattle.picture.proofs.Shapes.{shaped-says}
+use Rattle.limits.proofs.Places.{times}
+use Rattle.limits.proofs.Shapes.{shaped-says}
 use Rattle.encoder.specs.Settings.{allowed, checkedOf, Bounded}
 use Rattle.encoder.proofs.Bounds.{allowed-says, bounded, counted}
 use Rattle.encoder.proofs.settings.checked.Statement.{statement}

@@ -4,8 +4,8 @@ use mathlib.Core.Path.{_≡_, sym, _∙_}
 use mathlib.Core.Bool.{true}
 use native.Mathlib.Omega.{arith}
 use borrow.Author.Needs.{needs}
-use Rattle.picture.proofs.Places.{times}
-use Rattle.picture.specs.Settings as P
+use Rattle.limits.proofs.Places.{times}
+use Rattle.limits.specs.Settings as P
 use Rattle.encoder.specs.Settings.{ranged, allowed}
 use Rattle.encoder.proofs.Bounds.{ranges-say}
 use Rattle.encoder.proofs.settings.settings_allowed.Statement.{statement}

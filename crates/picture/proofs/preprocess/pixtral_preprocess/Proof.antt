@@ -6,24 +6,18 @@ use native.Mathlib.Nat.{mul-assoc, div-mul-le-self}
 use native.Mathlib.Omega.{arith}
 use borrow.Author.Needs.{needs}
 use borrow.Author.Tests.{not-true, not-false, eq-eqb, ne-eqb, le-leb, lt-leb, eqb-true}
-use lib.Dec.{eqb}
 use lib.ListN.{length}
-use lib.Ieee.{binary32, ofBits}
-use Rattle.buffers.specs.Region.{put}
-use Rattle.buffers.proofs.Lists.{and-left, and-right}
-use Rattle.picture.specs.declared.preprocess.Frame.{Frame}
-use Rattle.picture.specs.Settings.{allowed, sided, align}
-use Rattle.picture.specs.Sides.{resized, gridOf}
-use Rattle.picture.specs.Resize.{resizedAt}
-use Rattle.picture.specs.Samples.{sample, value, entry}
-use Rattle.picture.specs.Patches.{patches, patchFloats}
-use Rattle.picture.specs.Frame.{Framed}
+use Rattle.buffers.specs.Region.{over}
+use Rattle.limits.specs.Settings.{allowed, sided, align}
+use Rattle.limits.specs.Sides.{resized, gridOf}
+use Rattle.limits.specs.Patches.{patchFloats}
 use Rattle.picture.specs.Preprocess.{floatsOf, preprocessed}
 use Rattle.picture.proofs.Accepts.{Accepts, accepted, written}
-use Rattle.picture.proofs.Table.{table, entry-is, clean-table, value-is}
-use Rattle.picture.proofs.Same.{byte-below}
-use Rattle.picture.proofs.Places.{square, times, patches-ext}
-use Rattle.picture.proofs.Sides.{Allowed, allowed-says, sided-says, side-le, Spans, spans}
+use Rattle.limits.proofs.Places.{square, times}
+use Rattle.limits.proofs.Sides.{Allowed, allowed-says, sided-says, side-le, Spans, spans}
+use Rattle.patches.specs.Resized.{resizedPatches, fits}
+use Rattle.patches.proofs.Fits as W
+use Rattle.patches.proofs.Fits.{fits-where}
 use Rattle.picture.proofs.preprocess.pixtral_preprocess.Statement.{statement}
 use Rattle.picture.proofs.preprocess.pixtral_preprocess.Tie as tie
 
@@ -64,11 +58,6 @@ asked c = record {
   image = c .before .before .before .if4 .left;
   fits = omega (arith, c .if5 .left, counted (c .before));
 }
-
-abbrev frame : tie.Else5 → Frame
-frame c =
-    let a = c .before .before .before .before .before .before .before .before .before .before .before .before .args in
-    record { h = a .height; w = a .width; th = c .before .before .side-of .result; tw = c .before .side-of2 .result; p = a .s .«patch_size»; plain = eqb (c .before .before .side-of .result) (a .height) && eqb (c .before .side-of2 .result) (a .width) }
 
 settings-allowed-requires : tie.Need-settings-allowed-requires
 settings-allowed-requires c κs = search needs
@@ -161,65 +150,43 @@ returns-5 c =
     let o = lt-leb (floatsOf (a .s) (a .height) (a .width)) (length (a .out .now)) (omega (arith, c .if5 .taken, counted (c .before))) in
     (simp (e, g, k, l, o), simp (e, g, k, l, o))
 
--- what the loops are handed
-framed : (c : tie.Else5) → (f : Frame) → f ≡ frame c → Framed f (length (c .before .before .before .before .before .before .before .before .before .before .before .before .args .rgb .now))
-framed c f e =
+-- what is handed on fits
+handed : (c : tie.Else5) → let a = c .before .before .before .before .before .before .before .before .before .before .before .before .args in
+    fits (length (a .rgb .now)) (a .height) (a .width) (c .before .before .side-of .result) (c .before .side-of2 .result) (a .s .«patch_size») (length (a .out .now)) ≡ true
+handed c =
     let a = c .before .before .before .before .before .before .before .before .before .before .before .before .args in
     let s = a .s in
     let o = known (c .before .before .before .before .before .before .before .before) in
-    let t = sided-says (a .height) (a .width) (sides (c .before .before .before .before .before .before)) in
-    let y = c .before .before .side-of .ensures in
-    let x = c .before .side-of2 .ensures in
-    rw e
+    fits-where _ _ _ _ _ _ _
     (record {
-      bytes = c .before .before .before .before .before .if3 .left;
-      tall = t .0;
-      wide = t .2;
-      tall-high = t .1;
-      wide-high = t .3;
-      target-tall = omega (arith, y, o .image-high, side-le (align s) (s .«image_size») (a .height));
-      target-wide = omega (arith, x, o .image-high, side-le (align s) (s .«image_size») (a .width));
+      sides = sides (c .before .before .before .before .before .before);
+      tall = omega (arith, c .before .before .side-of .ensures, o .image-high, side-le (align s) (s .«image_size») (a .height));
+      wide = omega (arith, c .before .side-of2 .ensures, o .image-high, side-le (align s) (s .«image_size») (a .width));
+      patch-low = o .patch-low;
       patch-high = o .patch-high;
-      plain = λ q. (eqb-true _ _ (and-left (eqb (c .before .before .side-of .result) (a .height)) (eqb (c .before .side-of2 .result) (a .width)) q), eqb-true _ _ (and-right (eqb (c .before .before .side-of .result) (a .height)) (eqb (c .before .side-of2 .result) (a .width)) q));
+      bytes = c .before .before .before .before .before .if3 .left;
+      space = c .if5 .left;
     })
 
-framed-patches-requires : tie.Need-framed-patches-requires
-unfolding table
-framed-patches-requires c κs =
-    let e = c .before .before in
-    let d = e .before in
-    let p = e .before .before .before .before .before .before .before .before .before .before .before .before .args .s .«patch_size» in (
-      framed e (frame e) refl,
-      clean-table,
-      div-mul-le-self (d .before .side-of .result) p,
-      div-mul-le-self (d .side-of2 .result) p,
-      wide d .low,
-      omega (arith, e .if5 .left, mul-assoc (d .before .side-of .result / p) (d .side-of2 .result / p) (patchFloats p)),
-    )
+resized-patches-requires : tie.Need-resized-patches-requires
+resized-patches-requires c κs = search needs
 
 same-length : tie.Need-same-length
-same-length c = c .before .before .framed-patches .kept .1 .1 .1 .1 .0
-
--- the table's values are the samples
-sampled : (p gh gw : ℕ) (v : ℕ → ℕ → ℕ → ℕ) → ((y x c : ℕ) → v y x c < 256) → patches p gh gw (λ y x c. value (entry table) c (v y x c)) ≡ patches p gh gw (λ y x c. sample c (v y x c))
-sampled p gh gw v h = patches-ext p gh gw _ _ (λ y x c hc. ap (ofBits binary32) (entry-is c (v y x c) hc (h y x c)) ∙ value-is c (v y x c))
+same-length c = search needs
 
 returns-6 : tie.Need-returns-6
-unfolding table
 returns-6 c =
-    let e = c .before .before .before .before .before in
+    let e = c .before .before .before .before in
     let a = e .before .before .before .before .before .before .before .before .before .before .before .before .args in
     let p = a .s .«patch_size» in
-    let th = e .before .before .side-of .result in
-    let tw = e .before .side-of2 .result in
     let q = asked e in
     let y = e .before .before .side-of .ensures in
     let x = e .before .side-of2 .ensures in (
       cc (accepted (a .s) (length (a .rgb .now)) (a .height) (a .width) (length (a .out .now)) q, y, x),
-      c .before .before .framed-patches .ensures
-          ∙ ap (put (a .out .now) 0) (sampled p (th / p) (tw / p) (resizedAt (a .rgb .now) (a .height) (a .width) th tw) (byte-below (a .rgb .now) (a .height) (a .width) th tw))
-          ∙ ap (λ (t : ℕ). put (a .out .now) 0 (patches p (t / p) (tw / p) (λ y x c. sample c (resizedAt (a .rgb .now) (a .height) (a .width) t tw y x c)))) y
-          ∙ ap (λ (t : ℕ). put (a .out .now) 0 (patches p (gridOf (a .s) (a .height)) (t / p) (λ y x c. sample c (resizedAt (a .rgb .now) (a .height) (a .width) (resized (a .s) (a .height)) t y x c)))) x
+      c .before .before .resized-patches .ensures
+          ∙ W.written (a .rgb .now) (a .height) (a .width) _ _ p (a .out .now) (handed e)
+          ∙ ap (λ (t : ℕ). over (resizedPatches (a .rgb .now) (a .height) (a .width) t (e .before .side-of2 .result) p) (a .out .now)) y
+          ∙ ap (λ (t : ℕ). over (resizedPatches (a .rgb .now) (a .height) (a .width) (resized (a .s) (a .height)) t p) (a .out .now)) x
           ∙ written (a .s) (a .rgb .now) (a .height) (a .width) (a .out .now) q,
     )
 
@@ -245,6 +212,6 @@ pixtral-preprocess-spec =
     mul-floats-3
     mul-floats-4
     returns-5
-    framed-patches-requires
+    resized-patches-requires
     same-length
     returns-6)

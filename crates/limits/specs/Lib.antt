@@ -1,0 +1,5 @@
+pub mod Refusal
+pub mod Settings
+pub mod Sides
+pub mod Patches
+pub mod Shape

@@ -1,0 +1,30 @@
+// What a call may be handed, and why it is refused.
+pub mod settings;
+
+pub struct PictureSettings {
+    pub patch_size: usize,
+    pub spatial_merge_size: usize,
+    pub image_size: usize,
+}
+
+// Why a call is refused, in the order of the paper's numbers, from 1 on.
+pub enum Refusal {
+    Setting,
+    Side,
+    RgbLength,
+    ImageSize,
+    Output,
+    Grid,
+    PatchesLength,
+    Sample,
+    WeightsLength,
+    TableLength,
+    Scratch,
+    NotFinite,
+}
+
+// What the settings, the grid and the length of the patches say before anything else is looked at.
+pub enum Shape {
+    Shaped { tokens: usize },
+    Unshaped(Refusal),
+}

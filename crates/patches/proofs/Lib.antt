@@ -1,0 +1,4 @@
+pub mod Patches
+pub mod Plain
+pub mod Stored
+pub mod Fits

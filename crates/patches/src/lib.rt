@@ -1,0 +1,3 @@
+// A picture resized, and cut into patches.
+pub mod frame;
+pub mod pixel;
