@@ -3,18 +3,20 @@ use mathlib.Core.Path.{_≡_, refl, sym, ap, _∙_}
 use mathlib.Core.List.{List, _++_}
 use Prim.Native.Nat.{ℕ, zero, suc, _+_, _*_, _≤_, _<_}
 use native.Mathlib.Nat.{add-zero, add-suc, add-mul, mul-le-mul-right}
+use native.Mathlib.Numerals.{add-one}
 use native.Mathlib.Omega.{arith}
 use lib.ListN.{length, getD}
-use lib.Ieee.{Float, nan, binary32, mul}
+use lib.Ieee.{Float, nan, binary32, add, mul}
 use Rattle.buffers.specs.Rows.{tab, rows, grid}
 use Rattle.buffers.specs.Region.{Apart, region, put, zero32}
-use Rattle.buffers.proofs.Regions.{put-put, put-append, region-put, region-put-same, region-region, length-region, getD-region, apart-sub}
+use Rattle.buffers.proofs.Regions.{getD-put-same, put-put, put-append, region-put, region-put-same, region-region, length-region, getD-region, apart-sub}
 use Rattle.buffers.proofs.Lists.{fit, length-tab, getD-tab, tab-ext, tab-mul, length-rows, getD-rows, rows-ext, rows-add}
 use Rattle.buffers.specs.Each.{blank}
 use Rattle.sums.specs.Linear.{sumOf, linearRow, linearOf}
-use Rattle.sums.specs.Lanes.{sumFrom, filled, product, begun, goneOn}
+use Rattle.sums.specs.Lanes.{sumFrom, laneOf, goneSum, spread, filled, product, begun, goneOn}
+use Rattle.sums.specs.Fits.{ColumnsFits, ColumnAt}
 use Rattle.sums.proofs.Sums.{sum-ext, length-linear}
-use Rattle.sums.proofs.Fills.{filled-in}
+use Rattle.sums.proofs.Fills.{spread-ext, spread-one, filled-in, filled-out}
 
 pub from-ext : (a : Float) (n : ℕ) (f g : ℕ → Float) → ((k : ℕ) → k < n → f k ≡ g k) → sumFrom a n f ≡ sumFrom a n g
 unfolding sumFrom
@@ -26,6 +28,14 @@ sum-more : (n m : ℕ) (f : ℕ → Float) → sumFrom (sumOf n f) m (λ k. f (n
 unfolding sumFrom sumOf
 sum-more n zero f = ap (λ k. sumOf k f) (sym (add-zero n))
 sum-more n (suc m) f = rw (sum-more n m f) (ap (λ k. sumOf k f) (sym (add-suc n m)))
+
+-- a lane with one product more
+pub lane-step : (k : ℕ) (a xt w b r : List Float) → b ≡ tab 16 (laneOf k a xt w)
+    → r ≡ tab 16 (λ l. add binary32 (getD b l nan) (mul binary32 (getD xt (k * 16 + l) nan) (getD w k nan))) → r ≡ tab 16 (laneOf (k + 1) a xt w)
+unfolding sumFrom
+lane-step k a xt w b r e g =
+    g ∙ tab-ext 16 (λ l. add binary32 (getD b l nan) (mul binary32 (getD xt (k * 16 + l) nan) (getD w k nan))) (laneOf (k + 1) a xt w)
+    (λ l h. rw (e, add-one k, getD-tab 16 l (laneOf k a xt w) nan h))
 
 -- r rows of n behind i rows end inside m rows
 pub fit-more : {m : ℕ} (i r n : ℕ) → i + r ≤ m → i * n + r * n ≤ m * n
@@ -151,3 +161,65 @@ module _ (r nin nout : ℕ) (w : List Float) where
   block-done s u v x y h e g =
       let L = linearOf r nin nout w x in
       g ∙ rw (begun-all x h, e) (put-put s y (tab (r * nout) (λ _. zero32)) L (length-tab (r * nout) (λ _. zero32) ∙ sym (length-linear r nin nout w x)))
+
+-- ---- columns of sums
+
+-- row l of column c is inside s, and the next floats of its weights are inside w
+module _ {lens lenw lent y r nin nout k n c : ℕ} (f : ColumnAt lens lenw lent y r nin nout k n c) where
+  pub cell : (l : ℕ) → l < r → y + c + l * nout < lens
+  cell l h = let g = fit nout h in omega (arith, f .column, f .fits .yin)
+
+  pub room : c * nin + k + n ≤ lenw
+  room = omega (arith, fit nin (f .column), f .fits .win, f .fits .kin)
+
+  -- the column before
+  pub before-it : {d : ℕ} → c ≡ d + 1 → ColumnAt lens lenw lent y r nin nout k n d
+  before-it e = record { fits = f .fits; column = omega (arith, f .column) }
+
+module _ (w xt : List Float) (y r nin nout k n : ℕ) where
+  -- column c gathered into lanes and gone on
+  pub column-lane : (s z a v b : List Float) (c : ℕ) → r ≤ 16 → length z ≡ 16 → c * nin + k + n ≤ length w
+      → a ≡ spread z 0 1 r (λ i. getD s (y + c + i * nout) nan) → v ≡ region w (c * nin + k) n → b ≡ tab 16 (laneOf n a xt v)
+      → (l : ℕ) → l < r → getD b (0 + l * 1) nan ≡ goneSum s w xt y nin nout k n l c
+  column-lane s z a v b c q lz room e₂ e₃ e₄ l m =
+      let g : ℕ → Float = λ i. getD s (y + c + i * nout) nan in
+      let start : getD a l nan ≡ getD s (y + (l * nout + c)) nan =
+      ap (λ u. getD u l nan) (e₂ ∙ spread-one z 0 r g)
+      ∙ ap (λ i. getD (put z 0 (tab r g)) i nan) (omega arith)
+      ∙ getD-put-same z 0 (tab r g) l nan (rw (length-tab r g) m) (rw (length-tab r g, lz) (omega arith))
+      ∙ getD-tab r l g nan m
+      ∙ ap (λ i. getD s i nan) (omega arith) in
+      ap (λ i. getD b i nan) (omega arith)
+      ∙ ap (λ u. getD u l nan) e₄ ∙ getD-tab 16 l (laneOf n a xt v) nan (omega arith)
+      ∙ rw start
+      (from-ext (getD s (y + (l * nout + c)) nan) n (λ j. mul binary32 (getD xt (j * 16 + l) nan) (getD v j nan)) (λ j. mul binary32 (getD xt (j * 16 + l) nan) (getD w (c * nin + (k + j)) nan))
+      (λ j h. ap (λ f. mul binary32 (getD xt (j * 16 + l) nan) f) (ap (λ u. getD u j nan) e₃ ∙ getD-region w (c * nin + k) n j nan h ∙ ap (λ i. getD w i nan) (omega arith))))
+
+  -- a later column is as it was, and so are its sums
+  column-same : (s u : List Float) (c d : ℕ) → u ≡ filled s y nout r c (goneSum s w xt y nin nout k n) → c ≤ d → d < nout
+      → (l : ℕ) → l < r → goneSum u w xt y nin nout k n l d ≡ goneSum s w xt y nin nout k n l d
+  column-same s u c d e h q l m =
+      let o : getD u (y + (l * nout + d)) nan ≡ getD s (y + (l * nout + d)) nan =
+      ap (λ i. getD u i nan) (omega arith)
+      ∙ ap (λ x. getD x (y + d + l * nout) nan) e
+      ∙ filled-out s y nout (goneSum s w xt y nin nout k n) r c l d nan h q
+      ∙ ap (λ i. getD s i nan) (omega arith) in
+      rw o refl
+
+  pub column-turn : (s u z : List Float) (c : ℕ) → c < nout → u ≡ filled s y nout r c (goneSum s w xt y nin nout k n)
+      → z ≡ spread u (y + c) nout r (λ l. goneSum u w xt y nin nout k n l c) → z ≡ filled s y nout r (c + 1) (goneSum s w xt y nin nout k n)
+  unfolding filled
+  column-turn s u z c h e g =
+      g ∙ spread-ext u (y + c) nout r (λ l. goneSum u w xt y nin nout k n l c) (λ l. goneSum s w xt y nin nout k n l c) (column-same s u c c e (omega arith) h)
+      ∙ rw (add-one c, e)
+
+  pub pair-turn : (s u z : List Float) (c : ℕ) → c + 1 < nout → u ≡ filled s y nout r c (goneSum s w xt y nin nout k n)
+      → z ≡ spread (spread u (y + c) nout r (λ l. goneSum u w xt y nin nout k n l c)) (y + (c + 1)) nout r (λ l. goneSum u w xt y nin nout k n l (c + 1))
+      → z ≡ filled s y nout r (c + 2) (goneSum s w xt y nin nout k n)
+  unfolding filled
+  pair-turn s u z c h e g =
+      let x = spread u (y + c) nout r (λ l. goneSum u w xt y nin nout k n l c) in
+      let f : x ≡ filled s y nout r (c + 1) (goneSum s w xt y nin nout k n) = column-turn s u x c (omega arith) e refl in
+      let two : c + 2 ≡ suc (c + 1) = omega arith in
+      g ∙ spread-ext x (y + (c + 1)) nout r (λ l. goneSum u w xt y nin nout k n l (c + 1)) (λ l. goneSum s w xt y nin nout k n l (c + 1)) (column-same s u c (c + 1) e (omega arith) h)
+      ∙ rw (two, f)

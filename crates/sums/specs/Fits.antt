@@ -1,6 +1,17 @@
 -- What the inner functions ask of the places and lengths that they are handed. Assumes nothing.
+use mathlib.Core.Path.{_≡_}
+use mathlib.Core.List.{List}
 use Prim.Native.Nat.{ℕ, _+_, _*_, _≤_, _<_}
+use lib.ListN.{length}
+use lib.Ieee.{Float}
 use Rattle.buffers.specs.Region.{Apart}
+
+-- lanes of a and of b, by two rows of as many weights
+pub record TwoFit (a b : List Float) (lent lenw lenv : ℕ) : Type 0 where
+  pub first : length a ≡ 16
+  pub second : length b ≡ 16
+  pub tin : lenw * 16 ≤ lent
+  pub same : lenv ≡ lenw
 
 -- n floats of v, from o on with step q, to at with step m
 pub record StrideFits (lend at m lenv o q n : ℕ) : Type 0 where
@@ -21,6 +32,11 @@ pub record ColumnsFits (lens lenw lent y r nin nout k n : ℕ) : Type 0 where
   pub win : nout * nin ≤ lenw
   pub tin : n * 16 ≤ lent
   pub kin : k + n ≤ nin
+
+-- and column c of them
+pub record ColumnAt (lens lenw lent y r nin nout k n c : ℕ) : Type 0 where
+  pub fits : ColumnsFits lens lenw lent y r nin nout k n
+  pub column : c < nout
 
 -- r is the least of a and b
 pub record Least (a b r : ℕ) : Type 0 where

@@ -27,6 +27,11 @@ module _ {A : Type 0} where
   filled s y m r zero f = s
   filled s y m r (suc c) f = spread (filled s y m r c f) (y + c) m r (λ l. f l c)
 
+-- the sum at row l and column c of the rows of nout at y of s goes on by n products: lane l of xt by the floats from k on
+-- of row c of w
+abbrev pub goneSum : List Float → List Float → List Float → ℕ → ℕ → ℕ → ℕ → ℕ → ℕ → ℕ → Float
+goneSum s w xt y nin nout k n l c = sumFrom (getD s (y + (l * nout + c)) nan) n (λ j. mul binary32 (getD xt (j * 16 + l) nan) (getD w (c * nin + (k + j)) nan))
+
 -- product k of row l of x and row c of w
 abbrev pub product : ℕ → List Float → List Float → ℕ → ℕ → ℕ → Float
 product nin w x l c k = mul binary32 (getD x (l * nin + k) nan) (getD w (c * nin + k) nan)

@@ -5,8 +5,8 @@ ghost use lib.ListN.{length, getD};
 ghost use lib.Ieee.{nan, binary32, add, mul};
 ghost use Rattle.buffers.specs.Region.{put};
 ghost use Rattle.buffers.specs.Rows.{tab, grid};
-ghost use Rattle.sums.specs.Lanes.{sumFrom, laneOf, spread, filled};
-ghost use Rattle.sums.specs.Fits.{StrideFits, PackFits, ColumnsFits};
+ghost use Rattle.sums.specs.Lanes.{laneOf, goneSum, spread, filled};
+ghost use Rattle.sums.specs.Fits.{TwoFit, StrideFits, PackFits, ColumnsFits, ColumnAt};
 use buffers::part;
 
 // Each lane and its product with t.
@@ -37,6 +37,36 @@ pub(crate) fn lanes(a: [f32; 16], xt: &[f32], w: &[f32]) -> [f32; 16]
         k += 1;
     }
     b
+}
+
+// Sixteen sums by one row of weights, and sixteen by another.
+pub(crate) struct Two {
+    pub(crate) first: [f32; 16],
+    pub(crate) second: [f32; 16],
+}
+
+// The lanes of a by all of w, and those of b by all of v: one read of xt serves both.
+pub(crate) fn two_lanes(a: [f32; 16], b: [f32; 16], xt: &[f32], w: &[f32], v: &[f32]) -> Two
+    requires { ⌜ TwoFit a b (length (now xt)) (length (now w)) (length (now v)) ⌝ }
+    ensures { λ r. ⌜ (r .first ≡ tab 16 (laneOf (length (now (w .entry))) a (now (xt .entry)) (now (w .entry))))
+        × (r .second ≡ tab 16 (laneOf (length (now (w .entry))) b (now (xt .entry)) (now (v .entry)))) ⌝ }
+{
+    let mut c = a;
+    let mut d = b;
+    let mut k = 0usize;
+    while k < w.len() {
+        let t = w[k];
+        let u = v[k];
+        let next = add_products(c, xt, k * 16, t);
+        let other = add_products(d, xt, k * 16, u);
+        c = next;
+        d = other;
+        k += 1;
+    }
+    Two {
+        first: c,
+        second: d,
+    }
 }
 
 // v[o], v[o + q], .. to d[at], d[at + m], ..: n of them.
@@ -71,6 +101,59 @@ pub(crate) fn pack(xt: &mut [f32], x: &[f32], at: usize, r: usize, nin: usize, n
     }
 }
 
+// Column c of the r rows of sums at y goes on by n products: gathered into lanes, and spread again.
+pub(crate) fn one_column(
+    s: &mut [f32],
+    y: usize,
+    r: usize,
+    nin: usize,
+    nout: usize,
+    w: &[f32],
+    k: usize,
+    n: usize,
+    xt: &[f32],
+    c: usize,
+)
+    requires { ⌜ ColumnAt (length (now s)) (length (now w)) (length (now xt)) y r nin nout k n c ⌝ }
+    ensures { λ _. ⌜ now (s .exit) ≡ spread (now (s .entry)) (y + c) nout r (λ l. goneSum (now (s .entry)) (now (w .entry)) (now (xt .entry)) y nin nout k n l c) ⌝ }
+{
+    let mut a = [0.0f32; 16];
+    copy_spread(&mut a, 0, 1, s, y + c, nout, r);
+    let b = lanes(a, xt, part(w, c * nin + k, n));
+    copy_spread(s, y + c, nout, &b, 0, 1, r);
+}
+
+// Columns c and c + 1.
+pub(crate) fn two_columns(
+    s: &mut [f32],
+    y: usize,
+    r: usize,
+    nin: usize,
+    nout: usize,
+    w: &[f32],
+    k: usize,
+    n: usize,
+    xt: &[f32],
+    c: usize,
+)
+    requires { ⌜ ColumnAt (length (now s)) (length (now w)) (length (now xt)) y r nin nout k n (c + 1) ⌝ }
+    ensures { λ _. ⌜ now (s .exit) ≡ spread (spread (now (s .entry)) (y + c) nout r (λ l. goneSum (now (s .entry)) (now (w .entry)) (now (xt .entry)) y nin nout k n l c))
+        (y + (c + 1)) nout r (λ l. goneSum (now (s .entry)) (now (w .entry)) (now (xt .entry)) y nin nout k n l (c + 1)) ⌝ }
+{
+    let d = c + 1;
+    let at = y + c;
+    let to = y + d;
+    let mut a = [0.0f32; 16];
+    let mut b = [0.0f32; 16];
+    copy_spread(&mut a, 0, 1, s, at, nout, r);
+    copy_spread(&mut b, 0, 1, s, to, nout, r);
+    let both = two_lanes(a, b, xt, part(w, c * nin + k, n), part(w, d * nin + k, n));
+    let f = both.first;
+    let g = both.second;
+    copy_spread(s, at, nout, &f, 0, 1, r);
+    copy_spread(s, to, nout, &g, 0, 1, r);
+}
+
 // The r rows of sums at y go on by n products: a lane of xt by the floats from k on of each of the nout rows of w.
 pub(crate) fn columns(
     s: &mut [f32],
@@ -84,15 +167,14 @@ pub(crate) fn columns(
     xt: &[f32],
 )
     requires { ⌜ ColumnsFits (length (now s)) (length (now w)) (length (now xt)) y r nin nout k n ⌝ }
-    ensures { λ _. ⌜ now (s .exit) ≡ put (now (s .entry)) y (grid r nout (λ l c. sumFrom (getD (now (s .entry)) (y + (l * nout + c)) nan) n
-        (λ j. mul binary32 (getD (now (xt .entry)) (j * 16 + l) nan) (getD (now (w .entry)) (c * nin + (k + j)) nan)))) ⌝ }
+    ensures { λ _. ⌜ now (s .exit) ≡ put (now (s .entry)) y (grid r nout (goneSum (now (s .entry)) (now (w .entry)) (now (xt .entry)) y nin nout k n)) ⌝ }
 {
     let mut c = 0usize;
-    while c < nout {
-        let mut a = [0.0f32; 16];
-        copy_spread(&mut a, 0, 1, s, y + c, nout, r);
-        let b = lanes(a, xt, part(w, c * nin + k, n));
-        copy_spread(s, y + c, nout, &b, 0, 1, r);
-        c += 1;
+    while 2 <= nout - c {
+        two_columns(s, y, r, nin, nout, w, k, n, xt, c);
+        c += 2;
+    }
+    if c < nout {
+        one_column(s, y, r, nin, nout, w, k, n, xt, c);
     }
 }

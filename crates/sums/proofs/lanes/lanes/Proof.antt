@@ -1,15 +1,14 @@
 -- `sums::lanes::lanes` meets its contract. Assumes nothing.
 use mathlib.Core.Path.{_≡_, sym, ap, _∙_}
-use mathlib.Core.List.{List}
-use Prim.Native.Nat.{ℕ, _+_, _*_, _-_, _≤_}
+use Prim.Native.Nat.{_-_, _≤_}
 use native.Mathlib.Omega.{arith}
-use native.Mathlib.Numerals.{add-one}
 use borrow.Author.Needs.{needs}
-use lib.ListN.{length, getD}
-use lib.Ieee.{nan, Float, binary32, add, mul}
+use lib.ListN.{length}
+use lib.Ieee.{nan}
 use Rattle.buffers.specs.Rows.{tab}
-use Rattle.buffers.proofs.Lists.{length-tab, getD-tab, tab-ext, tab-self}
+use Rattle.buffers.proofs.Lists.{length-tab, tab-self}
 use Rattle.sums.specs.Lanes.{sumFrom, laneOf}
+use Rattle.sums.proofs.Pieces.{lane-step}
 use Rattle.sums.proofs.lanes.lanes.Statement.{statement}
 use Rattle.sums.proofs.lanes.lanes.Tie as tie
 
@@ -19,14 +18,6 @@ Inv-loop xt w b₀ k₀ b k =
 
 abbrev μ-loop : tie.MeasureT-loop
 μ-loop xt w b₀ k₀ b k = length w - k
-
--- a lane with one product more
-lane-step : (k : ℕ) (a xt w b r : List Float) → b ≡ tab 16 (laneOf k a xt w)
-    → r ≡ tab 16 (λ l. add binary32 (getD b l nan) (mul binary32 (getD xt (k * 16 + l) nan) (getD w k nan))) → r ≡ tab 16 (laneOf (k + 1) a xt w)
-unfolding sumFrom
-lane-step k a xt w b r e g =
-    g ∙ tab-ext 16 (λ l. add binary32 (getD b l nan) (mul binary32 (getD xt (k * 16 + l) nan) (getD w k nan))) (laneOf (k + 1) a xt w)
-    (λ l h. rw (e, add-one k, getD-tab 16 l (laneOf k a xt w) nan h))
 
 loop-holds : tie.Need-loop-holds Inv-loop μ-loop
 unfolding sumFrom
