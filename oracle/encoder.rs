@@ -5,12 +5,14 @@
 //! refusals, are stated here from the text of the paper.
 //!
 //!     encoder            edges, and random calls with a fixed seed
-//!     encoder --bench    times ours and the Rust, on one thread
+//!     encoder --bench    times ours and the Rust, on one thread (bench.rs); with --quick, on small grids alone
 //!     encoder --sample   prints the Rust's answers as crates/encoder_replay/stdin holds them
 
 use std::collections::BTreeMap;
 use std::io::Write;
 
+#[path = "bench.rs"]
+mod bench;
 #[path = "sample.rs"]
 mod sample;
 
@@ -689,40 +691,6 @@ fn edges_and_random() -> bool {
     tally.differ == 0
 }
 
-// --- The benchmark ---
-
-/// The processor's time that this process took, which other processes lengthen less than the clock's.
-fn processor_seconds() -> f64 {
-    extern "C" {
-        fn clock() -> std::ffi::c_long;
-    }
-    unsafe { clock() as f64 / 1e6 }
-}
-
-/// Each grid's forward by the port and by the Rust, in turn, three times; the fastest of each.
-fn bench() -> bool {
-    println!("{:24}{:>10}{:>10}", "processor seconds", "ours", "the Rust");
-    let mut same = true;
-    for side in [4, 16] {
-        let c = sized(&mut Random(SEED), real(side), [side, side], 0.05);
-        let m = model(&c.s, &c.weights);
-        let (mut best, mut rows, mut out) = ([f64::INFINITY; 2], Vec::new(), c.out.clone());
-        for _ in 0..3 {
-            let mut scratch = c.scratch.clone();
-            let began = processor_seconds();
-            ours(&c, &mut scratch, &mut out);
-            let between = processor_seconds();
-            rows = forward(&c, &m);
-            best[0] = best[0].min(between - began);
-            best[1] = best[1].min(processor_seconds() - between);
-        }
-        same &= bits(&out[..rows.len()]) == bits(&rows);
-        let name = format!("forward {side}x{side}");
-        println!("{name:24}{:10.3}{:10.3}   {:.2} times as fast", best[0], best[1], best[1] / best[0]);
-    }
-    same
-}
-
 // --- The sample ---
 
 /// The cells of the replay's inputs, and where patches, weights, cosines and sines start in them.
@@ -930,10 +898,11 @@ fn main() {
     let words: Vec<&str> = words.iter().map(String::as_str).collect();
     let same = match words[..] {
         [] => edges_and_random(),
-        ["--bench"] => bench(),
+        ["--bench"] => bench::run(false),
+        ["--bench", "--quick"] => bench::run(true),
         ["--sample"] => sample().is_ok(),
         _ => {
-            eprintln!("usage: encoder [--bench | --sample]");
+            eprintln!("usage: encoder [--bench [--quick] | --sample]");
             std::process::exit(2);
         }
     };
