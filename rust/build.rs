@@ -25,6 +25,8 @@ fn main() {
         None => made(),
     };
     println!("cargo:rustc-link-search=native={}", archives.display());
+    // `kz bench` hands oracle/run the archives that it was linked with.
+    println!("cargo:rustc-env=KZ_LINKED={}", archives.display());
     for name in ARCHIVES {
         println!("cargo:rustc-link-lib=static={name}");
     }

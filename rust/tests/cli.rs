@@ -38,9 +38,15 @@ impl Folder {
         names
     }
 
-    /// Runs kz with words parted by spaces.
+    /// kz with words parted by spaces.
+    fn command(&self, words: &str) -> Command {
+        let mut command = Command::new(env!("CARGO_BIN_EXE_kz"));
+        command.args(words.split_whitespace()).current_dir(&self.0);
+        command
+    }
+
     fn kz(&self, words: &str) -> Output {
-        Command::new(env!("CARGO_BIN_EXE_kz")).args(words.split_whitespace()).current_dir(&self.0).output().unwrap()
+        self.command(words).output().unwrap()
     }
 
     /// What is said where the command is done.
@@ -141,6 +147,9 @@ fn usage() {
         ("compare a.ppm", "two files"),
         ("compare a.ppm a.ppm a.ppm", "two files"),
         ("bench now", "no files"),
+        ("bench --quick --size 8x8", "--quick goes with no other option"),
+        ("bench --quick=yes", "no option --quick=yes"),
+        ("demo --quick", "no option --quick"),
         ("demo now", "no files"),
         ("demo --settings patch=1", "no option --settings"),
     ] {
@@ -397,6 +406,48 @@ fn bench_times_every_call() {
     for call in ["preprocess", "forward", "restore"] {
         assert!(said.contains(call), "{said}");
     }
+}
+
+/// With the Rust's source, in the place of what KZ_RUST_SRC says if one is given: status, output and errors.
+fn bench_with(folder: &Folder, source: Option<&Path>) -> (Option<i32>, String, String) {
+    let mut command = folder.command("bench --quick");
+    if let Some(source) = source {
+        command.env("KZ_RUST_SRC", source);
+    }
+    let output = command.output().unwrap();
+    let text = |bytes| String::from_utf8(bytes).unwrap();
+    (output.status.code(), text(output.stdout), text(output.stderr))
+}
+
+// One test, since oracle/run has one place for what it makes.
+#[test]
+fn bench_beside_the_rust() {
+    let folder = Folder::new("beside");
+    let skipped = "comparison with the Rust skipped";
+    let (status, said, errors) = bench_with(&folder, None);
+    assert_eq!(status, Some(0), "{errors}");
+    if errors.contains(skipped) {
+        eprint!("bench_beside_the_rust: {errors}");
+    } else {
+        let parts = ["preprocess 1540x1540", "restore 1540x1540", "forward 4x4", "times as fast"];
+        for part in parts.into_iter().chain(["stages of 8x8", "share", "growth", "every answer has the Rust's bits"]) {
+            assert!(said.contains(part), "{part:?} is not in {said}");
+        }
+    }
+    // Without the source the port is timed alone.
+    let (status, said, errors) = bench_with(&folder, Some(&folder.path("none")));
+    assert_eq!(status, Some(0), "{errors}");
+    assert!(errors.contains(skipped), "{errors}");
+    assert!(said.starts_with("hidden 64, ") && said.contains("1540x1540   110x110   restore"), "{said}");
+    // With a source that is another, oracle/run fails, and kz says so.
+    fs::create_dir_all(folder.path("empty/crates/vision/src")).unwrap();
+    for name in ["pixtral.rs", "image_process.rs"] {
+        folder.put(&format!("empty/crates/vision/src/{name}"), b"");
+    }
+    let (status, _, errors) = bench_with(&folder, Some(&folder.path("empty")));
+    assert_eq!(status, Some(1), "{errors}");
+    let last = errors.lines().last().unwrap();
+    assert!(last.starts_with("kz: ") && last.contains("oracle/run: picture ended with exit status"), "{errors}");
 }
 
 /// Sides and colour type of a PNG.

@@ -1,23 +1,39 @@
-//! `kz bench`: how long each call takes.
+//! `kz bench`: how long each call takes, here and in the Rust.
 
 use crate::fail::Fail;
 use crate::given::Given;
 use crate::model::{refused_settings, Model, Random};
 use crate::say;
+use std::fs;
+use std::io::{stderr, Write};
+use std::process::Command;
 use std::time::{Duration, Instant};
 
 pub const HELP: &str = "\
+kz bench [--quick]
 kz bench [--size HxW] [--weights FILE] [--tables FILE] [--settings LIST]
 
-Times preprocess, forward and restore on noise, on one core: the best of the
-runs that fit into half a second, at least one. `share` is the part of a
-sweep's time. Without --size three sizes are timed, the largest without
-forward. The model is as for `kz encode`.
+The first form runs the Rust (on one thread, with E and T) and the port on
+the same inputs in the same run: preprocess, restore, and forward of a model
+of real width at grids from 4x4 to 32x32. It prints the times, the ratios,
+each stage's share, and how the time grows from 64 to 1024 tokens; one bit
+that differs ends it with status 1. That takes some five minutes; --quick has
+small grids alone and takes one. It is oracle/run of the repository where kz
+was built, with the archives that kz was linked with. The Rust's source is
+../shared/docs/src from the repository's root, or KZ_RUST_SRC.
 
-The comparison with the Rust is made by oracle/run, in the repository:
-  oracle/run target/staticlib picture --bench
-  oracle/run target/staticlib encoder --bench
+The second form, and the first where the source or rustc is missing, times
+the port alone on noise, on one core: the best of the runs that fit into half
+a second, at least one. `share` is the part of a sweep's time. Without --size
+three sizes are timed, the largest without forward. The model is as for
+`kz encode`.
 ";
+
+const ORACLE: &str = concat!(env!("CARGO_MANIFEST_DIR"), "/../oracle/run");
+/// The archives that this program was linked with (build.rs).
+const ARCHIVES: &str = env!("KZ_LINKED");
+/// What oracle/run ends with where it has no Rust to compare with.
+const SKIPPED: i32 = 3;
 
 /// More patches than this are not handed to forward unless they are asked for.
 const MANY: usize = 2000;
@@ -26,6 +42,39 @@ pub fn run(given: &Given) -> Result<(), Fail> {
     if !given.files.is_empty() {
         return Err(Fail::usage("bench takes no files"));
     }
+    if given.quick && given.has_options() {
+        return Err(Fail::usage("--quick goes with no other option"));
+    }
+    if !given.has_options() && beside_the_rust(given.quick)? {
+        return Ok(());
+    }
+    alone(given)
+}
+
+/// Times the port and the Rust in turn; false where there is no Rust to time.
+fn beside_the_rust(quick: bool) -> Result<bool, Fail> {
+    let Ok(oracle) = fs::canonicalize(ORACLE) else {
+        let _ = writeln!(stderr(), "kz: comparison with the Rust skipped: there is no {ORACLE}");
+        return Ok(false);
+    };
+    let encoder: &[&str] = if quick { &["encoder", "--bench", "--quick"] } else { &["encoder", "--bench"] };
+    for words in [&["picture", "--bench"], encoder] {
+        if words == encoder {
+            say(format_args!(""));
+        }
+        let status = Command::new(&oracle).arg(ARCHIVES).args(words).status();
+        let status = status.map_err(|e| Fail::file(&oracle, format!("cannot be run: {e}; check it out again")))?;
+        match status.code() {
+            Some(0) => {}
+            Some(SKIPPED) => return Ok(false),
+            _ => return Err(Fail::file(&oracle, format!("{} ended with {status}; its own words are above", words[0]))),
+        }
+    }
+    Ok(true)
+}
+
+/// Times the port by itself.
+fn alone(given: &Given) -> Result<(), Fail> {
     let asked = given.sides("--size")?;
     let model = Model::read(given)?;
     let s = model.settings;

@@ -5,30 +5,35 @@ use kyzgultam::{EncoderSettings, PictureSettings};
 use std::ffi::{OsStr, OsString};
 use std::path::PathBuf;
 
-/// Files, and options with their values. An option is given once; `--force` has no value.
+/// The options without a value.
+const BARE: [&str; 2] = ["--force", "--quick"];
+
+/// Files, and options with their values. An option with a value is given once.
 pub struct Given {
     pub files: Vec<PathBuf>,
     pub force: bool,
+    pub quick: bool,
     options: Vec<(&'static str, OsString)>,
 }
 
 impl Given {
     pub fn read(words: &[OsString], known: &[&'static str]) -> Result<Given, Fail> {
-        let mut given = Given { files: vec![], force: false, options: vec![] };
+        let mut given = Given { files: vec![], force: false, quick: false, options: vec![] };
         let mut words = words.iter();
         while let Some(word) = words.next() {
             let text = word.to_str().unwrap_or("");
             if text == "--" {
                 given.files.extend(words.by_ref().map(PathBuf::from));
-            } else if text == "--force" && known.contains(&"--force") {
-                given.force = true;
+            } else if BARE.contains(&text) && known.contains(&text) {
+                given.force |= text == "--force";
+                given.quick |= text == "--quick";
             } else if text.starts_with('-') && text.len() > 1 {
                 let (name, joined) = match text.split_once('=') {
                     Some((name, value)) => (name, Some(OsString::from(value))),
                     None => (text, None),
                 };
                 let name = if name == "--out" { "-o" } else { name };
-                let known = known.iter().find(|k| **k == name && name != "--force");
+                let known = known.iter().find(|k| **k == name && !BARE.contains(&name));
                 let name = *known.ok_or_else(|| Fail::usage(format!("no option {text} here")))?;
                 if given.option(name).is_some() {
                     return Err(Fail::usage(format!("{name} is given twice")));
@@ -44,6 +49,11 @@ impl Given {
 
     fn option(&self, name: &str) -> Option<&OsStr> {
         self.options.iter().find(|(n, _)| *n == name).map(|(_, value)| value.as_os_str())
+    }
+
+    /// Whether any option with a value is given.
+    pub fn has_options(&self) -> bool {
+        !self.options.is_empty()
     }
 
     pub fn path(&self, name: &str) -> Option<PathBuf> {

@@ -30,8 +30,8 @@ kz: the Pixtral image encoder, proved; from the command line
   kz patches SWEEP.ppm .. -o DIR        patches of each sweep
   kz restore FILE.patches -o OUT.ppm    the picture that gave the patches
   kz compare A.ppm B.ppm [-o OUT.png]   which patches are equal, as a picture
-  kz bench                              how long each call takes
-                                        (oracle/run compares with the Rust)
+  kz bench                              how long each call takes, here and
+                                        in the Rust if its source is there
 Pictures are binary netpbm, P5 or P6. Other files are floats: f32, little-
 endian, in the order of include/kyzgultam.h. Sizes are HEIGHTxWIDTH.
 
@@ -53,7 +53,7 @@ const COMMANDS: [Command; 6] = [
     ("patches", encode::PATCHES, &["-o", "--settings", "--force"], encode::patches),
     ("restore", restore::HELP, &["-o", "--grid", "--settings", "--force"], restore::run),
     ("compare", compare::HELP, &["-o", "--settings", "--force"], compare::run),
-    ("bench", bench::HELP, &["--size", "--weights", "--tables", "--settings"], bench::run),
+    ("bench", bench::HELP, &["--quick", "--size", "--weights", "--tables", "--settings"], bench::run),
 ];
 
 /// A line on standard output. That nobody reads it is no reason to stop.
