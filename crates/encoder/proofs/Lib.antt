@@ -2,7 +2,6 @@ pub mod Lives
 pub mod Turns
 pub mod Merges
 pub mod Projects
-pub mod Bounds
 pub mod Embeds
 pub mod Runs
 pub mod Ready

@@ -7,7 +7,7 @@ use borrow.Author.Tests.{le-leb}
 use lib.ListN.{length}
 use lib.Ieee.{Float}
 use Rattle.buffers.specs.Region.{region, over, copied}
-use Rattle.encoder.specs.declared.EncoderSettings.{EncoderSettings}
+use Rattle.demands.specs.declared.EncoderSettings.{EncoderSettings}
 use Rattle.encoder.specs.declared.Sizes.{Sizes}
 use Rattle.encoder.specs.declared.Places.{Places}
 use Rattle.encoder.specs.declared.Regions.{Regions}

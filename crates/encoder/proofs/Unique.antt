@@ -6,15 +6,15 @@ use native.Mathlib.Omega.{arith}
 use lib.ListN.{length}
 use lib.Ieee.{Float}
 use Rattle.limits.proofs.Unique.{one}
-use Rattle.encoder.specs.declared.EncoderSettings.{EncoderSettings}
-use Rattle.encoder.specs.declared.Checked.{Checked}
-use Rattle.encoder.specs.declared.Checked.the-variants as C
+use Rattle.demands.specs.declared.EncoderSettings.{EncoderSettings}
+use Rattle.demands.specs.declared.Checked.{Checked}
+use Rattle.demands.specs.declared.Checked.the-variants as C
 use Rattle.encoder.specs.declared.Encoded.{Encoded}
 use Rattle.encoder.specs.declared.Encoded.the-variants.{Tokens}
-use Rattle.encoder.specs.Settings.{mergeArea, checkedOf}
+use Rattle.demands.specs.Settings.{mergeArea, checkedOf}
 use Rattle.encoder.specs.Run.{Run, stopped, went}
 use Rattle.encoder.specs.Forward.{forwardRun, encodedBy, encodedOf, outOf, scratchOf}
-use Rattle.encoder.proofs.Ready.{accepted-says}
+use Rattle.demands.proofs.Accepted.{accepted-says}
 
 module _ (s : EncoderSettings) (gh gw : ℕ) (w cos sin x : List Float) where
   -- the contract, as a type of an answer and of output and scratch at exit

@@ -5,9 +5,9 @@ use Rattle.buffers.specs.Region.{Apart}
 use Rattle.encoder.specs.declared.Sizes.{Sizes}
 use Rattle.encoder.specs.Sizes.{hdOf, dimOf, nOf, mOf}
 use Rattle.encoder.specs.Weights.{layerOf}
-use Rattle.encoder.specs.declared.EncoderSettings.{EncoderSettings}
+use Rattle.demands.specs.declared.EncoderSettings.{EncoderSettings}
 use Rattle.limits.specs.Patches.{patchFloats}
-use Rattle.encoder.specs.Settings.{mergeArea}
+use Rattle.demands.specs.Settings.{mergeArea}
 use Rattle.encoder.specs.Live.{regionsOf}
 use Rattle.encoder.specs.Forward.{sizesOf, placesOf}
 

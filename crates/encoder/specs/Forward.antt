@@ -11,14 +11,15 @@ use Rattle.limits.specs.Patches.{patchFloats}
 use Rattle.limits.specs.Shape.{most}
 use Rattle.encoder.specs.declared.Sizes.{Sizes}
 use Rattle.encoder.specs.declared.Places.{Places}
-use Rattle.encoder.specs.declared.EncoderSettings.{EncoderSettings}
-use Rattle.encoder.specs.declared.Checked.{Checked}
-use Rattle.encoder.specs.declared.Checked.the-variants as C
+use Rattle.demands.specs.declared.EncoderSettings.{EncoderSettings}
+use Rattle.demands.specs.declared.Checked.{Checked}
+use Rattle.demands.specs.declared.Checked.the-variants as C
 use Rattle.encoder.specs.declared.Encoded.{Encoded}
 use Rattle.encoder.specs.declared.Encoded.the-variants.{Tokens, Refused}
 use Rattle.encoder.specs.Sizes.{dimOf}
-use Rattle.encoder.specs.Weights.{layerOf, projectorFloats}
-use Rattle.encoder.specs.Settings.{mergeArea, checkedOf}
+use Rattle.demands.specs.Weights.{projectorFloats}
+use Rattle.encoder.specs.Weights.{layerOf}
+use Rattle.demands.specs.Settings.{mergeArea, checkedOf}
 use Rattle.encoder.specs.Run.{Run, stopped, went, thenRun}
 use Rattle.encoder.specs.Embed.{embedRun}
 use Rattle.encoder.specs.Layers.{layersRun}

@@ -7,6 +7,5 @@ pub mod Live
 pub mod Layers
 pub mod Merge
 pub mod Project
-pub mod Settings
 pub mod Forward
 pub mod Fits

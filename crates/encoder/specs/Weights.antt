@@ -1,22 +1,15 @@
--- How many weights there are, and where those of a layer stand in its part of the lent slice; matrices row-major,
--- [out, in]. Assumes nothing.
+-- Where the weights of a layer stand in its part of the lent slice; matrices row-major, [out, in]. Assumes nothing.
 use mathlib.Core.List.{List}
 use Prim.Native.Nat.{ℕ, _+_, _*_}
 use lib.Ieee.{Float}
 use Rattle.buffers.specs.Region.{region}
+use Rattle.demands.specs.Weights.{layerFloats}
 use Rattle.encoder.specs.declared.Sizes.{Sizes}
 use Rattle.encoder.specs.Sizes.{dimOf}
 
--- how many weights a layer has, by the hidden and the intermediate size
-abbrev pub layerFloats : ℕ → ℕ → ℕ
-layerFloats h i = 2 * h + 4 * (h * h) + 2 * (i * h) + h * i
-
+-- how many there are
 abbrev pub layerOf : Sizes → ℕ
 layerOf z = layerFloats (dimOf z) (z .inter)
-
--- how many the projector has, by the hidden size, the width of a merged row and the text size
-abbrev pub projectorFloats : ℕ → ℕ → ℕ → ℕ
-projectorFloats h wide x = h + h * wide + x * h + x * x
 
 -- a layer's weights, one behind the other: norm, q, k, v, o, norm, gate, up, down
 abbrev pub norm1W : Sizes → List Float → List Float

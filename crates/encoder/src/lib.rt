@@ -3,10 +3,8 @@ mod block;
 pub mod forward;
 mod layers;
 mod projector;
-mod settings;
 mod stage;
 
-use limits::PictureSettings;
 use limits::Refusal;
 
 // The sizes of a call: half is half of the head width, side is P, the most patches on a side.
@@ -34,23 +32,6 @@ pub(crate) struct Places {
 pub(crate) struct Regions {
     pub linear: usize,
     pub row: usize,
-}
-
-pub struct EncoderSettings {
-    pub picture: PictureSettings,
-    pub hidden_size: usize,
-    pub num_heads: usize,
-    pub head_dim: usize,
-    pub num_layers: usize,
-    pub intermediate_size: usize,
-    pub text_hidden_size: usize,
-    pub scaling: f32,
-}
-
-// What the settings and the lengths say: the tokens, of which count are left, or a refusal.
-pub(crate) enum Checked {
-    Accepted { tokens: usize, count: usize },
-    Refused(Refusal),
 }
 
 pub enum Encoded {

@@ -6,7 +6,7 @@ use lib.ListN.{length, getD, take}
 use lib.Ieee.{Float, binary32, ofBits}
 use Rattle.buffers.specs.Region.{region}
 use Rattle.limits.specs.Refusal as R
-use Rattle.encoder.specs.declared.EncoderSettings.{EncoderSettings}
+use Rattle.demands.specs.declared.EncoderSettings.{EncoderSettings}
 use Rattle.encoder.specs.declared.Encoded.{Encoded}
 use Rattle.encoder.specs.declared.Encoded.the-variants.{Tokens, Refused}
 use Rattle.encoder.specs.Forward.{encodedOf, outOf, scratchOf}

@@ -9,7 +9,7 @@ use Rattle.limits.specs.Settings.{within}
 use Rattle.limits.specs.Patches.{patchFloats}
 use Rattle.picture.specs.Preprocess as Pre
 use Rattle.restore.specs.Restore as Res
-use Rattle.encoder.specs.declared.EncoderSettings as E
+use Rattle.demands.specs.declared.EncoderSettings as E
 use Rattle.encoder.specs.declared.Encoded.{Encoded}
 use Rattle.encoder.specs.Forward as Fwd
 use Rattle.kyzgultam.specs.declared.PictureSettings as K

@@ -67,10 +67,10 @@ fn settings(s: PictureSettings) -> limits::PictureSettings
     }
 }
 
-fn encoder_settings(s: EncoderSettings) -> encoder::EncoderSettings
+fn encoder_settings(s: EncoderSettings) -> demands::EncoderSettings
     ensures { λ r. ⌜ r ≡ innerEncoder s ⌝ }
 {
-    encoder::EncoderSettings {
+    demands::EncoderSettings {
         picture: settings(s.picture),
         hidden_size: s.hidden_size,
         num_heads: s.num_heads,

@@ -2,7 +2,7 @@
 use mathlib.Core.Path.{_≡_, ap}
 use borrow.Author.Needs.{needs}
 use Rattle.limits.specs.declared.PictureSettings.{PictureSettings}
-use Rattle.encoder.specs.declared.EncoderSettings.{EncoderSettings}
+use Rattle.demands.specs.declared.EncoderSettings.{EncoderSettings}
 use Rattle.kyzgultam.proofs.encoder_settings.Statement.{statement}
 use Rattle.kyzgultam.proofs.encoder_settings.Tie as tie
 

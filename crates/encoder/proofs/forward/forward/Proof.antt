@@ -3,7 +3,8 @@ use mathlib.Core.Path.{sym, ap, _∙_}
 use borrow.Author.Needs.{needs}
 use lib.ListN.{length}
 use Rattle.encoder.specs.Forward.{forwardRun, answered, outLeft, encodedBy, outBy, scratchBy, encodedOf, outOf, scratchOf}
-use Rattle.encoder.proofs.Ready.{accepted-says, run-fits, run-is}
+use Rattle.demands.proofs.Accepted.{accepted-says}
+use Rattle.encoder.proofs.Ready.{run-fits, run-is}
 use Rattle.encoder.proofs.forward.forward.Statement.{statement}
 use Rattle.encoder.proofs.forward.forward.Tie as tie
 

@@ -1,12 +1,12 @@
--- `encoder::settings::lengths` meets its contract. Assumes nothing.
+-- `demands::settings::lengths` meets its contract. Assumes nothing.
 use lib.Dec.{eqb}
 use borrow.Author.Tests.{le-leb, lt-leb, eq-eqb, ne-eqb, not-true, not-false}
 use mathlib.Core.Path.{_≡_}
 use mathlib.Core.Bool.{true, _&&_}
 use borrow.Author.Needs.{needs}
-use Rattle.encoder.specs.Settings.{lengths}
-use Rattle.encoder.proofs.settings.lengths.Statement.{statement}
-use Rattle.encoder.proofs.settings.lengths.Tie as tie
+use Rattle.demands.specs.Settings.{lengths}
+use Rattle.demands.proofs.settings.lengths.Statement.{statement}
+use Rattle.demands.proofs.settings.lengths.Tie as tie
 
 tables : (c : tie.Else2) → eqb (c .before .before .before .before .args .cos) (c .before .tables-needed .result) && eqb (c .before .before .before .before .args .sin) (c .before .tables-needed .result) ≡ true
 tables c = not-false _ (c .if2 .left)

@@ -1,7 +1,7 @@
 // What a call's settings and lengths say before anything is read or written.
 ghost use mathlib.Core.Path.{_≡_};
-ghost use Rattle.encoder.specs.Settings as S;
-ghost use Rattle.encoder.specs.Settings.{ranged, scalingAllowed, allowed, weightFloats, tableFloats, scratchFloats, checkedOf, Bounded, Counted};
+ghost use Rattle.demands.specs.Settings as S;
+ghost use Rattle.demands.specs.Settings.{ranged, scalingAllowed, allowed, weightFloats, tableFloats, scratchFloats, checkedOf, Bounded, Counted};
 use crate::Checked;
 use crate::EncoderSettings;
 use limits::Refusal;
@@ -105,7 +105,7 @@ pub(crate) fn lengths(
     }
 }
 
-pub(crate) fn checked(
+pub fn checked(
     s: EncoderSettings,
     grid_h: usize,
     grid_w: usize,

@@ -13,10 +13,10 @@ use Rattle.limits.specs.Settings as P
 use Rattle.limits.specs.Settings.{within}
 use Rattle.limits.specs.Patches.{patchFloats}
 use Rattle.limits.specs.Shape.{most, shaped}
-use Rattle.encoder.specs.declared.EncoderSettings.{EncoderSettings}
-use Rattle.encoder.specs.declared.Checked.{Checked}
-use Rattle.encoder.specs.declared.Checked.the-variants.{Accepted, Refused}
-use Rattle.encoder.specs.Weights.{layerFloats, projectorFloats}
+use Rattle.demands.specs.declared.EncoderSettings.{EncoderSettings}
+use Rattle.demands.specs.declared.Checked.{Checked}
+use Rattle.demands.specs.declared.Checked.the-variants.{Accepted, Refused}
+use Rattle.demands.specs.Weights.{layerFloats, projectorFloats}
 
 abbrev pub ranged : EncoderSettings → Bool
 ranged s =

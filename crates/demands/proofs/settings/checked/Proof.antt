@@ -1,4 +1,4 @@
--- `encoder::settings::checked` meets its contract. Assumes nothing.
+-- `demands::settings::checked` meets its contract. Assumes nothing.
 use borrow.Author.Tests.{not-true, not-false}
 use mathlib.Core.Path.{_≡_, sym, _∙_}
 use mathlib.Core.Bool.{true}
@@ -8,10 +8,10 @@ use native.Mathlib.Omega.{arith}
 use borrow.Author.Needs.{needs}
 use Rattle.limits.proofs.Places.{times}
 use Rattle.limits.proofs.Shapes.{shaped-says}
-use Rattle.encoder.specs.Settings.{allowed, checkedOf, Bounded}
-use Rattle.encoder.proofs.Bounds.{allowed-says, bounded, counted}
-use Rattle.encoder.proofs.settings.checked.Statement.{statement}
-use Rattle.encoder.proofs.settings.checked.Tie as tie
+use Rattle.demands.specs.Settings.{allowed, checkedOf, Bounded}
+use Rattle.demands.proofs.Bounds.{allowed-says, bounded, counted}
+use Rattle.demands.proofs.settings.checked.Statement.{statement}
+use Rattle.demands.proofs.settings.checked.Tie as tie
 
 settings : (c : tie.Else1) → allowed (c .before .before .args .s) ≡ true
 settings c = sym (c .before .settings-allowed .ensures) ∙ not-false _ (c .if1 .left)

@@ -14,9 +14,9 @@ use Rattle.limits.specs.Shape.{most}
 use Rattle.limits.proofs.Places.{square, times}
 use Rattle.limits.proofs.Sides as Sides
 use Rattle.limits.proofs.Sides.{within-says}
-use Rattle.encoder.specs.declared.EncoderSettings.{EncoderSettings}
-use Rattle.encoder.specs.Weights.{layerFloats}
-use Rattle.encoder.specs.Settings.{ranged, scalingAllowed, allowed, Bounded, Counted}
+use Rattle.demands.specs.declared.EncoderSettings.{EncoderSettings}
+use Rattle.demands.specs.Weights.{layerFloats}
+use Rattle.demands.specs.Settings.{ranged, scalingAllowed, allowed, Bounded, Counted}
 
 both : (a b : Bool) → a && b ≡ true → (a ≡ true) × (b ≡ true)
 both a b e = (and-left a b e, and-right a b e)

@@ -1,4 +1,4 @@
--- `encoder::settings::settings_allowed` meets its contract. Assumes nothing.
+-- `demands::settings::settings_allowed` meets its contract. Assumes nothing.
 use borrow.Author.Tests.{not-true, not-false}
 use mathlib.Core.Path.{_≡_, sym, _∙_}
 use mathlib.Core.Bool.{true}
@@ -6,10 +6,10 @@ use native.Mathlib.Omega.{arith}
 use borrow.Author.Needs.{needs}
 use Rattle.limits.proofs.Places.{times}
 use Rattle.limits.specs.Settings as P
-use Rattle.encoder.specs.Settings.{ranged, allowed}
-use Rattle.encoder.proofs.Bounds.{ranges-say}
-use Rattle.encoder.proofs.settings.settings_allowed.Statement.{statement}
-use Rattle.encoder.proofs.settings.settings_allowed.Tie as tie
+use Rattle.demands.specs.Settings.{ranged, allowed}
+use Rattle.demands.proofs.Bounds.{ranges-say}
+use Rattle.demands.proofs.settings.settings_allowed.Statement.{statement}
+use Rattle.demands.proofs.settings.settings_allowed.Tie as tie
 
 picture : (c : tie.Else1) → P.allowed (c .before .before .before .args .s .picture) ≡ true
 picture c = sym (c .before .settings-allowed .ensures) ∙ not-false _ (c .if1 .left)
