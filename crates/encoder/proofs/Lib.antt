@@ -1,8 +1,2 @@
-pub mod Lives
-pub mod Turns
-pub mod Merges
-pub mod Projects
-pub mod Embeds
-pub mod Runs
-pub mod Ready
+pub mod Leaves
 pub mod Unique

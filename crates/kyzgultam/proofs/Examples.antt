@@ -16,7 +16,7 @@ use Rattle.limits.specs.Settings.{allowed}
 use Rattle.limits.specs.Sides.{side, resized}
 use Rattle.resize.specs.Resize.{whole, near, blend, toByte, mix}
 use Rattle.picture.specs.Preprocess.{preprocessed, resizedBytes}
-use Rattle.encoder.specs.Merge.{mergeOf}
+use Rattle.stages.specs.Merge.{mergeOf}
 
 -- ---- bf16, half, E, root
 

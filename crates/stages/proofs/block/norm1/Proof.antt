@@ -1,0 +1,48 @@
+-- `stages::block::norm1` meets its contract. Assumes nothing.
+use mathlib.Core.Path.{ap, _∙_}
+use native.Mathlib.Omega.{arith}
+use borrow.Author.Needs.{needs}
+use lib.ListN.{length}
+use Rattle.buffers.proofs.Regions.{length-region}
+use Rattle.buffers.specs.Region.{before}
+use Rattle.stages.specs.Block.{normed1}
+use Rattle.stages.specs.Sizes.{dimOf}
+use Rattle.stages.proofs.block.norm1.Statement.{statement}
+use Rattle.stages.proofs.block.norm1.Tie as tie
+
+add-dim : tie.Need-add-dim
+add-dim c = search needs
+
+mul-dim : tie.Need-mul-dim
+mul-dim c = search needs
+
+mul-norm-fine : tie.Need-mul-norm-fine
+mul-norm-fine c = search needs
+
+part-requires : tie.Need-part-requires
+part-requires c κs = search needs
+
+norm-fine-requires : tie.Need-norm-fine-requires
+norm-fine-requires c κs =
+    let a = c .before .before .before .before .before .args in
+    let g = c .before .before .before .before .before .pre in
+    let d = dimOf (a .z) in
+    record {
+      small = g .small;
+      xin = omega arith;
+      yin = omega arith;
+      win = ap length (c .part .ensures) ∙ length-region (a .w .now) 0 d (omega arith);
+      apart = before (omega arith);
+    }
+
+same-length : tie.Need-same-length
+same-length c = search needs
+
+returns : tie.Need-returns
+unfolding normed1
+returns c = rw (c .before .before .before .part .ensures) at (c .before .before .norm-fine .ensures)
+
+pub norm1-spec : {M : Type 1} → statement M
+norm1-spec =
+    tie.close
+    (tie.spec add-dim mul-dim mul-norm-fine part-requires norm-fine-requires same-length returns)

@@ -1,0 +1,31 @@
+-- `stages::stage::gate_fine` meets its contract. Assumes nothing.
+use borrow.Author.Needs.{needs}
+use Rattle.buffers.specs.Region.{region}
+use Rattle.kernels.specs.Element.{gated}
+use Rattle.stages.proofs.Lives.{wrote}
+use Rattle.kernels.proofs.Lengths.{length-gated}
+use Rattle.kernels.proofs.Rooms.{pair-fits}
+use Rattle.stages.proofs.stage.gate_fine.Statement.{statement}
+use Rattle.stages.proofs.stage.gate_fine.Tie as tie
+
+gate-requires : tie.Need-gate-requires
+gate-requires c κs = search needs
+
+part-requires : tie.Need-part-requires
+part-requires c κs = search needs
+
+finite-requires : tie.Need-finite-requires
+finite-requires c κs = search needs
+
+same-length : tie.Need-same-length
+same-length c = search needs
+
+returns : tie.Need-returns
+returns c =
+    let a = c .before .before .before .before .before .before .before .before .args in
+    wrote (a .s .now) (c .before .before .before .before .before .gate .last .0) (a .y) (a .n) (gated (a .n) (region (a .s .now) (a .y) (a .n)) (region (a .s .now) (a .z) (a .n))) (c .before .part .result .now) (a .ok) (c .finite .result)
+    (rw (pair-fits (c .before .before .before .before .before .before .before .before .pre)) at (c .before .before .before .before .before .gate .ensures)) (length-gated (a .n) (region (a .s .now) (a .y) (a .n)) (region (a .s .now) (a .z) (a .n))) (c .before .before .before .before .before .before .before .before .pre .yin) (c .before .part .ensures) (c .finite .ensures)
+
+pub gate-fine-spec : {M : Type 1} → statement M
+gate-fine-spec =
+    tie.close (tie.spec gate-requires part-requires finite-requires same-length returns)
