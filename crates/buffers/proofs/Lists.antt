@@ -11,7 +11,7 @@ use lib.ListN.{length, set, getD, length-append, List·getD-append}
 use lib.Seq.{getD-at, getD-append-add, ext-getD}
 use Rattle.buffers.specs.Region.{put}
 use Rattle.buffers.specs.Rows.{tab, rows, grid, all, first}
-use Rattle.buffers.proofs.Regions.{put-one, put-append}
+use Rattle.buffers.proofs.Regions.{put-one, put-append, put-all}
 
 -- row c of m rows of n ends inside them
 pub fit : {c m : ℕ} (n : ℕ) → c < m → c * n + n ≤ m * n
@@ -47,6 +47,12 @@ module _ {A : Type 0} where
 
   pub tab-step-0 : (s t : List A) (c : ℕ) (f : ℕ → A) (v : A) → t ≡ put s 0 (tab c f) → v ≡ f c → set t c v ≡ put s 0 (tab (c + 1) f)
   tab-step-0 s t c f v e g = ap (λ (k : ℕ). set t k v) (sym (zero-add c)) ∙ tab-step s t 0 c f v e g
+
+  -- and its end, where they are as many as s has
+  pub tab-all : (s t : List A) (n c : ℕ) (f : ℕ → A) → length s ≡ n → c ≤ n → n ≤ c → t ≡ put s 0 (tab c f) → t ≡ tab n f
+  tab-all s t n c f e h k g =
+      let m : c ≡ n = omega arith in
+      g ∙ ap (λ (i : ℕ). put s 0 (tab i f)) m ∙ put-all s (tab n f) (length-tab n f ∙ sym e)
 
   module _ (f : ℕ → List A) (m : ℕ) (len : (i : ℕ) → length (f i) ≡ m) where
     pub length-rows : (n : ℕ) → length (rows n f) ≡ n * m

@@ -1,15 +1,16 @@
 -- The turns of the loops that write row after row, or one value after another, in the scratch; and what is said of
 -- a scratch with a part blanked out. Assumes nothing.
-use mathlib.Core.Path.{_≡_, sym, ap, _∙_}
+use mathlib.Core.Path.{_≡_, refl, sym, ap, _∙_}
 use mathlib.Core.List.{List, _++_}
 use Prim.Native.Nat.{ℕ, _+_, _*_, _≤_, _<_}
+use native.Mathlib.Nat.{add-assoc}
 use native.Mathlib.Omega.{arith}
 use lib.ListN.{length, set, getD, take, drop}
 use lib.Seq.{drop-drop}
 use Rattle.buffers.specs.Rows.{tab}
 use Rattle.buffers.specs.Region.{Apart, after, region, put}
-use Rattle.buffers.proofs.Regions.{put-put, put-comm, put-split, region-put, region-region, length-region, getD-put, getD-region}
-use Rattle.buffers.proofs.Lists.{fit, length-tab, put-tab, length-rows, put-rows}
+use Rattle.buffers.proofs.Regions.{apart-sub, put-append, put-put, put-comm, put-split, region-put, region-region, length-region, getD-put, getD-region}
+use Rattle.buffers.proofs.Lists.{fit, length-tab, tab-ext, tab-add, put-tab, length-rows, put-rows}
 use Rattle.buffers.specs.Each.{eachRow, blank}
 
 module _ {A : Type 0} where
@@ -40,6 +41,26 @@ module _ {A : Type 0} where
         ← getD-region s z n i d h,
       )
       (put-tab s y i G)
+
+  -- a turn that does so for k of them at once
+  pub elems-step : (s : List A) (y z n i k : ℕ) (d : A) (F : A → A → A) → i + k ≤ n → Apart (z + i) k y i
+      → (let t = put s y (tab i (λ j. F (getD (region s y n) j d) (getD (region s z n) j d))) in put t (y + i) (tab k (λ j. F (getD t (y + i + j) d) (getD t (z + i + j) d))))
+      ≡ put s y (tab (i + k) (λ j. F (getD (region s y n) j d) (getD (region s z n) j d)))
+  elems-step s y z n i k d F h a =
+      let G : ℕ → A = λ j. F (getD (region s y n) j d) (getD (region s z n) j d) in
+      let e = length-tab i G in
+      let t = put s y (tab i G) in
+      ap (put t (y + i)) (tab-ext k _ (λ j. G (i + j))
+      (λ j l. rw (
+        getD-put s y (tab i G) (y + i + j) d (rw e (after (omega arith))),
+        getD-put s y (tab i G) (z + i + j) d (rw e (apart-sub a (omega arith) (omega arith) (omega arith) (omega arith))),
+        add-assoc y i j,
+        add-assoc z i j,
+        ← getD-region s y n (i + j) d (omega arith),
+        ← getD-region s z n (i + j) d (omega arith),
+      )))
+      ∙ put-append s y (tab i G) (tab k (λ j. G (i + j))) (y + i) (rw e refl)
+      ∙ ap (put s y) (sym (tab-add i k G))
 
   -- a write in the blank does not show
   pub blank-same : (d : A) (at n : ℕ) (s ys : List A) → length ys ≡ n → blank d at n (put s at ys) ≡ blank d at n s

@@ -1,2 +1,3 @@
 pub mod Twos
 pub mod Range
+pub mod Terms

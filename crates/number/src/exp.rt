@@ -1,10 +1,10 @@
 // E, the exponential of the rules, and F, its f64 before narrowing.
 ghost use mathlib.Core.Path.{_≡_};
 ghost use Rattle.floats.specs.Whole.{AtMost};
-ghost use Rattle.number.specs.Exp.{one, series, twoTo, F, E, expBits};
+ghost use Rattle.number.specs.Exp.{one, series, twoTo, kOf, rWith, F, E, expBits};
 
 // 2^k for a whole number k.
-fn two_to(k: f64) -> f64
+pub(crate) fn two_to(k: f64) -> f64
     requires { ⌜ AtMost 1000 k ⌝ }
     ensures { λ r. ⌜ r ≡ twoTo k ⌝ }
 {
@@ -27,14 +27,28 @@ fn series_of(r: f64) -> f64
     p
 }
 
+// k of the rule, for x in f64.
+pub(crate) fn k_of(x: f64) -> f64
+    ensures { λ k. ⌜ k ≡ kOf x ⌝ }
+{
+    let l = f64::from_bits(0x3FE6_2E42_FEFA_39EF);
+    floats::whole::floor_f64(x / l + 0.5)
+}
+
+// r of the rule, where k is x's.
+pub(crate) fn r_of(x: f64, k: f64) -> f64
+    ensures { λ r. ⌜ r ≡ rWith x k ⌝ }
+{
+    x - k * f64::from_bits(0x3FE6_2E42_FEFA_39EF)
+}
+
 // F. The bound on x bounds k, so that 2^k is an f64.
 pub(crate) fn exp_f64(x: f64) -> f64
     requires { ⌜ AtMost 104 x ⌝ }
     ensures { λ r. ⌜ r ≡ F x ⌝ }
 {
-    let l = f64::from_bits(0x3FE6_2E42_FEFA_39EF);
-    let k = floats::whole::floor_f64(x / l + 0.5);
-    let p = series_of(x - k * l);
+    let k = k_of(x);
+    let p = series_of(r_of(x, k));
     p * two_to(k)
 }
 

@@ -4,6 +4,7 @@
 pub mod bf16;
 pub mod exp;
 pub mod half;
+pub mod lanes;
 pub mod root;
 pub mod tanh;
 

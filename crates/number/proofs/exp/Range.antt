@@ -9,7 +9,10 @@ use lib.Dec.{T, ltb, nltb→le, lit<, lit≤}
 use lib.Ieee.{Float, nan, inf, fin, binary32, binary64, up, down, neg, add, div, ne, le, isNan, ofBits}
 use lib.Ieee.Compare.{nan-differs}
 use Rattle.floats.specs.Whole.{oneHalf, AtMost}
-use Rattle.number.specs.Exp.{L, kOf}
+use borrow.Author.Tests.{not-true}
+use Rattle.floats.specs.Narrow.{narrow}
+use Rattle.number.specs.Exp.{L, kOf, F, top, bottom, between, E}
+use Rattle.buffers.proofs.Lists.{and-left, and-right}
 use Rattle.floats.proofs.Bound.{at-most-add, at-most-div, at-most-floor}
 
 -- a test `a < b or a = b` that failed
@@ -53,3 +56,17 @@ pub wider : (i n : ℕ) (x : Float) → i ≤ n → AtMost i x → AtMost n x
 wider i n nan l h = h
 wider i n (inf s) l h = h
 wider i n (fin s m e) l h = let w : i * down e ≤ n * down e = mul-le-mul-right (down e) l in omega arith
+
+-- so that 2 ^ k is an f64
+pub k-fits : (x : Float) → AtMost 104 x → AtMost 1000 (kOf x)
+k-fits x h = wider 152 1000 (kOf x) (lit≤ tt) (k-at-most x h)
+
+-- between the ends E is F narrowed, and x is at most 104 in size
+pub between-says : (x : Float) → between x ≡ true → AtMost 104 x × (E x ≡ narrow (F x))
+unfolding E ofBits neg
+between-says x h =
+    let a = not-true (ne x x) (and-left (not (ne x x)) _ h) in
+    let g = and-right (not (ne x x)) _ h in
+    let b = not-true (le top x) (and-left (not (le top x)) _ g) in
+    let d = not-true (le x bottom) (and-right (not (le top x)) _ g) in
+    (in-range 104 89 0 13 3 x (lit≤ tt) (lit≤ tt) a b d, rw (a, b, d))

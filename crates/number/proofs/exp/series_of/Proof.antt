@@ -1,13 +1,10 @@
 -- `exp::series_of` meets its contract. The invariant: what is left of the series, from p at i on, is the series from 1 at 10 on. The measure is i. Assumes nothing.
-use mathlib.Core.Path.{_≡_, refl, sym, ap, _∙_}
-use Prim.Native.Nat.{ℕ, zero, suc, _-_, _≤_, _<_}
-use native.Mathlib.Nat.{lt-irrefl}
+use mathlib.Core.Path.{_≡_, refl, sym, _∙_}
+use Prim.Native.Nat.{_≤_}
 use native.Mathlib.Omega.{arith}
 use borrow.Author.Needs.{needs}
-use lib.Arith.{le-zero}
-use lib.IntN.{pos}
-use lib.Ieee.{Float, binary64, add, mul, div, ofInt}
 use Rattle.number.specs.Exp.{series, one}
+use Rattle.number.proofs.exp.Terms.{series-step, series-end}
 use Rattle.number.proofs.exp.series_of.Statement.{statement}
 use Rattle.number.proofs.exp.series_of.Tie as tie
 
@@ -16,15 +13,6 @@ Inv-loop r p₀ i₀ p i = (series r i p ≡ series r 10 one) × (i ≤ 10)
 
 abbrev μ-loop : tie.MeasureT-loop
 μ-loop r p₀ i₀ p i = i
-
-step : (r : Float) (i : ℕ) (p : Float) → 0 < i → series r (i - 1) (add binary64 one (div binary64 (mul binary64 r p) (ofInt binary64 (pos i)))) ≡ series r i p
-unfolding series
-step r zero p h = absurd (lt-irrefl 0 h)
-step r (suc i) p h = let e : suc i - 1 ≡ i = omega arith in ap (λ (n : ℕ). series r n (add binary64 one (div binary64 (mul binary64 r p) (ofInt binary64 (pos (suc i)))))) e
-
-last : (r p : Float) (i : ℕ) → i ≤ 0 → series r i p ≡ p
-unfolding series
-last r p i h = ap (λ (n : ℕ). series r n p) (le-zero h)
 
 loop-holds : tie.Need-loop-holds Inv-loop μ-loop
 loop-holds c = (refl, omega arith)
@@ -41,10 +29,10 @@ loop-less c = omega arith
 loop-again : tie.Need-loop-again Inv-loop μ-loop
 loop-again c =
     let l = c .before .before .loop in
-    (step (c .before .before .before .args .r) (l .i) (l .p) (c .before .loop-test .taken) ∙ l .inv .0, omega arith)
+    (series-step (c .before .before .before .args .r) (l .i) (l .p) (c .before .loop-test .taken) ∙ l .inv .0, omega arith)
 
 returns : tie.Need-returns Inv-loop μ-loop
-returns c = sym (last (c .before .before .args .r) (c .before .loop .p) (c .before .loop .i) (c .loop-test .left)) ∙ c .before .loop .inv .0
+returns c = sym (series-end (c .before .before .args .r) (c .before .loop .p) (c .before .loop .i) (c .loop-test .left)) ∙ c .before .loop .inv .0
 
 pub series-of-spec : {M : Type 1} → statement M
 series-of-spec =
