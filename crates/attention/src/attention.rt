@@ -11,15 +11,15 @@ ghost use Rattle.kernels.specs.Finite.{sound};
 ghost use Rattle.sums.specs.Lanes.{spread};
 ghost use Rattle.sums.specs.Weighed.{weighedRow};
 ghost use Rattle.sums.specs.Fits.{WeighFits};
-ghost use Rattle.attention.specs.Attention.{maxOf, totalOf, inverseOf, expLess, scaled, headScores, headSums, softmaxOf, tokenScores, tokenSums, scoresOf, attentionOf};
+ghost use Rattle.attention.specs.Attention.{maxOf, totalOf, inverseOf, scaled, headScores, headSums, softmaxOf, tokenScores, tokenSums, scoresOf, attentionOf};
 ghost use Rattle.attention.specs.Keys.{turnedKeys, keysOf};
 ghost use Rattle.attention.specs.Room.{attendFits};
 ghost use Rattle.attention.specs.Fits.{TurnFits, KeyAt, HeadAt, TokenAt, AttendFits};
+use crate::exps::exp_row;
 use crate::room::attend_fits;
 use buffers::clear_at;
 use buffers::part;
 use kernels::finite::finite;
-use number::exp::exp_f32;
 use sums::weigh::weigh;
 
 // b where a < b, else a.
@@ -57,18 +57,6 @@ pub(crate) fn inverse(x: f32) -> f32
     ensures { λ r. ⌜ r ≡ inverseOf x ⌝ }
 {
     if 0.0 < x { 1.0 / x } else { 0.0 }
-}
-
-// E of each value of the row less m.
-pub(crate) fn exp_row(s: &mut [f32], y: usize, n: usize, m: f32)
-    requires { ⌜ y + n ≤ length (now s) ⌝ }
-    ensures { λ _. ⌜ now (s .exit) ≡ put (now (s .entry)) y (expLess n m (region (now (s .entry)) y n)) ⌝ }
-{
-    let mut i = 0usize;
-    while i < n {
-        s[y + i] = exp_f32(s[y + i] - m);
-        i += 1;
-    }
 }
 
 pub(crate) fn scale_row(s: &mut [f32], y: usize, n: usize, m: f32)

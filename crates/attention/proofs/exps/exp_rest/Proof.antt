@@ -1,4 +1,4 @@
--- `attention::attention::exp_row` meets its contract. Assumes nothing.
+-- `attention::exps::exp_rest` meets its contract. Assumes nothing.
 use mathlib.Core.Path.{_≡_, ap, _∙_}
 use Prim.Native.Nat.{_-_, _≤_}
 use native.Mathlib.Omega.{arith}
@@ -11,8 +11,8 @@ use Rattle.buffers.specs.Rows.{tab}
 use Rattle.buffers.specs.Each.{both}
 use Rattle.attention.specs.Attention.{expLess}
 use Rattle.buffers.proofs.Steps.{elem-step}
-use Rattle.attention.proofs.attention.exp_row.Statement.{statement}
-use Rattle.attention.proofs.attention.exp_row.Tie as tie
+use Rattle.attention.proofs.exps.exp_rest.Statement.{statement}
+use Rattle.attention.proofs.exps.exp_rest.Tie as tie
 
 abbrev Inv-loop : tie.InvT-loop
 Inv-loop s₀ y n m i₀ s i = (i ≤ n) × (length s ≡ length s₀) × (s ≡ put s₀ y (both nan i (λ a b. E (sub binary32 a m)) (region s₀ y n) (region s₀ y n)))
@@ -69,8 +69,8 @@ returns c =
     let a = c .before .before .before .args in
     c .before .loop .inv .2 ∙ ap (λ k. put (a .s .now) (a .y) (both nan k (λ u v. E (sub binary32 u (a .m))) (region (a .s .now) (a .y) (a .n)) (region (a .s .now) (a .y) (a .n)))) (omega arith)
 
-pub exp-row-spec : {M : Type 1} → statement M
-exp-row-spec =
+pub exp-rest-spec : {M : Type 1} → statement M
+exp-rest-spec =
     tie.close
     (tie.spec
     Inv-loop
