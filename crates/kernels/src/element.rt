@@ -9,6 +9,7 @@ ghost use Rattle.buffers.specs.Room.{whereFits};
 ghost use Rattle.kernels.specs.Room.{pairFits};
 ghost use Rattle.kernels.specs.Fits.{PairFits};
 use crate::room::pair_fits;
+use crate::silus::gate_values;
 use buffers::room::inside;
 use number::bf16::bf16_f32;
 use number::exp::exp_f32;
@@ -33,17 +34,6 @@ pub(crate) fn add_values(s: &mut [f32], y: usize, z: usize, n: usize)
     let mut i = 0usize;
     while i < n {
         s[y + i] = s[y + i] + s[z + i];
-        i += 1;
-    }
-}
-
-pub(crate) fn gate_values(s: &mut [f32], y: usize, z: usize, n: usize)
-    requires { ⌜ PairFits (length (now s)) y z n ⌝ }
-    ensures { λ _. ⌜ now (s .exit) ≡ put (now (s .entry)) y (gated n (region (now (s .entry)) y n) (region (now (s .entry)) z n)) ⌝ }
-{
-    let mut i = 0usize;
-    while i < n {
-        s[y + i] = silu(s[y + i]) * s[z + i];
         i += 1;
     }
 }

@@ -4,3 +4,4 @@ pub mod finite;
 pub mod norm;
 mod room;
 pub mod rotate;
+mod silus;

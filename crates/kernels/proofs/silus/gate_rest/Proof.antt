@@ -1,4 +1,4 @@
--- `kernels::element::gate_values` meets its contract. Assumes nothing.
+-- `kernels::silus::gate_rest` meets its contract. Assumes nothing.
 use mathlib.Core.Path.{_≡_, ap, _∙_}
 use Prim.Native.Nat.{_-_, _≤_}
 use native.Mathlib.Omega.{arith}
@@ -11,8 +11,8 @@ use Rattle.buffers.specs.Rows.{tab}
 use Rattle.kernels.specs.Element.{siluOf, gated}
 use Rattle.buffers.specs.Each.{both}
 use Rattle.buffers.proofs.Steps.{elem-step}
-use Rattle.kernels.proofs.element.gate_values.Statement.{statement}
-use Rattle.kernels.proofs.element.gate_values.Tie as tie
+use Rattle.kernels.proofs.silus.gate_rest.Statement.{statement}
+use Rattle.kernels.proofs.silus.gate_rest.Tie as tie
 
 abbrev Inv-loop : tie.InvT-loop
 Inv-loop s₀ y z n i₀ s i = (i ≤ n) × (length s ≡ length s₀) × (s ≡ put s₀ y (both nan i (λ a b. mul binary32 (siluOf a) b) (region s₀ y n) (region s₀ z n)))
@@ -79,8 +79,8 @@ returns c =
     let a = c .before .before .before .args in
     c .before .loop .inv .2 ∙ ap (λ m. put (a .s .now) (a .y) (both nan m (λ u v. mul binary32 (siluOf u) v) (region (a .s .now) (a .y) (a .n)) (region (a .s .now) (a .z) (a .n)))) (omega arith)
 
-pub gate-values-spec : {M : Type 1} → statement M
-gate-values-spec =
+pub gate-rest-spec : {M : Type 1} → statement M
+gate-rest-spec =
     tie.close
     (tie.spec
     Inv-loop
