@@ -4,7 +4,7 @@ use mathlib.Core.List.{List}
 use Prim.Native.Nat.{ℕ, zero, suc, _+_, _*_}
 use lib.ListN.{length, getD}
 use lib.Ieee.{Float, nan, inf, binary32, mul, sub, div, lt}
-use Rattle.number.specs.Exp.{E}
+use Rattle.exps.specs.Exp.{E}
 use Rattle.buffers.specs.Rows.{tab, rows}
 use Rattle.buffers.specs.Region.{region, zero32}
 use Rattle.buffers.specs.Each.{both}

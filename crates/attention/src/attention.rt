@@ -15,8 +15,8 @@ ghost use Rattle.attention.specs.Attention.{maxOf, totalOf, inverseOf, s
 ghost use Rattle.attention.specs.Keys.{turnedKeys, keysOf};
 ghost use Rattle.attention.specs.Room.{attendFits};
 ghost use Rattle.attention.specs.Fits.{TurnFits, KeyAt, HeadAt, TokenAt, AttendFits};
-use crate::exps::exp_row;
 use crate::room::attend_fits;
+use crate::soften::exp_row;
 use buffers::clear_at;
 use buffers::part;
 use kernels::finite::finite;

@@ -1,4 +1,4 @@
 // Attention, with one score row for the source's matrix of scores.
 pub mod attention;
-mod exps;
 mod room;
+mod soften;

@@ -3,9 +3,9 @@
 use mathlib.Core.List.{List}
 use Prim.Native.Nat.{ℕ}
 use lib.Ieee.{Float, nan, binary32, add, mul, div, neg, ofBits}
-use Rattle.number.specs.Bf16.{bf16Of}
-use Rattle.number.specs.Exp.{E}
-use Rattle.number.specs.Tanh.{T}
+use Rattle.patterns.specs.Bf16.{bf16Of}
+use Rattle.exps.specs.Exp.{E}
+use Rattle.exps.specs.Tanh.{T}
 use Rattle.buffers.specs.Each.{both}
 
 abbrev pub one32 : Float

@@ -4,7 +4,7 @@ use Prim.Native.Nat.{ℕ}
 use lib.IntN.{pos}
 use lib.ListN.{getD}
 use lib.Ieee.{Float, nan, binary32, add, mul, div, ofBits, ofInt}
-use Rattle.number.specs.Root.{rootOf}
+use Rattle.patterns.specs.Root.{rootOf}
 use Rattle.buffers.specs.Rows.{tab}
 use Rattle.buffers.specs.Each.{eachRow}
 use Rattle.sums.specs.Linear.{dotOf}

@@ -11,9 +11,9 @@ ghost use Rattle.kernels.specs.Fits.{PairFits};
 use crate::room::pair_fits;
 use crate::silus::gate_values;
 use buffers::room::inside;
-use number::bf16::bf16_f32;
-use number::exp::exp_f32;
-use number::tanh::tanh_f32;
+use exps::exp::exp_f32;
+use exps::tanh::tanh_f32;
+use patterns::bf16::bf16_f32;
 
 pub(crate) fn silu(x: f32) -> f32
     ensures { λ r. ⌜ r ≡ siluOf x ⌝ }

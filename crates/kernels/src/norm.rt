@@ -10,7 +10,7 @@ ghost use Rattle.kernels.specs.Room.{normFits};
 ghost use Rattle.kernels.specs.Fits.{NormRowFits, NormFits};
 use crate::room::norm_fits;
 use buffers::part;
-use number::root::root_f32;
+use patterns::root::root_f32;
 
 pub(crate) fn dot(x: &[f32], w: &[f32]) -> f32
     requires { ⌜ length (now x) ≡ length (now w) ⌝ }

@@ -8,7 +8,7 @@ ghost use Rattle.buffers.specs.Rows.{tab};
 ghost use Rattle.kernels.specs.Element.{one32, gated};
 ghost use Rattle.kernels.specs.Fits.{PairFits};
 use crate::element::silu;
-use number::lanes::exp_sixteen;
+use exps::lanes::exp_sixteen;
 
 fn sixteen_negated(s: &[f32], y: usize) -> [f32; 16]
     requires { ⌜ y + 16 ≤ length (now s) ⌝ }

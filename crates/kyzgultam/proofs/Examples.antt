@@ -5,11 +5,11 @@ use Prim.Native.Nat.{ℕ, _+_, _*_}
 use lib.ListN.{getD}
 use lib.Ieee.{Float, nan, add, sub, mul, div, lt, le, ne, ofInt, ofBits, toBits, toUnsigned, neg, round, size}
 use Rattle.buffers.specs.Rows.{tab, rows}
-use Rattle.number.specs.Bf16.{bf16}
-use Rattle.number.specs.Half.{subnormal, halfSize, half}
-use Rattle.number.specs.Root.{wholeRoot, nearRoot, rootOfNumber, root}
+use Rattle.patterns.specs.Bf16.{bf16}
+use Rattle.patterns.specs.Half.{subnormal, halfSize, half}
+use Rattle.patterns.specs.Root.{wholeRoot, nearRoot, rootOfNumber, root}
 use Rattle.floats.specs.Narrow.{narrow}
-use Rattle.number.specs.Exp.{series, E, expBits}
+use Rattle.exps.specs.Exp.{series, E, expBits}
 use Rattle.limits.specs.declared.PictureSettings.{PictureSettings}
 use Rattle.picture.specs.declared.Preprocessed.{Preprocessed}
 use Rattle.limits.specs.Settings.{allowed}

@@ -1,4 +1,4 @@
-// Replays answers of the Rust against the crate `number`, and writes how many records of each rule
+// Replays answers of the Rust against `patterns` and `exps`, and writes how many records of each rule
 // agree and how many records do not.
 //
 // Standard input holds a record a line, 20 bytes: the rule's letter (b, h, r, e, t for bf16, half,

@@ -5,7 +5,7 @@ use native.Mathlib.Omega.{arith}
 use borrow.Author.Needs.{needs}
 use lib.ListN.{length, length-set}
 use lib.Ieee.{nan}
-use Rattle.number.specs.Bf16.{bf16Of}
+use Rattle.patterns.specs.Bf16.{bf16Of}
 use Rattle.buffers.specs.Region.{after, region, put}
 use Rattle.buffers.specs.Rows.{tab}
 use Rattle.kernels.specs.Element.{rounded}

@@ -6,7 +6,7 @@ use native.Mathlib.Omega.{arith}
 use borrow.Author.Needs.{needs}
 use lib.ListN.{length, getD}
 use lib.Ieee.{Float, nan, binary32, add, mul, div, neg}
-use Rattle.number.specs.Exp.{E}
+use Rattle.exps.specs.Exp.{E}
 use Rattle.buffers.specs.Rows.{tab}
 use Rattle.buffers.specs.Region.{region, put}
 use Rattle.buffers.proofs.Lists.{getD-tab, tab-ext}

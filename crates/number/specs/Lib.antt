@@ -1,5 +1,0 @@
-pub mod Bf16
-pub mod Half
-pub mod Root
-pub mod Exp
-pub mod Tanh

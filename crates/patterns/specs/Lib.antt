@@ -1,0 +1,3 @@
+pub mod Bf16
+pub mod Half
+pub mod Root
