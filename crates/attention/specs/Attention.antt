@@ -6,11 +6,10 @@ use lib.ListN.{length, getD}
 use lib.Ieee.{Float, nan, inf, binary32, mul, sub, div, lt}
 use Rattle.exps.specs.Exp.{E}
 use Rattle.buffers.specs.Rows.{tab, rows}
-use Rattle.buffers.specs.Region.{region, zero32}
+use Rattle.buffers.specs.Region.{region, zero32, one32}
 use Rattle.buffers.specs.Each.{both}
 use Rattle.sums.specs.Linear.{sumOf, dotOf}
 use Rattle.sums.specs.Weighed.{weighedRow}
-use Rattle.kernels.specs.Element.{one32}
 
 -- the dot product of the query with key j's part at o, for each of t keys of dim, times the scaling
 unfoldable pub scoreRow : ℕ → ℕ → ℕ → ℕ → Float → List Float → List Float → List Float

@@ -30,9 +30,12 @@ module _ {A : Type 0} where
   unfoldable pub copied : List A → List A → List A
   copied ys old = cond (leb (length ys) (length old)) (over ys old) old
 
--- +0, as f32
+-- +0 and one, as f32
 abbrev pub zero32 : Float
 zero32 = ofBits binary32 0
+
+abbrev pub one32 : Float
+one32 = ofBits binary32 0x3F800000
 
 -- as many +0 as s has elements
 abbrev pub cleared : List Float → List Float

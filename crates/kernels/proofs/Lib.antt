@@ -2,4 +2,3 @@ pub mod Lengths
 pub mod Finites
 pub mod Turn
 pub mod Rooms
-pub mod Constants

@@ -8,8 +8,8 @@ use borrow.Author.Tests.{ltb-true, leb-true, eqb-true, lt-ltb, le-leb, eq-eqb}
 use lib.Dec.{leb, ltb, eqb}
 use Rattle.buffers.specs.Room.{inside, aside}
 use Rattle.buffers.proofs.Rooms.{both, two, aside-says, aside-is}
-use Rattle.kernels.specs.Room.{normFits, pairFits, rotateFits}
-use Rattle.kernels.specs.Fits.{NormFits, PairFits, RotateFits}
+use Rattle.kernels.specs.Room.{normFits, rotateFits}
+use Rattle.kernels.specs.Fits.{NormFits, RotateFits}
 
 module _ {lens lenw x y n dim : ℕ} where
   pub norm-says : normFits lens lenw x y n dim ≡ true → NormFits lens lenw x y n dim
@@ -32,18 +32,6 @@ module _ {lens lenw x y n dim : ℕ} where
   norm-fits f =
       two (two (le-leb (x + n * dim) lens (f .xin)) (le-leb (y + n * dim) lens (f .yin)))
       (two (two (le-leb dim 2048 (f .small)) (eq-eqb lenw dim (f .win))) (aside-is (f .apart)))
-
-module _ {lens y z n : ℕ} where
-  pub pair-says : pairFits lens y z n ≡ true → PairFits lens y z n
-  unfolding pairFits
-  pair-says h =
-      let p = both (inside lens y n && inside lens z n) (aside z n y n) h in
-      let a = both (inside lens y n) (inside lens z n) (p .0) in
-      record { yin = leb-true (y + n) lens (a .0); zin = leb-true (z + n) lens (a .1); apart = aside-says z n y n (p .1) }
-
-  pub pair-fits : PairFits lens y z n → pairFits lens y z n ≡ true
-  unfolding pairFits
-  pair-fits f = two (two (le-leb (y + n) lens (f .yin)) (le-leb (z + n) lens (f .zin))) (aside-is (f .apart))
 
 module _ {lens lenc lenn x tokens heads half gw side : ℕ} where
   pub rotate-says : rotateFits lens lenc lenn x tokens heads half gw side ≡ true → RotateFits lens lenc lenn x tokens heads half gw side

@@ -37,9 +37,3 @@ pub record RotateFits (lens lenc lenn x tokens heads half gw side : ℕ) : Type 
   pub high : tokens ≤ side * gw
   pub cin : lenc ≡ side * side * (half + half)
   pub sin′ : lenn ≡ side * side * (half + half)
-
--- F of the n values at y and the n at z, to y
-pub record PairFits (lens y z n : ℕ) : Type 0 where
-  pub yin : y + n ≤ lens
-  pub zin : z + n ≤ lens
-  pub apart : Apart z n y n

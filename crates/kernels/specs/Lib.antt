@@ -1,5 +1,4 @@
 pub mod Finite
-pub mod Element
 pub mod Norm
 pub mod Rotate
 pub mod Room

@@ -6,9 +6,9 @@ use lib.ListN.{getD}
 use lib.Ieee.{Float, nan, binary32, add, mul, div, ofBits, ofInt}
 use Rattle.patterns.specs.Root.{rootOf}
 use Rattle.buffers.specs.Rows.{tab}
+use Rattle.buffers.specs.Region.{one32}
 use Rattle.buffers.specs.Each.{eachRow}
 use Rattle.sums.specs.Linear.{dotOf}
-use Rattle.kernels.specs.Element.{one32}
 
 -- 1e-5 as an f32
 abbrev pub eps32 : Float

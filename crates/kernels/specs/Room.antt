@@ -9,10 +9,6 @@ unfoldable pub normFits : ℕ → ℕ → ℕ → ℕ → ℕ → ℕ → Bool
 normFits lens lenw x y n dim =
     (inside lens x (n * dim) && inside lens y (n * dim)) && ((leb dim 2048 && eqb lenw dim) && aside x (n * dim) y (n * dim))
 
--- the n values at y, with the n at z
-unfoldable pub pairFits : ℕ → ℕ → ℕ → ℕ → Bool
-pairFits lens y z n = (inside lens y n && inside lens z n) && aside z n y n
-
 -- tokens of a grid gw wide, at most side on a side; the tables have a row of two halves for each of side * side positions
 unfoldable pub rotateFits : ℕ → ℕ → ℕ → ℕ → ℕ → ℕ → ℕ → ℕ → ℕ → Bool
 rotateFits lens lenc lenn x tokens heads half gw side =

@@ -1,7 +1,6 @@
-// What a layer is made of: each kernel reads and writes floats where it is told, and nothing where they do not fit.
-pub mod element;
+// The norm, the rotation and the test for finite values: each kernel reads and writes floats where it is told, and
+// nothing where they do not fit.
 pub mod finite;
 pub mod norm;
 mod room;
 pub mod rotate;
-mod silus;

@@ -1,8 +1,7 @@
 // Whether what a kernel is handed fits. No test forms a number that could wrap.
 ghost use mathlib.Core.Path.{_≡_};
-ghost use Rattle.kernels.specs.Room.{normFits, pairFits, rotateFits};
+ghost use Rattle.kernels.specs.Room.{normFits, rotateFits};
 use buffers::room::aside;
-use buffers::room::inside;
 use buffers::room::rows_inside;
 
 pub(crate) fn norm_fits(lens: usize, lenw: usize, x: usize, y: usize, n: usize, dim: usize) -> bool
@@ -12,12 +11,6 @@ pub(crate) fn norm_fits(lens: usize, lenw: usize, x: usize, y: usize, n: usize, 
         return ((dim <= 2048) & (lenw == dim)) & aside(x, n * dim, y, n * dim);
     }
     false
-}
-
-pub(crate) fn pair_fits(lens: usize, y: usize, z: usize, n: usize) -> bool
-    ensures { λ r. ⌜ r ≡ pairFits lens y z n ⌝ }
-{
-    (inside(lens, y, n) & inside(lens, z, n)) & aside(z, n, y, n)
 }
 
 pub(crate) fn rotate_fits(

@@ -14,7 +14,7 @@ use Rattle.stages.specs.Sizes.{hdOf, dimOf, nOf, mOf}
 use Rattle.stages.specs.Weights.{norm1W, squareW, norm2W, gateW, upW, downW}
 use Rattle.buffers.specs.Each.{blank}
 use Rattle.kernels.specs.Finite.{sound}
-use Rattle.kernels.specs.Element.{added, gated, rounded}
+use Rattle.elements.specs.Element.{added, gated, rounded}
 use Rattle.stages.specs.Run.{Run, fine, answer, thenRun}
 use Rattle.stages.specs.Block.{squareOf, normed1, normed2, turnedAll, mixed, scored, gateOf, upOf, downOf, attnRun, feedRun, blockRun}
 use Rattle.stages.specs.Live.{Wrote, hAt, qAt, kAt, vAt, gAt, uAt, AttnIn, AttnTurn, AttnMix, FeedIn, FeedOut}
@@ -23,7 +23,8 @@ use Rattle.attention.specs.Fits.{KeysFit}
 use Rattle.attention.specs.Keys.{turnedKeys}
 use Rattle.attention.proofs.Keys.{length-turned}
 use Rattle.sums.proofs.Sums.{length-linear}
-use Rattle.kernels.proofs.Lengths.{length-norm, length-added, length-gated, length-rounded}
+use Rattle.kernels.proofs.Lengths.{length-norm}
+use Rattle.elements.proofs.Lengths.{length-added, length-gated, length-rounded}
 use Rattle.buffers.proofs.Steps.{blank-region}
 use Rattle.kernels.proofs.Turn.{length-rotate}
 use Rattle.attention.proofs.Attends.{length-attention}

@@ -12,14 +12,15 @@ use Rattle.buffers.specs.Region.{region, put}
 use Rattle.buffers.proofs.Regions.{length-put, region-put-same}
 use Rattle.buffers.proofs.Lists.{length-tab, length-rows}
 use Rattle.kernels.specs.Finite.{sound}
-use Rattle.kernels.specs.Element.{gelued}
+use Rattle.elements.specs.Element.{gelued}
 use Rattle.stages.specs.Merge.{placeOf, mergedToken, mergeOf}
 use Rattle.stages.specs.Run.{fine, answer}
 use Rattle.stages.specs.Project.{projNorm, mergingLayer, linear1, linear2, projectRun}
 use Rattle.stages.specs.Live.{Wrote}
 use Rattle.stages.specs.Fits.{ProjFits}
 use Rattle.sums.proofs.Sums.{length-linear}
-use Rattle.kernels.proofs.Lengths.{length-norm, length-gelued}
+use Rattle.kernels.proofs.Lengths.{length-norm}
+use Rattle.elements.proofs.Lengths.{length-gelued}
 use Rattle.stages.proofs.Lives.{got, long}
 
 -- the merged rows of o output tokens

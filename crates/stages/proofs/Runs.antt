@@ -12,7 +12,7 @@ use Rattle.stages.specs.declared.Places.{Places}
 use Rattle.stages.specs.declared.Regions.{Regions}
 use Rattle.stages.specs.Sizes.{dimOf}
 use Rattle.sums.proofs.Sums.{length-linear}
-use Rattle.kernels.specs.Element.{gelued}
+use Rattle.elements.specs.Element.{gelued}
 use Rattle.stages.specs.Run.{Run, stopped, went, fine, answer, thenRun}
 use Rattle.stages.specs.Embed.{inputsFine, embedRun}
 use Rattle.stages.specs.Layers.{layersRun}

@@ -6,7 +6,7 @@ use Rattle.stages.specs.declared.Sizes.{Sizes}
 use Rattle.stages.specs.Sizes.{dimOf, nOf, mOf}
 use Rattle.stages.specs.Weights.{norm1W, squareW, norm2W, gateW, upW, downW}
 use Rattle.sums.specs.Linear.{linearOf}
-use Rattle.kernels.specs.Element.{added, gated, rounded}
+use Rattle.elements.specs.Element.{added, gated, rounded}
 use Rattle.kernels.specs.Norm.{normOf}
 use Rattle.kernels.specs.Rotate.{rotateOf}
 use Rattle.attention.specs.Attention.{scoresOf, attentionOf}

@@ -8,7 +8,7 @@ use Rattle.stages.specs.declared.Sizes.{Sizes}
 use Rattle.stages.specs.Sizes.{dimOf, nOf}
 use Rattle.sums.specs.Linear.{linearOf}
 use Rattle.kernels.specs.Finite.{sound}
-use Rattle.kernels.specs.Element.{rounded}
+use Rattle.elements.specs.Element.{rounded}
 use Rattle.kernels.specs.Norm.{normOf}
 use Rattle.stages.specs.Run.{Run, checked}
 

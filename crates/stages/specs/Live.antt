@@ -9,7 +9,7 @@ use Rattle.stages.specs.declared.Sizes.{Sizes}
 use Rattle.stages.specs.declared.Regions.{Regions}
 use Rattle.stages.specs.Sizes.{nOf, mOf}
 use Rattle.kernels.specs.Finite.{sound}
-use Rattle.kernels.specs.Element.{added, gated, rounded}
+use Rattle.elements.specs.Element.{added, gated, rounded}
 use Rattle.stages.specs.Run.{fine}
 use Rattle.stages.specs.Embed.{patchConv, lnPre}
 use Rattle.stages.specs.Block.{squareOf, normed1, normed2, turnedAll, mixed, scored, gateOf, upOf, downOf}

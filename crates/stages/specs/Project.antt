@@ -6,7 +6,7 @@ use lib.Ieee.{Float}
 use Rattle.buffers.specs.Region.{region}
 use Rattle.sums.specs.Linear.{linearOf}
 use Rattle.kernels.specs.Norm.{normOf}
-use Rattle.kernels.specs.Element.{gelued}
+use Rattle.elements.specs.Element.{gelued}
 use Rattle.stages.specs.Merge.{mergeOf}
 use Rattle.stages.specs.Run.{Run, checked}
 

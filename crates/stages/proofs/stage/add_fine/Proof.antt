@@ -1,9 +1,9 @@
 -- `stages::stage::add_fine` meets its contract. Assumes nothing.
 use borrow.Author.Needs.{needs}
 use Rattle.buffers.specs.Region.{region}
-use Rattle.kernels.specs.Element.{added}
-use Rattle.kernels.proofs.Lengths.{length-added}
-use Rattle.kernels.proofs.Rooms.{pair-fits}
+use Rattle.elements.specs.Element.{added}
+use Rattle.elements.proofs.Lengths.{length-added}
+use Rattle.elements.proofs.Rooms.{pair-fits}
 use Rattle.stages.proofs.Lives.{wrote}
 use Rattle.stages.proofs.stage.add_fine.Statement.{statement}
 use Rattle.stages.proofs.stage.add_fine.Tie as tie

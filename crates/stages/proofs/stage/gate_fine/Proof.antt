@@ -1,10 +1,10 @@
 -- `stages::stage::gate_fine` meets its contract. Assumes nothing.
 use borrow.Author.Needs.{needs}
 use Rattle.buffers.specs.Region.{region}
-use Rattle.kernels.specs.Element.{gated}
+use Rattle.elements.specs.Element.{gated}
 use Rattle.stages.proofs.Lives.{wrote}
-use Rattle.kernels.proofs.Lengths.{length-gated}
-use Rattle.kernels.proofs.Rooms.{pair-fits}
+use Rattle.elements.proofs.Lengths.{length-gated}
+use Rattle.elements.proofs.Rooms.{pair-fits}
 use Rattle.stages.proofs.stage.gate_fine.Statement.{statement}
 use Rattle.stages.proofs.stage.gate_fine.Tie as tie
 

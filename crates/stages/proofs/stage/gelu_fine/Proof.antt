@@ -4,8 +4,8 @@ use borrow.Author.Needs.{needs}
 use borrow.Author.Tests.{le-leb}
 use lib.ListN.{length}
 use Rattle.buffers.specs.Region.{region}
-use Rattle.kernels.specs.Element.{gelued}
-use Rattle.kernels.proofs.Lengths.{length-gelued}
+use Rattle.elements.specs.Element.{gelued}
+use Rattle.elements.proofs.Lengths.{length-gelued}
 use Rattle.stages.proofs.Lives.{wrote}
 use Rattle.stages.proofs.stage.gelu_fine.Statement.{statement}
 use Rattle.stages.proofs.stage.gelu_fine.Tie as tie

@@ -4,9 +4,9 @@ use borrow.Author.Needs.{needs}
 use borrow.Author.Tests.{le-leb}
 use lib.ListN.{length}
 use Rattle.buffers.specs.Region.{region}
-use Rattle.kernels.specs.Element.{rounded}
+use Rattle.elements.specs.Element.{rounded}
 use Rattle.stages.proofs.Lives.{wrote}
-use Rattle.kernels.proofs.Lengths.{length-rounded}
+use Rattle.elements.proofs.Lengths.{length-rounded}
 use Rattle.stages.proofs.stage.round_fine.Statement.{statement}
 use Rattle.stages.proofs.stage.round_fine.Tie as tie
 

@@ -1,0 +1,3 @@
+pub mod Element
+pub mod Room
+pub mod Fits
