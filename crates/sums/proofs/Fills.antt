@@ -1,8 +1,8 @@
 -- Laws of `spread` and `filled`: columns written one after another are rows written one after another. Assumes nothing.
-use mathlib.Core.Path.{_≡_, refl, ap, _∙_}
+use mathlib.Core.Path.{_≡_, refl, sym, ap, _∙_}
 use mathlib.Core.List.{List}
 use Prim.Native.Nat.{ℕ, zero, suc, _+_, _*_, _≤_, _<_}
-use native.Mathlib.Nat.{mul-one, suc-mul, mul-le-mul-right}
+use native.Mathlib.Nat.{add-zero, add-suc, add-assoc, mul-one, suc-mul, mul-le-mul-right}
 use native.Mathlib.Decide.{decLt}
 use native.Mathlib.Numerals.{add-one}
 use native.Mathlib.Omega.{arith}
@@ -46,14 +46,21 @@ module _ {A : Type 0} where
   length-spread s at m zero v = refl
   length-spread s at m (suc n) v = length-set (spread s at m n v) (at + n * m) (v n) ∙ length-spread s at m n v
 
+  pub filled-ext : (s : List A) (y m r c : ℕ) (f g : ℕ → ℕ → A) → ((l i : ℕ) → l < r → i < c → f l i ≡ g l i) → filled s y m r c f ≡ filled s y m r c g
+  unfolding filled
+  filled-ext s y m r zero f g h = refl
+  filled-ext s y m r (suc c) f g h =
+      ap (λ t. spread t (y + c) m r (λ l. f l c)) (filled-ext s y m r c f g (λ l i p q. h l i p (omega arith)))
+      ∙ spread-ext (filled s y m r c g) (y + c) m r (λ l. f l c) (λ l. g l c) (λ l p. h l c p (omega arith))
+
   module _ (s : List A) (y m : ℕ) (f : ℕ → ℕ → A) where
-    none : (c : ℕ) → filled s y m zero c f ≡ s
+    pub none : (c : ℕ) → filled s y m zero c f ≡ s
     unfolding filled spread
     none zero = refl
     none (suc c) = none c
 
     -- the last row by itself
-    filled-row : (r c : ℕ) → c ≤ m → filled s y m (suc r) c f ≡ put (filled s y m r c f) (y + r * m) (tab c (f r))
+    pub filled-row : (r c : ℕ) → c ≤ m → filled s y m (suc r) c f ≡ put (filled s y m r c f) (y + r * m) (tab c (f r))
     unfolding filled spread put tab
     filled-row r zero h = refl
     filled-row r (suc c) h =
@@ -112,3 +119,9 @@ module _ {A : Type 0} where
     filled-apart r (suc c) x k h a =
         spread-apart (filled s y m r c f) (y + c) m r (λ l. f l c) x k (λ l g. let b = fit m g in apart-sub a (omega arith) (omega arith) (omega arith) (omega arith))
         ∙ filled-apart r c x k (omega arith) a
+
+    -- q columns more
+    pub filled-add : (r c q : ℕ) → filled (filled s y m r c f) (y + c) m r q (λ l i. f l (c + i)) ≡ filled s y m r (c + q) f
+    unfolding filled
+    filled-add r c zero = ap (λ n. filled s y m r n f) (sym (add-zero c))
+    filled-add r c (suc q) = rw (filled-add r c q, add-suc c q, add-assoc y c q)

@@ -1,10 +1,11 @@
 -- Laws of sums that run on piece after piece, and of the linear layer made of them. Assumes nothing.
 use mathlib.Core.Path.{_≡_, refl, sym, ap, _∙_}
 use mathlib.Core.List.{List, _++_}
-use Prim.Native.Nat.{ℕ, zero, suc, _+_, _*_, _≤_, _<_}
+use Prim.Native.Nat.{ℕ, zero, suc, _+_, _*_, _/_, _%_, _≤_, _<_}
 use native.Mathlib.Nat.{add-zero, add-suc, add-mul, mul-le-mul-right}
 use native.Mathlib.Numerals.{add-one}
 use native.Mathlib.Omega.{arith}
+use lib.Arith.{digits-div, digits-mod}
 use lib.ListN.{length, getD}
 use lib.Ieee.{Float, nan, binary32, add, mul}
 use Rattle.buffers.specs.Rows.{tab, rows, grid}
@@ -13,10 +14,10 @@ use Rattle.buffers.proofs.Regions.{getD-put-same, put-put, put-append, region-p
 use Rattle.buffers.proofs.Lists.{fit, length-tab, getD-tab, tab-ext, tab-mul, length-rows, getD-rows, rows-ext, rows-add}
 use Rattle.buffers.specs.Each.{blank}
 use Rattle.sums.specs.Linear.{sumOf, linearRow, linearOf}
-use Rattle.sums.specs.Lanes.{sumFrom, laneOf, goneSum, spread, filled, product, begun, goneOn}
+use Rattle.sums.specs.Lanes.{sumFrom, laneOf, cellOf, goneSum, spread, filled, product, begun, goneOn}
 use Rattle.sums.specs.Fits.{ColumnsFits, ColumnAt}
 use Rattle.sums.proofs.Sums.{sum-ext, length-linear}
-use Rattle.sums.proofs.Fills.{spread-ext, spread-one, filled-in, filled-out}
+use Rattle.sums.proofs.Fills.{spread-ext, spread-one, filled-ext, filled-in, filled-out, filled-add}
 
 pub from-ext : (a : Float) (n : ℕ) (f g : ℕ → Float) → ((k : ℕ) → k < n → f k ≡ g k) → sumFrom a n f ≡ sumFrom a n g
 unfolding sumFrom
@@ -36,6 +37,15 @@ unfolding sumFrom
 lane-step k a xt w b r e g =
     g ∙ tab-ext 16 (λ l. add binary32 (getD b l nan) (mul binary32 (getD xt (k * 16 + l) nan) (getD w k nan))) (laneOf (k + 1) a xt w)
     (λ l h. rw (e, add-one k, getD-tab 16 l (laneOf k a xt w) nan h))
+
+-- a cell with one product more
+pub cell-step : (k at nin : ℕ) (a xt w b r : List Float) → b ≡ tab 16 (cellOf k a xt w at nin)
+    → r ≡ tab 16 (λ i. add binary32 (getD b i nan) (mul binary32 (getD xt (k * 16 + i % 4) nan) (getD w (at + k + i / 4 * nin) nan)))
+    → r ≡ tab 16 (cellOf (k + 1) a xt w at nin)
+unfolding sumFrom
+cell-step k at nin a xt w b r e g =
+    g ∙ tab-ext 16 (λ i. add binary32 (getD b i nan) (mul binary32 (getD xt (k * 16 + i % 4) nan) (getD w (at + k + i / 4 * nin) nan))) (cellOf (k + 1) a xt w at nin)
+    (λ i h. rw (e, add-one k, getD-tab 16 i (cellOf k a xt w at nin) nan h))
 
 -- r rows of n behind i rows end inside m rows
 pub fit-more : {m : ℕ} (i r n : ℕ) → i + r ≤ m → i * n + r * n ≤ m * n
@@ -223,3 +233,33 @@ module _ (w xt : List Float) (y r nin nout k n : ℕ) where
       let two : c + 2 ≡ suc (c + 1) = omega arith in
       g ∙ spread-ext x (y + (c + 1)) nout r (λ l. goneSum u w xt y nin nout k n l (c + 1)) (λ l. goneSum s w xt y nin nout k n l (c + 1)) (column-same s u c (c + 1) e (omega arith) h)
       ∙ rw (two, f)
+
+  -- four columns gathered into cells and gone on
+  pub four-cells : (s z a b : List Float) (c : ℕ) → r ≤ 4 → length z ≡ 16
+      → a ≡ filled z 0 4 4 r (λ o l. getD s (y + c + l * nout + o) nan) → b ≡ tab 16 (cellOf n a xt w (c * nin + k) nin)
+      → (l o : ℕ) → l < r → o < 4 → getD b (l + o * 4) nan ≡ goneSum s w xt y nin nout k n l (c + o)
+  four-cells s z a b c q lz e g l o p h =
+      let F : ℕ → ℕ → Float = λ o l. getD s (y + c + l * nout + o) nan in
+      let l4 : l < 4 = omega arith in
+      let start : getD a (o * 4 + l) nan ≡ getD s (y + (l * nout + (c + o))) nan =
+      ap (λ u. getD u (o * 4 + l) nan) e
+      ∙ ap (λ i. getD (filled z 0 4 4 r F) i nan) (omega arith)
+      ∙ filled-in z 0 4 F 4 r o l nan q h p (omega arith)
+      ∙ ap (λ i. getD s i nan) (omega arith) in
+      ap (λ i. getD b i nan) (omega arith)
+      ∙ ap (λ u. getD u (o * 4 + l) nan) g
+      ∙ getD-tab 16 (o * 4 + l) (cellOf n a xt w (c * nin + k) nin) nan (omega arith)
+      ∙ rw start
+      (from-ext (getD s (y + (l * nout + (c + o))) nan) n
+      (λ j. mul binary32 (getD xt (j * 16 + (o * 4 + l) % 4) nan) (getD w (c * nin + k + j + (o * 4 + l) / 4 * nin) nan))
+      (λ j. mul binary32 (getD xt (j * 16 + l) nan) (getD w ((c + o) * nin + (k + j)) nan))
+      (λ j _. rw (digits-mod o {m = 4} {r = l} l4, digits-div o {m = 4} {r = l} l4)
+      (ap (λ i. mul binary32 (getD xt (j * 16 + l) nan) (getD w i nan)) (let d = add-mul c o nin in omega arith))))
+
+  pub four-turn : (s u z : List Float) (c : ℕ) → c + 4 ≤ nout → u ≡ filled s y nout r c (goneSum s w xt y nin nout k n)
+      → z ≡ filled u (y + c) nout r 4 (λ l o. goneSum u w xt y nin nout k n l (c + o)) → z ≡ filled s y nout r (c + 4) (goneSum s w xt y nin nout k n)
+  four-turn s u z c h e g =
+      let F = goneSum s w xt y nin nout k n in
+      g ∙ filled-ext u (y + c) nout r 4 (λ l o. goneSum u w xt y nin nout k n l (c + o)) (λ l o. F l (c + o)) (λ l o p q. column-same s u c (c + o) e (omega arith) (omega arith) l p)
+      ∙ ap (λ x. filled x (y + c) nout r 4 (λ l o. F l (c + o))) e
+      ∙ filled-add s y nout F r c 4

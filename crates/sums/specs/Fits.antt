@@ -18,10 +18,10 @@ pub record StrideFits (lend at m lenv o q n : ℕ) : Type 0 where
   pub to : (i : ℕ) → i < n → at + i * m < lend
   pub from : (i : ℕ) → i < n → o + i * q < lenv
 
--- n floats of each of r rows, to sixteen lanes
-pub record PackFits (lent lenx at r nin n : ℕ) : Type 0 where
-  pub rows : r ≤ 16
-  pub tin : n * 16 ≤ lent
+-- n floats of each of r rows, to m lanes
+pub record PackFits (lent m lenx at r nin n : ℕ) : Type 0 where
+  pub rows : r ≤ m
+  pub tin : n * m ≤ lent
   pub xin : (l : ℕ) → l < r → at + l * nin + n ≤ lenx
 
 -- r rows of sums at y, by n of the floats of each row of the weights
@@ -38,8 +38,36 @@ pub record ColumnAt (lens lenw lent y r nin nout k n c : ℕ) : Type 0 where
   pub fits : ColumnsFits lens lenw lent y r nin nout k n
   pub column : c < nout
 
--- r is the least of a and b
-pub record Least (a b r : ℕ) : Type 0 where
+-- sixteen cells, by four lanes at j and a weight of each of four rows of nin
+pub record CellFits (lena lent lenw j at nin : ℕ) : Type 0 where
+  pub cells : lena ≡ 16
+  pub tin : j + 4 ≤ lent
+  pub win : at + 3 * nin < lenw
+
+-- by n of each
+pub record CellsFit (lena lent lenw at nin n : ℕ) : Type 0 where
+  pub cells : lena ≡ 16
+  pub tin : n * 16 ≤ lent
+  pub win : at + 3 * nin + n ≤ lenw
+
+-- sixteen cells to four columns of r rows
+pub record UnpackFits (lens lenb at nout r : ℕ) : Type 0 where
+  pub rows : r ≤ 4
+  pub wide : 4 ≤ nout
+  pub cells : 16 ≤ lenb
+  pub to : (l : ℕ) → l < r → at + l * nout + 4 ≤ lens
+
+-- up to four rows of sums, and columns c to c + 3 of them
+pub record FewFit (lens lenw lent y r nin nout k n : ℕ) : Type 0 where
+  pub few : r ≤ 4
+  pub fits : ColumnsFits lens lenw lent y r nin nout k n
+
+pub record FourAt (lens lenw lent y r nin nout k n c : ℕ) : Type 0 where
+  pub all : FewFit lens lenw lent y r nin nout k n
+  pub columns : c + 4 ≤ nout
+
+-- r is at most a and at most b, and not 0 where neither is
+pub record UpTo (a b r : ℕ) : Type 0 where
   pub first : r ≤ a
   pub second : r ≤ b
   pub some : 0 < a → 0 < b → 0 < r

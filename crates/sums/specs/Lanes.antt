@@ -1,7 +1,7 @@
 -- Sums that run side by side, one in each of sixteen lanes, and matrices that are filled column by column.
 -- Assumes nothing.
 use mathlib.Core.List.{List}
-use Prim.Native.Nat.{ℕ, zero, suc, _+_, _*_}
+use Prim.Native.Nat.{ℕ, zero, suc, _+_, _*_, _/_, _%_}
 use lib.ListN.{getD, set}
 use lib.Ieee.{Float, nan, binary32, add, mul}
 use Rattle.buffers.specs.Rows.{grid}
@@ -31,6 +31,10 @@ module _ {A : Type 0} where
 -- of row c of w
 abbrev pub goneSum : List Float → List Float → List Float → ℕ → ℕ → ℕ → ℕ → ℕ → ℕ → ℕ → Float
 goneSum s w xt y nin nout k n l c = sumFrom (getD s (y + (l * nout + c)) nan) n (λ j. mul binary32 (getD xt (j * 16 + l) nan) (getD w (c * nin + (k + j)) nan))
+
+-- cell i, of lane i % 4 and row i / 4 of the weights from at on, goes on from a by n products
+abbrev pub cellOf : ℕ → List Float → List Float → List Float → ℕ → ℕ → ℕ → Float
+cellOf n a xt w at nin i = sumFrom (getD a i nan) n (λ k. mul binary32 (getD xt (k * 16 + i % 4) nan) (getD w (at + k + i / 4 * nin) nan))
 
 -- product k of row l of x and row c of w
 abbrev pub product : ℕ → List Float → List Float → ℕ → ℕ → ℕ → Float

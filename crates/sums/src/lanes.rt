@@ -89,14 +89,14 @@ pub(crate) fn copy_spread(
     }
 }
 
-// The n floats at at of each of r rows, one row to a lane.
-pub(crate) fn pack(xt: &mut [f32], x: &[f32], at: usize, r: usize, nin: usize, n: usize)
-    requires { ⌜ PackFits (length (now xt)) (length (now x)) at r nin n ⌝ }
-    ensures { λ _. ⌜ now (xt .exit) ≡ filled (now (xt .entry)) 0 16 n r (λ k l. getD (now (x .entry)) (at + l * nin + k) nan) ⌝ }
+// The n floats at at of each of r rows, one row to each of m lanes.
+pub(crate) fn pack(xt: &mut [f32], m: usize, x: &[f32], at: usize, r: usize, nin: usize, n: usize)
+    requires { ⌜ PackFits (length (now xt)) m (length (now x)) at r nin n ⌝ }
+    ensures { λ _. ⌜ now (xt .exit) ≡ filled (now (xt .entry)) 0 m n r (λ k l. getD (now (x .entry)) (at + l * nin + k) nan) ⌝ }
 {
     let mut l = 0usize;
     while l < r {
-        copy_spread(xt, l, 16, x, at + l * nin, 1, n);
+        copy_spread(xt, l, m, x, at + l * nin, 1, n);
         l += 1;
     }
 }
@@ -154,8 +154,9 @@ pub(crate) fn two_columns(
     copy_spread(s, to, nout, &g, 0, 1, r);
 }
 
-// The r rows of sums at y go on by n products: a lane of xt by the floats from k on of each of the nout rows of w.
-pub(crate) fn columns(
+// The r rows of sums at y go on by n products: a lane of xt by the floats from k on of each of the nout rows of w, two
+// rows at a time.
+pub(crate) fn many_columns(
     s: &mut [f32],
     y: usize,
     r: usize,

@@ -1,4 +1,5 @@
 // Sums side by side: the linear layer and weighted sums.
+mod few;
 mod lanes;
 pub mod linear;
 mod room;

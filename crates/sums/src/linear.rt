@@ -4,11 +4,13 @@ ghost use Prim.Native.Nat.{_*_};
 ghost use lib.ListN.{length};
 ghost use Rattle.buffers.specs.Region.{region, put};
 ghost use Rattle.sums.specs.Linear.{linearOf};
-ghost use Rattle.sums.specs.Lanes.{goneOn};
+ghost use Rattle.buffers.specs.Rows.{grid};
+ghost use Rattle.sums.specs.Lanes.{goneSum, goneOn};
 ghost use Rattle.buffers.specs.Room.{whereFits};
 ghost use Rattle.sums.specs.Room.{linearFits, fromFits};
-ghost use Rattle.sums.specs.Fits.{Least, PieceFits, BlockFits, LinearFits, FromPieceFits, FromBlockFits, FromFits};
-use crate::lanes::columns;
+ghost use Rattle.sums.specs.Fits.{UpTo, ColumnsFits, PieceFits, BlockFits, LinearFits, FromPieceFits, FromBlockFits, FromFits};
+use crate::few::few_columns;
+use crate::lanes::many_columns;
 use crate::lanes::pack;
 use crate::room::from_fits;
 use crate::room::linear_fits;
@@ -16,9 +18,38 @@ use buffers::clear_at;
 
 // The least of a and b.
 pub(crate) fn least(a: usize, b: usize) -> usize
-    ensures { λ r. ⌜ Least a b r ⌝ }
+    ensures { λ r. ⌜ UpTo a b r ⌝ }
 {
     if a < b { a } else { b }
+}
+
+// How many of the n rows that are left are next: sixteen side by side, or four where few are left.
+pub(crate) fn next_rows(n: usize) -> usize
+    ensures { λ r. ⌜ UpTo n 16 r ⌝ }
+{
+    if n < 9 { least(n, 4) } else { least(n, 16) }
+}
+
+// The r rows of sums at y go on by n products: a lane of xt by the floats from k on of each of the nout rows of w.
+pub(crate) fn columns(
+    s: &mut [f32],
+    y: usize,
+    r: usize,
+    nin: usize,
+    nout: usize,
+    w: &[f32],
+    k: usize,
+    n: usize,
+    xt: &[f32],
+)
+    requires { ⌜ ColumnsFits (length (now s)) (length (now w)) (length (now xt)) y r nin nout k n ⌝ }
+    ensures { λ _. ⌜ now (s .exit) ≡ put (now (s .entry)) y (grid r nout (goneSum (now (s .entry)) (now (w .entry)) (now (xt .entry)) y nin nout k n)) ⌝ }
+{
+    if r < 5 {
+        few_columns(s, y, r, nin, nout, w, k, n, xt);
+    } else {
+        many_columns(s, y, r, nin, nout, w, k, n, xt);
+    }
 }
 
 // The sums of the r rows at y go on by the n products from k on.
@@ -37,7 +68,7 @@ pub(crate) fn piece(
     ensures { λ _. ⌜ now (s .exit) ≡ put (now (s .entry)) y (goneOn k n r nin nout (now (w .entry)) (region (now (s .entry)) x (r * nin)) (region (now (s .entry)) y (r * nout))) ⌝ }
 {
     let mut xt = [0.0f32; 16384];
-    pack(&mut xt, s, x + k, r, nin, n);
+    pack(&mut xt, 16, s, x + k, r, nin, n);
     columns(s, y, r, nin, nout, w, k, n, &xt);
 }
 
@@ -55,7 +86,7 @@ pub(crate) fn block(s: &mut [f32], x: usize, y: usize, r: usize, nin: usize, nou
     }
 }
 
-// The n rows at x, sixteen by sixteen.
+// The n rows at x, block after block.
 pub(crate) fn linear_rows(
     s: &mut [f32],
     x: usize,
@@ -70,7 +101,7 @@ pub(crate) fn linear_rows(
 {
     let mut i = 0usize;
     while i < n {
-        let r = least(n - i, 16);
+        let r = next_rows(n - i);
         block(s, x + i * nin, y + i * nout, r, nin, nout, w);
         i += r;
     }
@@ -93,7 +124,7 @@ pub(crate) fn from_piece(
     ensures { λ _. ⌜ now (s .exit) ≡ put (now (s .entry)) y (goneOn k n r nin nout (now (w .entry)) (region (now (x .entry)) xa (r * nin)) (region (now (s .entry)) y (r * nout))) ⌝ }
 {
     let mut xt = [0.0f32; 16384];
-    pack(&mut xt, x, xa + k, r, nin, n);
+    pack(&mut xt, 16, x, xa + k, r, nin, n);
     columns(s, y, r, nin, nout, w, k, n, &xt);
 }
 
@@ -133,7 +164,7 @@ pub(crate) fn from_rows(
 {
     let mut i = 0usize;
     while i < n {
-        let r = least(n - i, 16);
+        let r = next_rows(n - i);
         from_block(x, i * nin, s, y + i * nout, r, nin, nout, w);
         i += r;
     }

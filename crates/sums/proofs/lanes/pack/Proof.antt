@@ -8,24 +8,25 @@ use native.Mathlib.Nat.{mul-one, zero-add}
 use borrow.Author.Needs.{needs}
 use lib.ListN.{length, getD}
 use lib.Ieee.{nan, Float}
+use Rattle.buffers.proofs.Lists.{fit}
 use Rattle.sums.specs.Lanes.{spread, filled}
 use Rattle.sums.proofs.Fills.{spread-ext}
 use Rattle.sums.proofs.lanes.pack.Statement.{statement}
 use Rattle.sums.proofs.lanes.pack.Tie as tie
 
 abbrev Inv-loop : tie.InvT-loop
-Inv-loop xt₀ x at r nin n l₀ xt l =
-    (l ≤ r) × (length xt ≡ length xt₀) × (xt ≡ filled xt₀ 0 16 n l (λ k i. getD x (at + i * nin + k) nan))
+Inv-loop xt₀ m x at r nin n l₀ xt l =
+    (l ≤ r) × (length xt ≡ length xt₀) × (xt ≡ filled xt₀ 0 m n l (λ k i. getD x (at + i * nin + k) nan))
 
 abbrev μ-loop : tie.MeasureT-loop
-μ-loop xt₀ x at r nin n l₀ xt l = r - l
+μ-loop xt₀ m x at r nin n l₀ xt l = r - l
 
 -- one lane more
-lane-more : (t x : List Float) (at nin n l : ℕ) (u v : List Float) → u ≡ filled t 0 16 n l (λ k i. getD x (at + i * nin + k) nan)
-    → v ≡ spread u l 16 n (λ k. getD x (at + l * nin + k * 1) nan) → v ≡ filled t 0 16 n (l + 1) (λ k i. getD x (at + i * nin + k) nan)
+lane-more : (t x : List Float) (m at nin n l : ℕ) (u v : List Float) → u ≡ filled t 0 m n l (λ k i. getD x (at + i * nin + k) nan)
+    → v ≡ spread u l m n (λ k. getD x (at + l * nin + k * 1) nan) → v ≡ filled t 0 m n (l + 1) (λ k i. getD x (at + i * nin + k) nan)
 unfolding filled
-lane-more t x at nin n l u v e g =
-    rw (g, e, add-one l, zero-add l) (spread-ext (filled t 0 16 n l (λ k i. getD x (at + i * nin + k) nan)) l 16 n (λ k. getD x (at + l * nin + k * 1) nan) (λ k. getD x (at + l * nin + k) nan) (λ k h. rw mul-one))
+lane-more t x m at nin n l u v e g =
+    rw (g, e, add-one l, zero-add l) (spread-ext (filled t 0 m n l (λ k i. getD x (at + i * nin + k) nan)) l m n (λ k. getD x (at + l * nin + k * 1) nan) (λ k. getD x (at + l * nin + k) nan) (λ k h. rw mul-one))
 
 loop-holds : tie.Need-loop-holds Inv-loop μ-loop
 unfolding filled
@@ -42,7 +43,7 @@ copy-spread-requires c κs =
     let p = c .before .before .before .before .before .pre in
     let l = c .before .before .loop in
     let h = p .xin (l .l) (c .before .loop-test .taken) in
-    record { to = λ i k. omega (arith, p .rows, p .tin, l .inv .1, c .before .loop-test .taken); from = λ i k. omega arith }
+    record { to = λ i k. let f = fit (c .before .before .before .before .before .args .m) k in omega (arith, p .rows, p .tin, l .inv .1, c .before .loop-test .taken); from = λ i k. omega arith }
 
 add-l : tie.Need-add-l Inv-loop μ-loop
 add-l c = search needs
@@ -56,7 +57,7 @@ loop-again c =
     let a = c .before .before .before .before .before .before .before .before .args in (
       omega arith,
       c .before .before .copy-spread .kept .0 ∙ l .inv .1,
-      lane-more (a .xt .now) (a .x .now) (a .at) (a .nin) (a .n) (l .l) (l .xt) (c .before .before .copy-spread .last .0) (l .inv .2) (c .before .before .copy-spread .ensures),
+      lane-more (a .xt .now) (a .x .now) (a .m) (a .at) (a .nin) (a .n) (l .l) (l .xt) (c .before .before .copy-spread .last .0) (l .inv .2) (c .before .before .copy-spread .ensures),
     )
 
 same-length : tie.Need-same-length Inv-loop μ-loop
@@ -65,7 +66,7 @@ same-length c = c .before .loop .inv .1
 returns : tie.Need-returns Inv-loop μ-loop
 returns c =
     let a = c .before .before .before .before .args in
-    c .before .loop .inv .2 ∙ ap (λ m. filled (a .xt .now) 0 16 (a .n) m (λ k i. getD (a .x .now) (a .at + i * a .nin + k) nan)) (omega arith)
+    c .before .loop .inv .2 ∙ ap (λ q. filled (a .xt .now) 0 (a .m) (a .n) q (λ k i. getD (a .x .now) (a .at + i * a .nin + k) nan)) (omega arith)
 
 pub pack-spec : {M : Type 1} → statement M
 pack-spec =

@@ -19,25 +19,25 @@ abbrev μ-loop : tie.MeasureT-loop
 μ-loop x s₀ y n nin nout w i₀ s i = n - i
 
 -- the next block's rows end inside all of them
-room : (c : tie.After-least Inv-loop μ-loop)
+room : (c : tie.After-next-rows Inv-loop μ-loop)
     → (let a = c .before .before .before .before .before .before .args in
-    (c .before .before .loop .i + c .least .result ≤ a .n) × (c .before .before .loop .i * a .nin + c .least .result * a .nin ≤ a .n * a .nin)
-    × (c .before .before .loop .i * a .nout + c .least .result * a .nout ≤ a .n * a .nout))
+    (c .before .before .loop .i + c .next-rows .result ≤ a .n) × (c .before .before .loop .i * a .nin + c .next-rows .result * a .nin ≤ a .n * a .nin)
+    × (c .before .before .loop .i * a .nout + c .next-rows .result * a .nout ≤ a .n * a .nout))
 room c =
     let a = c .before .before .before .before .before .before .args in
     let i = c .before .before .loop .i in
-    let h : i + c .least .result ≤ a .n = omega (arith, c .least .ensures .first, c .before .before .loop .inv .0) in
-    (h, fit-more i (c .least .result) (a .nin) h, fit-more i (c .least .result) (a .nout) h)
+    let h : i + c .next-rows .result ≤ a .n = omega (arith, c .next-rows .ensures .first, c .before .before .loop .inv .0) in
+    (h, fit-more i (c .next-rows .result) (a .nin) h, fit-more i (c .next-rows .result) (a .nout) h)
 
 loop-holds : tie.Need-loop-holds Inv-loop μ-loop
 unfolding put rows linearOf
 loop-holds c = (omega arith, refl, refl)
 
-sub-least : tie.Need-sub-least Inv-loop μ-loop
-sub-least c = search needs
+sub-next-rows : tie.Need-sub-next-rows Inv-loop μ-loop
+sub-next-rows c = search needs
 
-least-requires : tie.Need-least-requires Inv-loop μ-loop
-least-requires c κs = search needs
+next-rows-requires : tie.Need-next-rows-requires Inv-loop μ-loop
+next-rows-requires c κs = search needs
 
 mul-from-block : tie.Need-mul-from-block Inv-loop μ-loop
 mul-from-block c = omega (arith, room c, c .before .before .before .before .before .before .pre .xin)
@@ -52,7 +52,7 @@ from-block-requires : tie.Need-from-block-requires Inv-loop μ-loop
 from-block-requires c κs =
     let p = c .before .before .before .before .before .before .before .pre in
     let l = c .before .before .before .loop in
-    let m = c .before .least .ensures in
+    let m = c .before .next-rows .ensures in
     let f = room (c .before) in
     record {
       some = m .some (omega (arith, c .before .before .loop-test .taken)) (omega arith);
@@ -66,7 +66,7 @@ add-i : tie.Need-add-i Inv-loop μ-loop
 add-i c = omega (arith, room (c .before .before .before .before))
 
 loop-less : tie.Need-loop-less Inv-loop μ-loop
-loop-less c = let m = c .before .before .before .before .least .ensures .some (omega (arith, c .before .before .before .before .before .loop-test .taken)) (omega arith) in omega (arith, c .before .before .before .before .before .loop-test .taken)
+loop-less c = let m = c .before .before .before .before .next-rows .ensures .some (omega (arith, c .before .before .before .before .before .loop-test .taken)) (omega arith) in omega (arith, c .before .before .before .before .before .loop-test .taken)
 
 loop-again : tie.Need-loop-again Inv-loop μ-loop
 loop-again c =
@@ -74,7 +74,7 @@ loop-again c =
     let a = c .before .before .before .before .before .before .before .before .before .before .args in (
       room (c .before .before .before .before) .0,
       c .before .before .from-block .kept .1 .1 .0 ∙ l .inv .1,
-      rows-turn (c .before .before .before .before .least .result) (a .nin) (a .nout) (a .w .now) (a .s .now) (l .s) (c .before .before .from-block .last .1 .1 .0) (a .x .now) (a .y) (l .i) (l .inv .2) (c .before .before .from-block .ensures),
+      rows-turn (c .before .before .before .before .next-rows .result) (a .nin) (a .nout) (a .w .now) (a .s .now) (l .s) (c .before .before .from-block .last .1 .1 .0) (a .x .now) (a .y) (l .i) (l .inv .2) (c .before .before .from-block .ensures),
     )
 
 same-length : tie.Need-same-length Inv-loop μ-loop
@@ -92,8 +92,8 @@ from-rows-spec =
     Inv-loop
     μ-loop
     loop-holds
-    sub-least
-    least-requires
+    sub-next-rows
+    next-rows-requires
     mul-from-block
     mul-from-block-2
     add-from-block

@@ -1,4 +1,4 @@
--- `sums::lanes::columns` meets its contract: two columns at a time, and the last of an odd number. Assumes nothing.
+-- `sums::lanes::many_columns` meets its contract: two columns at a time, and the last of an odd number. Assumes nothing.
 use mathlib.Core.Path.{_≡_, refl, ap, _∙_}
 use Prim.Native.Nat.{_+_, _-_, _≤_}
 use native.Mathlib.Omega.{arith}
@@ -7,8 +7,8 @@ use lib.ListN.{length}
 use Rattle.sums.specs.Lanes.{goneSum, filled}
 use Rattle.sums.proofs.Fills.{filled-all}
 use Rattle.sums.proofs.Pieces.{column-turn, pair-turn}
-use Rattle.sums.proofs.lanes.columns.Statement.{statement}
-use Rattle.sums.proofs.lanes.columns.Tie as tie
+use Rattle.sums.proofs.lanes.many_columns.Statement.{statement}
+use Rattle.sums.proofs.lanes.many_columns.Tie as tie
 
 abbrev Inv-loop : tie.InvT-loop
 Inv-loop s₀ y r nin nout w k n xt c₀ s c = (c ≤ nout) × (length s ≡ length s₀) × (s ≡ filled s₀ y nout r c (goneSum s₀ w xt y nin nout k n))
@@ -65,8 +65,8 @@ returns-2 c =
     let F = goneSum (a .s .now) (a .w .now) (a .xt .now) (a .y) (a .nin) (a .nout) (a .k) (a .n) in
     l .inv .2 ∙ ap (λ m. filled (a .s .now) (a .y) (a .nout) (a .r) m F) (omega (arith, c .if1 .left, l .inv .0)) ∙ filled-all (a .s .now) (a .y) (a .nout) F (a .r)
 
-pub columns-spec : {M : Type 1} → statement M
-columns-spec =
+pub many-columns-spec : {M : Type 1} → statement M
+many-columns-spec =
     tie.close
     (tie.spec
     Inv-loop
