@@ -10,7 +10,7 @@ use lib.Seq.{drop-cons, drop-set-add, take-suc-set}
 use Rattle.buffers.specs.Region.{region}
 use Rattle.unpatch_form.specs.Words.{_>>=_, joined}
 use Rattle.unpatch_form.specs.Hex.{pair, hexPairs, hexBytes}
-use Rattle.unpatch_form.proofs.Answers.{joined-joined}
+use Rattle.unpatch_form.proofs.Pieces.{joined-joined}
 
 -- the next pair of digits
 pub pair-next : (s : List ℕ) (i : ℕ) → i + 1 < length s → hexPairs (drop i s) ≡ (pair (getD s i 0) (getD s (i + 1) 0) >>= λ x. joined (x ∷ []) (hexPairs (drop (i + 2) s)))

@@ -1,7 +1,5 @@
-pub mod Answers
 pub mod Pieces
 pub mod Decimals
 pub mod Hexes
 pub mod Fields
 pub mod Limits
-pub mod Rows

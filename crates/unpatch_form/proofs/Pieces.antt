@@ -1,7 +1,8 @@
--- Laws of `until`, `same` and `pieces`. Assumes nothing.
+-- Laws of `until`, `same`, `pieces` and `joined`. Assumes nothing.
 use mathlib.Core.Path.{_≡_, refl, sym, ap, _∙_}
 use mathlib.Core.Bool.{Bool, true, false, cond, _&&_}
-use mathlib.Core.List.{List, [], _∷_, _++_}
+use mathlib.Core.List.{List, [], _∷_, _++_, append-assoc}
+use mathlib.Core.Option.{Option, none, some}
 use Prim.Native.Nat.{ℕ, zero, suc, _+_, _≤_, _<_}
 use native.Mathlib.Nat.{add-zero, add-suc}
 use native.Mathlib.Numerals.{add-one}
@@ -10,7 +11,7 @@ use borrow.Author.Tests.{eq-eqb, ne-eqb}
 use lib.Dec.{eqb}
 use lib.ListN.{length, getD, take, drop}
 use lib.Seq.{drop-cons}
-use Rattle.unpatch_form.specs.Words.{onto, pieces, same}
+use Rattle.unpatch_form.specs.Words.{onto, pieces, same, joined}
 use Rattle.unpatch_form.specs.Steps.{until}
 
 -- ---- where a byte stands
@@ -71,3 +72,12 @@ same-longer (x ∷ xs) (y ∷ ys) n = last (eqb x y) (same-longer xs ys (λ e. n
     last : (t : Bool) → same xs ys ≡ false → t && same xs ys ≡ false
     last true e = e
     last false e = refl
+
+-- ---- one list behind another
+pub joined-nil : (o : Option (List ℕ)) → joined [] o ≡ o
+joined-nil none = refl
+joined-nil (some l) = refl
+
+pub joined-joined : (a b : List ℕ) (o : Option (List ℕ)) → joined a (joined b o) ≡ joined (a ++ b) o
+joined-joined a b none = refl
+joined-joined a b (some l) = ap {B = Option (List ℕ)} some (sym (append-assoc a b l))

@@ -3,4 +3,3 @@ pub mod Decimal
 pub mod Hex
 pub mod Form
 pub mod Steps
-pub mod Read

@@ -1,6 +1,5 @@
 // Decimals without leading zeros.
 ghost use mathlib.Core.Path.{_≡_};
-ghost use Prim.Native.Nat.{_≤_};
 ghost use Rattle.unpatch_form.specs.Decimal.{limitedFrom, limited};
 ghost use Rattle.unpatch_form.specs.Steps.{found};
 
@@ -10,9 +9,8 @@ pub enum Number {
     Bad,
 }
 
-// Digits of any number, and `most` is not passed.
+// Digits of any number, and `most` is not passed: no sum is formed that would pass it.
 fn digits(s: &[u8], most: usize) -> Number
-    requires { ⌜ most ≤ 65536 ⌝ }
     ensures { λ r. ⌜ found r ≡ limitedFrom most 0 (now (s .entry)) ⌝ }
 {
     let mut n = 0usize;
@@ -25,18 +23,21 @@ fn digits(s: &[u8], most: usize) -> Number
         if b'9' < b {
             return Number::Bad;
         }
-        n = n * 10 + (b - b'0') as usize;
-        if most < n {
+        let d = (b - b'0') as usize;
+        if most < d {
             return Number::Bad;
         }
+        if (most - d) / 10 < n {
+            return Number::Bad;
+        }
+        n = n * 10 + d;
         i += 1;
     }
     Number::Value(n)
 }
 
 // A decimal of at most `most`.
-pub(crate) fn decimal(s: &[u8], most: usize) -> Number
-    requires { ⌜ most ≤ 65536 ⌝ }
+pub fn decimal(s: &[u8], most: usize) -> Number
     ensures { λ r. ⌜ found r ≡ limited most (now (s .entry)) ⌝ }
 {
     if s.len() == 0 {

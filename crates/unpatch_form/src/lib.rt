@@ -1,6 +1,4 @@
-// The form of a text that says a picture and its settings, and what reads it.
-mod decimal;
-mod hex;
-mod lines;
-pub mod read;
-mod scan;
+// The form of a text that says a picture and its settings; its fields, and the lines before the rows.
+pub mod decimal;
+pub mod lines;
+pub mod scan;

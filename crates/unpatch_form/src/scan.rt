@@ -6,7 +6,7 @@ ghost use Rattle.unpatch_form.specs.Words.{same};
 ghost use Rattle.unpatch_form.specs.Steps.{until};
 
 // The index of the first b, or the length where there is none.
-pub(crate) fn find(s: &[u8], b: u8) -> usize
+pub fn find(s: &[u8], b: u8) -> usize
     ensures { λ r. ⌜ (r ≡ until b (now (s .entry))) × (r ≤ length (now (s .entry))) ⌝ }
 {
     let mut i = 0usize;

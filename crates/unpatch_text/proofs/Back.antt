@@ -24,7 +24,7 @@ use Rattle.unpatch_form.proofs.Decimals.{decimal-one, decimal-more}
 use Rattle.unpatch_form.proofs.Hexes.{hex-some}
 use Rattle.unpatch_text.proofs.Writes.{digits-one, digits-more, length-hex}
 use Rattle.unpatch_form.proofs.Fields.{some-piece}
-use Rattle.unpatch_form.proofs.Answers.{joined-nil, joined-joined}
+use Rattle.unpatch_form.proofs.Pieces.{joined-nil, joined-joined}
 
 -- ---- pieces
 -- no element is s

@@ -5,8 +5,8 @@ mod run;
 use crate::print::put_bytes;
 use crate::run::run;
 use limits::PictureSettings;
-use unpatch_form::read::Reading;
-use unpatch_form::read::read;
+use unpatch_read::read::Reading;
+use unpatch_read::read::read;
 ghost use mathlib.Core.Path.{_≡_};
 ghost use Rattle.unpatch_text.specs.Answer.{answer, lengthLeft, textLeft};
 

@@ -9,9 +9,9 @@ use lib.ListN.{length, take, replicate, length-replicate}
 use lib.Seq.{length-take-le}
 use Rattle.unpatch_form.specs.Form.{Request, form}
 use Rattle.unpatch_text.specs.Answer.{answered, answer}
-use Rattle.unpatch_form.specs.Steps.{asked}
+use Rattle.unpatch_read.specs.Steps.{asked}
 use Rattle.unpatch_text.proofs.Writes.{wrote-as}
-use Rattle.unpatch_form.proofs.Answers.{asked-reading, bytes-inside}
+use Rattle.unpatch_read.proofs.Answers.{asked-reading, bytes-inside}
 use Rattle.unpatch_form.proofs.Limits.{form-limits}
 use Rattle.unpatch_text.proofs.Left.{answer-short, wrote-left, nothing-left}
 use Rattle.unpatch_text.proofs.unpatch.Statement.{statement}
@@ -19,7 +19,7 @@ use Rattle.unpatch_text.proofs.unpatch.Tie as tie
 use Rattle.unpatch_text.proofs.unpatch.Reads as reads
 use Rattle.unpatch_text.proofs.unpatch.Lts as lts
 use Rattle.unpatch_text.proofs.print.put_bytes.Reads as put-bytes-reads
-use Rattle.unpatch_form.proofs.read.read.Reads as read-reads
+use Rattle.unpatch_read.proofs.read.read.Reads as read-reads
 use Rattle.unpatch_text.proofs.run.run.Reads as run-reads
 
 -- ---- where the text is in the form

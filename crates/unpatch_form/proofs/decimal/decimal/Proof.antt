@@ -9,33 +9,26 @@ use Rattle.unpatch_form.proofs.decimal.decimal.Reads as reads
 use Rattle.unpatch_form.proofs.decimal.decimal.Lts as lts
 use Rattle.unpatch_form.proofs.decimal.digits.Reads as digits-reads
 
--- src/decimal.rt:43:9
 returns : tie.Need-returns
 returns c = rw (decimal-empty _ (c .if1 .taken)) refl
 
--- src/decimal.rt:46:9
 digits-requires : tie.Need-digits-requires
 digits-requires c κs = search needs
 
--- src/decimal.rt:46:9
 returns-2 : tie.Need-returns-2
 returns-2 c = rw (decimal-one _ (c .before .if2 .taken)) (c .digits .ensures)
 
--- src/decimal.rt:48:8
 shared-slice-read-if3 : tie.Need-shared-slice-read-if3
 shared-slice-read-if3 c = search needs
 
--- src/decimal.rt:49:9
 returns-3 : tie.Need-returns-3
 returns-3 c =
     let s = c .before .before .before .before .before .args .s .now in
     rw (decimal-zero s (omega arith) (c .if3 .taken)) refl
 
--- src/decimal.rt:51:5
 digits-requires-2 : tie.Need-digits-requires-2
 digits-requires-2 c κs = search needs
 
--- src/decimal.rt:38:1
 returns-4 : tie.Need-returns-4
 returns-4 c =
     let s = c .before .before .before .before .before .before .args .s .now in

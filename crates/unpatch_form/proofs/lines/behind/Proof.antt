@@ -18,25 +18,20 @@ use Rattle.unpatch_form.proofs.lines.behind.Lts as lts
 use Rattle.unpatch_form.proofs.scan.find.Reads as find-reads
 use Rattle.unpatch_form.proofs.scan.is_word.Reads as is-word-reads
 
--- src/lines.rt:29:9
 find-requires : tie.Need-find-requires
 find-requires c κs = search needs
 
--- src/lines.rt:31:9
 returns : tie.Need-returns
 returns c =
     let l = c .before .before .before .before .args .line .now in
     (sym (behind-alone _ l (omega arith)), omega arith)
 
--- src/lines.rt:33:17
 slice-aggregate-is-word : tie.Need-slice-aggregate-is-word
 slice-aggregate-is-word c = sym (length-take-le _ _ (c .before .before .find .ensures .1))
 
--- src/lines.rt:33:9
 is-word-requires : tie.Need-is-word-requires
 is-word-requires c κs = search needs
 
--- src/lines.rt:34:9
 returns-2 : tie.Need-returns-2
 returns-2 c =
     let l = c .before .before .before .before .before .before .before .args .line .now in
@@ -45,11 +40,9 @@ returns-2 c =
     let t : same (take (until 9 l) l) _ ≡ false = rw (f .ensures .0) at (sym (c .before .is-word .ensures) ∙ not-true _ (c .if2 .taken)) in
     (sym (behind-cut _ l h ∙ rw t refl), omega arith)
 
--- src/lines.rt:36:19
 add-t4 : tie.Need-add-t4
 add-t4 c = search needs
 
--- src/lines.rt:26:1
 returns-3 : tie.Need-returns-3
 returns-3 c =
     let l = c .before .before .before .before .before .before .before .args .line .now in

@@ -17,23 +17,18 @@ use Rattle.unpatch_form.proofs.lines.picture.Lts as lts
 use Rattle.unpatch_form.proofs.lines.behind.Reads as behind-reads
 use Rattle.unpatch_form.proofs.lines.two.Reads as two-reads
 
--- src/lines.rt:91:42
 slice-aggregate-behind : tie.Need-slice-aggregate-behind
 slice-aggregate-behind c = search needs
 
--- src/lines.rt:91:29
 behind-requires : tie.Need-behind-requires
 behind-requires c κs = search needs
 
--- src/lines.rt:91:23
 enum-known-at : tie.Need-enum-known-at
 enum-known-at c = search needs
 
--- src/lines.rt:92:9
 enum-told : tie.Need-enum-told
 enum-told c = search needs
 
--- src/lines.rt:92:9
 returns : tie.Need-returns
 unfolding Form.picture
 returns c =
@@ -41,27 +36,22 @@ returns c =
     let b : behind (word "picture") (fields l) ≡ none = sym (c .before .before .behind .ensures .0) ∙ ap (λ r. fieldsFrom r l) (c .enum-told .given .1) in
     rw b refl
 
--- src/lines.rt:94:9
 sub-two : tie.Need-sub-two
 sub-two c =
     let h = ap count (c .before .at .given .1) in
     omega (arith, h, c .before .before .before .behind .ensures .1)
 
--- src/lines.rt:94:9
 part-two-start : tie.Need-part-two-start
 part-two-start c =
     let h = ap count (c .before .at .given .1) in
     omega (arith, h, c .before .before .before .behind .ensures .1)
 
--- src/lines.rt:94:9
 part-two-end : tie.Need-part-two-end
 part-two-end c = search needs
 
--- src/lines.rt:94:5
 two-requires : tie.Need-two-requires
 two-requires c κs = search needs
 
--- src/lines.rt:88:1
 returns-2 : tie.Need-returns-2
 unfolding Form.picture
 returns-2 c =

@@ -18,31 +18,24 @@ use Rattle.unpatch_form.proofs.decimal.decimal.Reads as decimal-reads
 use Rattle.unpatch_form.proofs.lines.two.Reads as two-reads
 use Rattle.unpatch_form.proofs.scan.find.Reads as find-reads
 
--- src/lines.rt:59:9
 find-requires : tie.Need-find-requires
 find-requires c κs = search needs
 
--- src/lines.rt:61:9
 returns : tie.Need-returns
 returns c = sym (three-alone (c .before .before .before .args .s .now) _ (c .before .find .ensures .0) (c .if1 .taken))
 
--- src/lines.rt:63:36
 slice-aggregate-decimal : tie.Need-slice-aggregate-decimal
 slice-aggregate-decimal c = sym (length-take-le _ _ (c .before .before .find .ensures .1))
 
--- src/lines.rt:63:28
 decimal-requires : tie.Need-decimal-requires
 decimal-requires c κs = search needs
 
--- src/lines.rt:63:23
 enum-known-a : tie.Need-enum-known-a
 enum-known-a c = search needs
 
--- src/lines.rt:64:9
 enum-told : tie.Need-enum-told
 enum-told c = search needs
 
--- src/lines.rt:64:9
 returns-2 : tie.Need-returns-2
 returns-2 c =
     let s = c .before .before .before .before .before .before .before .args .s .now in
@@ -51,35 +44,27 @@ returns-2 c =
     let a : small (take (f .result) s) ≡ none = sym (c .before .before .decimal .ensures) ∙ ap found (c .enum-told .given .1) in
     sym (three-cut s _ (f .ensures .0) h ∙ rw a refl)
 
--- src/lines.rt:66:16
 add-next : tie.Need-add-next
 add-next c = search needs
 
--- src/lines.rt:67:30
 sub-two : tie.Need-sub-two
 sub-two c = search needs
 
--- src/lines.rt:67:30
 part-two-start : tie.Need-part-two-start
 part-two-start c = search needs
 
--- src/lines.rt:67:30
 part-two-end : tie.Need-part-two-end
 part-two-end c = search needs
 
--- src/lines.rt:67:26
 two-requires : tie.Need-two-requires
 two-requires c κs = search needs
 
--- src/lines.rt:67:18
 enum-known-b : tie.Need-enum-known-b
 enum-known-b c = search needs
 
--- src/lines.rt:68:9
 enum-told-2 : tie.Need-enum-told-2
 enum-told-2 c = search needs
 
--- src/lines.rt:68:9
 returns-3 : tie.Need-returns-3
 returns-3 c =
     let s = c .before .before .before .before .before .before .before .before .before .before .before .before .args .s .now in
@@ -89,7 +74,6 @@ returns-3 c =
     let b : Form.two (fields (drop (f .result + 1) s)) ≡ none = rw rest at (sym (c .before .before .two .ensures) ∙ ap foundPair (c .enum-told2 .given .1)) in
     sym (three-cut s _ (f .ensures .0) h ∙ rw (a, b) refl)
 
--- src/lines.rt:56:1
 returns-4 : tie.Need-returns-4
 returns-4 c =
     let s = c .before .before .before .before .before .before .before .before .before .before .before .before .before .args .s .now in

@@ -16,31 +16,24 @@ use Rattle.unpatch_form.proofs.lines.two.Lts as lts
 use Rattle.unpatch_form.proofs.decimal.decimal.Reads as decimal-reads
 use Rattle.unpatch_form.proofs.scan.find.Reads as find-reads
 
--- src/lines.rt:42:9
 find-requires : tie.Need-find-requires
 find-requires c κs = search needs
 
--- src/lines.rt:44:9
 returns : tie.Need-returns
 returns c = sym (two-alone (c .before .before .before .args .s .now) _ (c .before .find .ensures .0) (c .if1 .taken))
 
--- src/lines.rt:46:36
 slice-aggregate-decimal : tie.Need-slice-aggregate-decimal
 slice-aggregate-decimal c = sym (length-take-le _ _ (c .before .before .find .ensures .1))
 
--- src/lines.rt:46:28
 decimal-requires : tie.Need-decimal-requires
 decimal-requires c κs = search needs
 
--- src/lines.rt:46:23
 enum-known-a : tie.Need-enum-known-a
 enum-known-a c = search needs
 
--- src/lines.rt:47:9
 enum-told : tie.Need-enum-told
 enum-told c = search needs
 
--- src/lines.rt:47:9
 returns-2 : tie.Need-returns-2
 returns-2 c =
     let s = c .before .before .before .before .before .before .before .args .s .now in
@@ -49,35 +42,27 @@ returns-2 c =
     let a : small (take (f .result) s) ≡ none = sym (c .before .before .decimal .ensures) ∙ ap found (c .enum-told .given .1) in
     sym (two-cut s _ (f .ensures .0) h ∙ rw a refl)
 
--- src/lines.rt:49:16
 add-next : tie.Need-add-next
 add-next c = search needs
 
--- src/lines.rt:50:36
 sub-decimal : tie.Need-sub-decimal
 sub-decimal c = search needs
 
--- src/lines.rt:50:36
 part-decimal-start : tie.Need-part-decimal-start
 part-decimal-start c = search needs
 
--- src/lines.rt:50:36
 part-decimal-end : tie.Need-part-decimal-end
 part-decimal-end c = search needs
 
--- src/lines.rt:50:28
 decimal-requires-2 : tie.Need-decimal-requires-2
 decimal-requires-2 c κs = search needs
 
--- src/lines.rt:50:23
 enum-known-b : tie.Need-enum-known-b
 enum-known-b c = search needs
 
--- src/lines.rt:51:9
 enum-told-2 : tie.Need-enum-told-2
 enum-told-2 c = search needs
 
--- src/lines.rt:51:9
 returns-3 : tie.Need-returns-3
 returns-3 c =
     let s = c .before .before .before .before .before .before .before .before .before .before .before .before .args .s .now in
@@ -87,7 +72,6 @@ returns-3 c =
     let b : small (drop (f .result + 1) s) ≡ none = rw rest at (sym (c .before .before .decimal2 .ensures) ∙ ap found (c .enum-told2 .given .1)) in
     sym (two-cut s _ (f .ensures .0) h ∙ rw (a, b) refl)
 
--- src/lines.rt:39:1
 returns-4 : tie.Need-returns-4
 returns-4 c =
     let s = c .before .before .before .before .before .before .before .before .before .before .before .before .before .args .s .now in

@@ -19,23 +19,18 @@ use Rattle.unpatch_form.proofs.lines.vision.Lts as lts
 use Rattle.unpatch_form.proofs.lines.behind.Reads as behind-reads
 use Rattle.unpatch_form.proofs.lines.three.Reads as three-reads
 
--- src/lines.rt:76:42
 slice-aggregate-behind : tie.Need-slice-aggregate-behind
 slice-aggregate-behind c = search needs
 
--- src/lines.rt:76:29
 behind-requires : tie.Need-behind-requires
 behind-requires c κs = search needs
 
--- src/lines.rt:76:23
 enum-known-at : tie.Need-enum-known-at
 enum-known-at c = search needs
 
--- src/lines.rt:77:9
 enum-told : tie.Need-enum-told
 enum-told c = search needs
 
--- src/lines.rt:77:9
 returns : tie.Need-returns
 unfolding Form.vision
 returns c =
@@ -43,35 +38,28 @@ returns c =
     let b : behind (word "vision") (fields l) ≡ none = sym (c .before .before .behind .ensures .0) ∙ ap (λ r. fieldsFrom r l) (c .enum-told .given .1) in
     rw b refl
 
--- src/lines.rt:79:37
 sub-three : tie.Need-sub-three
 sub-three c =
     let h = ap count (c .before .at .given .1) in
     omega (arith, h, c .before .before .before .behind .ensures .1)
 
--- src/lines.rt:79:37
 part-three-start : tie.Need-part-three-start
 part-three-start c =
     let h = ap count (c .before .at .given .1) in
     omega (arith, h, c .before .before .before .behind .ensures .1)
 
--- src/lines.rt:79:37
 part-three-end : tie.Need-part-three-end
 part-three-end c = search needs
 
--- src/lines.rt:79:31
 three-requires : tie.Need-three-requires
 three-requires c κs = search needs
 
--- src/lines.rt:79:20
 enum-known-p : tie.Need-enum-known-p
 enum-known-p c = search needs
 
--- src/lines.rt:80:9
 enum-told-2 : tie.Need-enum-told-2
 enum-told-2 c = search needs
 
--- src/lines.rt:80:9
 returns-2 : tie.Need-returns-2
 unfolding Form.vision
 returns-2 c =
@@ -81,7 +69,6 @@ returns-2 c =
     let t : Form.three (fields (drop at l)) ≡ none = rw rest at (sym (c .before .before .three .ensures) ∙ ap foundTriple (c .enum-told2 .given .1)) in
     rw (b, t) refl
 
--- src/lines.rt:82:13
 mul-if1 : tie.Need-mul-if1
 mul-if1 c =
     let l = c .before .before .before .before .before .before .before .before .before .before .before .args .line .now in
@@ -90,7 +77,6 @@ mul-if1 c =
     let s = three-small (fields (drop at l)) _ t in
     omega (arith, product-small _ _ (s .0) (s .1))
 
--- src/lines.rt:83:9
 returns-3 : tie.Need-returns-3
 unfolding Form.vision
 returns-3 c =
@@ -100,7 +86,6 @@ returns-3 c =
     let t : Form.three (fields (drop at l)) ≡ some _ = rw rest at (sym (c .before .before .before .before .three .ensures) ∙ ap foundTriple (c .before .before .p .given .1)) in
     rw (b, t, lt-leb _ _ (c .if1 .taken)) refl
 
--- src/lines.rt:73:1
 returns-4 : tie.Need-returns-4
 unfolding Form.vision
 returns-4 c =

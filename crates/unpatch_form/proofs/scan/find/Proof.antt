@@ -19,15 +19,12 @@ Inv-loop s b i₀ i = (i ≤ length s) × (until b s ≡ i + until b (drop i s))
 abbrev μ-loop : tie.MeasureT-loop
 μ-loop s b i₀ i = length s - i
 
--- src/scan.rt:13:5
 loop-holds : tie.Need-loop-holds Inv-loop μ-loop
 loop-holds c = (omega arith, sym (zero-add _))
 
--- src/scan.rt:14:12
 shared-slice-read-if1 : tie.Need-shared-slice-read-if1 Inv-loop μ-loop
 shared-slice-read-if1 c = search needs
 
--- src/scan.rt:15:13
 returns : tie.Need-returns Inv-loop μ-loop
 returns c =
     let l = c .before .before .before .loop in
@@ -35,15 +32,12 @@ returns c =
     let h : l .i < length s = omega arith in
     (omega (arith, l .inv .1, until-here _ s (l .i) h (c .if1 .taken)), omega arith)
 
--- src/scan.rt:17:9
 add-i : tie.Need-add-i Inv-loop μ-loop
 add-i c = search needs
 
--- src/scan.rt:13:5
 loop-less : tie.Need-loop-less Inv-loop μ-loop
 loop-less c = search needs
 
--- src/scan.rt:13:5
 loop-again : tie.Need-loop-again Inv-loop μ-loop
 loop-again c =
     let l = c .before .before .before .loop in
@@ -51,7 +45,6 @@ loop-again c =
     let h : l .i < length s = omega arith in
     (omega arith, omega (arith, l .inv .1, until-later _ s (l .i) h (c .if1 .left)))
 
--- src/scan.rt:9:1
 returns-2 : tie.Need-returns-2 Inv-loop μ-loop
 unfolding until
 returns-2 c =

@@ -18,23 +18,18 @@ Inv-loop s w i₀ i = (i ≤ length s) × (length s ≡ length w) × (same s w �
 abbrev μ-loop : tie.MeasureT-loop
 μ-loop s w i₀ i = length s - i
 
--- src/scan.rt:26:9
 returns : tie.Need-returns Inv-loop μ-loop
 returns c = sym (same-longer _ _ (c .if1 .taken))
 
--- src/scan.rt:29:5
 loop-holds : tie.Need-loop-holds Inv-loop μ-loop
 loop-holds c = (omega arith, omega arith, refl)
 
--- src/scan.rt:30:12
 shared-slice-read-if2 : tie.Need-shared-slice-read-if2 Inv-loop μ-loop
 shared-slice-read-if2 c = search needs
 
--- src/scan.rt:30:20
 shared-slice-read-if2-2 : tie.Need-shared-slice-read-if2-2 Inv-loop μ-loop
 shared-slice-read-if2-2 c = search needs
 
--- src/scan.rt:31:13
 returns-2 : tie.Need-returns-2 Inv-loop μ-loop
 returns-2 c =
     let l = c .before .before .before .before .loop in
@@ -43,15 +38,12 @@ returns-2 c =
     let k : l .i < length (a .w .now) = omega arith in
     sym (l .inv .2 ∙ same-differ _ _ (l .i) h k (c .if2 .taken))
 
--- src/scan.rt:33:9
 add-i : tie.Need-add-i Inv-loop μ-loop
 add-i c = search needs
 
--- src/scan.rt:29:5
 loop-less : tie.Need-loop-less Inv-loop μ-loop
 loop-less c = search needs
 
--- src/scan.rt:29:5
 loop-again : tie.Need-loop-again Inv-loop μ-loop
 loop-again c =
     let l = c .before .before .before .before .loop in
@@ -60,7 +52,6 @@ loop-again c =
     let k : l .i < length (a .w .now) = omega arith in
     (omega arith, l .inv .1, l .inv .2 ∙ same-step _ _ (l .i) h k (c .if2 .left))
 
--- src/scan.rt:22:1
 returns-3 : tie.Need-returns-3 Inv-loop μ-loop
 unfolding same
 returns-3 c =
