@@ -40,7 +40,16 @@ impl Folder {
 
     /// kz with words parted by spaces.
     fn command(&self, words: &str) -> Command {
-        let mut command = Command::new(env!("CARGO_BIN_EXE_kz"));
+        let kz = env!("CARGO_BIN_EXE_kz");
+        // Where the tests are run by an emulator (tests/x86), so is kz.
+        let mut command = match std::env::var_os("KZ_EMULATOR") {
+            None => Command::new(kz),
+            Some(emulator) => {
+                let mut command = Command::new(emulator);
+                command.arg(kz);
+                command
+            }
+        };
         command.args(words.split_whitespace()).current_dir(&self.0);
         command
     }
@@ -422,6 +431,10 @@ fn bench_with(folder: &Folder, source: Option<&Path>) -> (Option<i32>, String, S
 // One test, since oracle/run has one place for what it makes.
 #[test]
 fn bench_beside_the_rust() {
+    // An emulator's times say nothing (tests/rust says that this is skipped).
+    if std::env::var_os("KZ_EMULATOR").is_some() {
+        return;
+    }
     let folder = Folder::new("beside");
     let skipped = "comparison with the Rust skipped";
     let (status, said, errors) = bench_with(&folder, None);
