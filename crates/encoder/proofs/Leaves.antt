@@ -12,7 +12,7 @@ use Rattle.demands.specs.declared.Checked.{Checked}
 use Rattle.demands.specs.declared.Checked.the-variants as C
 use Rattle.demands.specs.Settings.{checkedOf}
 use Rattle.demands.proofs.Accepted.{accepted-says}
-use Rattle.stages.specs.Run.{Run, stopped, went}
+use Rattle.steps.specs.Run.{Run, stopped, went}
 use Rattle.stages.specs.Forward.{forwardRun}
 use Rattle.stages.specs.Vectors.{ranBy, leftBy, ranOf, leftOf}
 use Rattle.stages.proofs.Runs.{vectors-long}

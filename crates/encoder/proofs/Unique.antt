@@ -12,7 +12,7 @@ use Rattle.demands.specs.declared.Checked.the-variants as C
 use Rattle.encoder.specs.declared.Encoded.{Encoded}
 use Rattle.encoder.specs.declared.Encoded.the-variants.{Tokens}
 use Rattle.demands.specs.Settings.{mergeArea, checkedOf}
-use Rattle.stages.specs.Run.{Run, stopped, went}
+use Rattle.steps.specs.Run.{Run, stopped, went}
 use Rattle.stages.specs.Forward.{forwardRun}
 use Rattle.encoder.specs.Forward.{encodedBy, encodedOf, outOf, scratchOf}
 use Rattle.demands.proofs.Accepted.{accepted-says}

@@ -10,7 +10,7 @@ use Rattle.demands.specs.declared.EncoderSettings.{EncoderSettings}
 use Rattle.demands.specs.declared.Checked.{Checked}
 use Rattle.demands.specs.declared.Checked.the-variants as C
 use Rattle.demands.specs.Settings.{checkedOf}
-use Rattle.stages.specs.Run.{Run, stopped, went}
+use Rattle.steps.specs.Run.{Run, stopped, went}
 use Rattle.stages.specs.Forward.{forwardRun}
 use Rattle.encoder.specs.declared.Encoded.{Encoded}
 use Rattle.encoder.specs.declared.Encoded.the-variants.{Tokens, Refused}

@@ -7,16 +7,18 @@ use native.Mathlib.Omega.{arith}
 use lib.ListN.{length}
 use lib.Ieee.{Float}
 use Rattle.buffers.specs.Region.{region}
-use Rattle.stages.specs.declared.Sizes.{Sizes}
-use Rattle.stages.specs.Sizes.{dimOf, nOf}
+use Rattle.blocks.specs.declared.Sizes.{Sizes}
+use Rattle.blocks.specs.Sizes.{dimOf, nOf}
 use Rattle.elements.specs.Element.{rounded}
-use Rattle.stages.specs.Run.{Run, fine, answer, thenRun}
+use Rattle.steps.specs.Run.{Run, fine, answer, thenRun}
 use Rattle.stages.specs.Embed.{patchConv, lnPre, inputsFine, embedRun}
-use Rattle.stages.specs.Live.{Wrote, hAt, Embedded}
+use Rattle.steps.specs.Step.{Wrote}
+use Rattle.blocks.specs.Live.{hAt}
+use Rattle.stages.specs.Live.{Embedded}
 use Rattle.sums.proofs.Sums.{length-linear}
 use Rattle.kernels.proofs.Lengths.{length-norm}
 use Rattle.elements.proofs.Lengths.{length-rounded}
-use Rattle.stages.proofs.Lives.{answer-then, got, long}
+use Rattle.steps.proofs.Writes.{answer-then, got, long}
 
 module _ (z : Sizes) (f : ℕ) (w x s : List Float) (room : 2 * nOf z ≤ length s) where
   abbrev n : ℕ

@@ -1,9 +1,6 @@
-pub mod Lives
-pub mod Turns
 pub mod Merges
 pub mod Projects
 pub mod Embeds
 pub mod Runs
-pub mod Fronts
 pub mod Ready
 pub mod Unique

@@ -14,14 +14,14 @@ use Rattle.buffers.proofs.Lists.{length-tab, length-rows}
 use Rattle.kernels.specs.Finite.{sound}
 use Rattle.elements.specs.Element.{gelued}
 use Rattle.stages.specs.Merge.{placeOf, mergedToken, mergeOf}
-use Rattle.stages.specs.Run.{fine, answer}
+use Rattle.steps.specs.Run.{fine, answer}
 use Rattle.stages.specs.Project.{projNorm, mergingLayer, linear1, linear2, projectRun}
-use Rattle.stages.specs.Live.{Wrote}
+use Rattle.steps.specs.Step.{Wrote}
 use Rattle.stages.specs.Fits.{ProjFits}
 use Rattle.sums.proofs.Sums.{length-linear}
 use Rattle.kernels.proofs.Lengths.{length-norm}
 use Rattle.elements.proofs.Lengths.{length-gelued}
-use Rattle.stages.proofs.Lives.{got, long}
+use Rattle.steps.proofs.Writes.{got, long}
 
 -- the merged rows of o output tokens
 pub length-merge : (merge gh gw dim : ℕ) (x : List Float) → length (mergeOf merge gh gw dim x) ≡ gh / merge * (gw / merge) * (dim * (merge * merge))

@@ -11,11 +11,12 @@ use Rattle.limits.specs.Shape.{most}
 use Rattle.demands.specs.declared.EncoderSettings.{EncoderSettings}
 use Rattle.demands.specs.Settings.{mergeArea}
 use Rattle.demands.proofs.Accepted.{Lengths, Ready}
-use Rattle.stages.specs.declared.Sizes.{Sizes}
-use Rattle.stages.specs.Sizes.{hdOf, dimOf}
+use Rattle.blocks.specs.declared.Sizes.{Sizes}
+use Rattle.blocks.specs.Sizes.{hdOf, dimOf}
 use Rattle.stages.specs.Live.{regionsOf}
 use Rattle.stages.specs.Forward.{sizesOf, placesOf, runOf, forwardRun}
-use Rattle.stages.specs.Fits.{PlacesFit, RegionsFit, EmbedFits, TurnFits, LayersFits, SourceFits, MergeFits, ProjFits, RunFits}
+use Rattle.blocks.specs.Fits.{TurnFits, LayersFits}
+use Rattle.stages.specs.Fits.{PlacesFit, RegionsFit, EmbedFits, SourceFits, MergeFits, ProjFits, RunFits}
 
 -- the two halves of a head
 halves : (d : ℕ) → d % 4 ≡ 0 → d / 2 + d / 2 ≡ d
@@ -136,6 +137,7 @@ module _ (s : EncoderSettings) (gh gw lenx lenw lenc lenn out lens t o : ℕ) (r
       record {
         weights = rw dim-is (omega (arith, l .weights-are));
         one = rw dim-is (omega (arith, r .bounds .squares, r .bounds .inner, r .bounds .outer, r .bounds .hidden-high));
+        inner = r .settings .ranges .inner .1;
         turn = turn-fits;
         scores = record { behind = omega arith; inside = rw dim-is (omega (arith, l .scratch-holds)) };
       }

@@ -1,5 +1,5 @@
 -- The whole run from its pieces, and what it hands on. Assumes nothing.
-use mathlib.Core.Bool.{Bool, true, false, _&&_, true≢false}
+use mathlib.Core.Bool.{Bool, true, _&&_}
 use mathlib.Core.Path.{_≡_, sym, ap, _∙_}
 use mathlib.Core.List.{List, [], _∷_}
 use Prim.Native.Nat.{ℕ, _+_, _*_}
@@ -7,18 +7,20 @@ use lib.ListN.{length}
 use lib.Ieee.{Float}
 use Rattle.buffers.specs.Region.{region}
 use Rattle.demands.specs.declared.EncoderSettings.{EncoderSettings}
-use Rattle.stages.specs.declared.Sizes.{Sizes}
+use Rattle.blocks.specs.declared.Sizes.{Sizes}
 use Rattle.stages.specs.declared.Places.{Places}
 use Rattle.stages.specs.declared.Regions.{Regions}
-use Rattle.stages.specs.Sizes.{dimOf}
+use Rattle.blocks.specs.Sizes.{dimOf}
 use Rattle.sums.proofs.Sums.{length-linear}
 use Rattle.elements.specs.Element.{gelued}
-use Rattle.stages.specs.Run.{Run, stopped, went, fine, answer, thenRun}
+use Rattle.steps.specs.Run.{went, fine, answer, thenRun}
+use Rattle.steps.proofs.Writes.{answer-went, then-went}
 use Rattle.stages.specs.Embed.{inputsFine, embedRun}
-use Rattle.stages.specs.Layers.{layersRun}
+use Rattle.blocks.specs.Layers.{layersRun}
 use Rattle.stages.specs.Merge.{mergeOf}
 use Rattle.stages.specs.Project.{projNorm, mergingLayer, linear1, linear2, projectRun}
-use Rattle.stages.specs.Live.{hAt, regionsOf, Embedded}
+use Rattle.blocks.specs.Live.{hAt}
+use Rattle.stages.specs.Live.{regionsOf, Embedded}
 use Rattle.stages.specs.Forward.{sizesOf, placesOf, runOf}
 use Rattle.stages.proofs.Embeds.{embed-run, three}
 
@@ -49,25 +51,7 @@ module _ (s : EncoderSettings) (gh gw t o : ℕ) (w cos sin x : List Float) wher
       (layersRun z (p .layers) w cos sin (s .«num_layers»)) (P (region w (p .projector) (p .size)))
       (embed-run z (p .floats) w cos sin x s₁ ok a i g) (sym l) (ap (λ u. P u (hAt z s₂)) (sym d) ∙ sym k)
 
--- ---- what is left once the run is over
-
-pub went-of : (ok : Bool) (l : List Float) (r : Run) → answer ok l ≡ r → ok ≡ true → went l ≡ r
-went-of true l r e h = e
-went-of false l r e h = absurd (true≢false (sym h))
-
-pub stopped-of : (ok : Bool) (l : List Float) (r : Run) → answer ok l ≡ r → ok ≡ false → stopped ≡ r
-stopped-of false l r e h = e
-stopped-of true l r e h = absurd (true≢false h)
-
 -- ---- what a run that went hands on
-
-answer-went : (b : Bool) (d l : List Float) → answer b d ≡ went l → d ≡ l
-answer-went true d l e = cc
-answer-went false d l e = let z : _≡_ {A = ℕ} 0 1 = cc in cc
-
-then-went : (r : Run) (f : List Float → Run) (l : List Float) → thenRun r f ≡ went l → (h : List Float) × (f h ≡ went l)
-then-went (went h) f l e = (h, e)
-then-went stopped f l e = let z : _≡_ {A = ℕ} 0 1 = cc in (l, cc)
 
 project-long : (t dim o wide text merge gh gw : ℕ) (w h l : List Float) → projectRun t dim o wide text merge gh gw w h ≡ went l → length l ≡ o * text
 unfolding projectRun linear2

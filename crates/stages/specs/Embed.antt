@@ -4,13 +4,13 @@ use mathlib.Core.List.{List, [], _∷_}
 use Prim.Native.Nat.{ℕ, _*_}
 use lib.Ieee.{Float}
 use Rattle.buffers.specs.Region.{region}
-use Rattle.stages.specs.declared.Sizes.{Sizes}
-use Rattle.stages.specs.Sizes.{dimOf, nOf}
+use Rattle.blocks.specs.declared.Sizes.{Sizes}
+use Rattle.blocks.specs.Sizes.{dimOf, nOf}
 use Rattle.sums.specs.Linear.{linearOf}
 use Rattle.kernels.specs.Finite.{sound}
 use Rattle.elements.specs.Element.{rounded}
 use Rattle.kernels.specs.Norm.{normOf}
-use Rattle.stages.specs.Run.{Run, checked}
+use Rattle.steps.specs.Run.{Run, checked}
 
 unfoldable pub patchConv : Sizes → ℕ → List Float → List Float → List Float
 patchConv z f w x = linearOf (z .tokens) f (dimOf z) (region w 0 (dimOf z * f)) x

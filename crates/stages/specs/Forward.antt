@@ -9,13 +9,13 @@ use Rattle.limits.specs.Shape.{most}
 use Rattle.demands.specs.declared.EncoderSettings.{EncoderSettings}
 use Rattle.demands.specs.Weights.{projectorFloats}
 use Rattle.demands.specs.Settings.{mergeArea}
-use Rattle.stages.specs.declared.Sizes.{Sizes}
+use Rattle.blocks.specs.declared.Sizes.{Sizes}
 use Rattle.stages.specs.declared.Places.{Places}
-use Rattle.stages.specs.Sizes.{dimOf}
-use Rattle.stages.specs.Weights.{layerOf}
-use Rattle.stages.specs.Run.{Run, thenRun}
+use Rattle.blocks.specs.Sizes.{dimOf}
+use Rattle.blocks.specs.Weights.{layerOf}
+use Rattle.steps.specs.Run.{Run, thenRun}
 use Rattle.stages.specs.Embed.{embedRun}
-use Rattle.stages.specs.Layers.{layersRun}
+use Rattle.blocks.specs.Layers.{layersRun}
 use Rattle.stages.specs.Project.{projectRun}
 
 -- the sizes of a call with t tokens in a grid gw wide

@@ -1,10 +1,5 @@
-pub mod Sizes
-pub mod Weights
-pub mod Run
-pub mod Block
 pub mod Embed
 pub mod Live
-pub mod Layers
 pub mod Merge
 pub mod Project
 pub mod Forward

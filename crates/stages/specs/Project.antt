@@ -8,7 +8,7 @@ use Rattle.sums.specs.Linear.{linearOf}
 use Rattle.kernels.specs.Norm.{normOf}
 use Rattle.elements.specs.Element.{gelued}
 use Rattle.stages.specs.Merge.{mergeOf}
-use Rattle.stages.specs.Run.{Run, checked}
+use Rattle.steps.specs.Run.{Run, checked}
 
 -- t tokens of dim; o output tokens, whose merged rows have wide floats; text
 module _ (t dim o wide text : ℕ) where

@@ -9,7 +9,7 @@ use Rattle.demands.specs.declared.EncoderSettings.{EncoderSettings}
 use Rattle.demands.specs.declared.Checked.{Checked}
 use Rattle.demands.specs.declared.Checked.the-variants.{Accepted, Refused}
 use Rattle.demands.specs.Settings.{checkedOf}
-use Rattle.stages.specs.Run.{Run, stopped, went}
+use Rattle.steps.specs.Run.{Run, stopped, went}
 use Rattle.stages.specs.Forward.{forwardRun}
 
 -- what settings and lengths say, and 12 where the run stopped

@@ -1,15 +1,18 @@
 // The embedding: inputs examined, patch projection, ln_pre.
 ghost use mathlib.Core.Path.{_≡_};
 ghost use lib.ListN.{length};
+ghost use Rattle.sums.specs.Linear.{linearOf};
+ghost use Rattle.sums.specs.Fits.{FromFits};
+ghost use Rattle.steps.specs.Step.{Wrote};
 ghost use Rattle.stages.specs.Live.{Embedded};
 ghost use Rattle.stages.specs.Embed.{inputsFine};
 ghost use Rattle.stages.specs.Fits.{EmbedFits};
-use crate::Sizes;
-use crate::stage::from_fine;
-use crate::stage::norm_fine;
-use crate::stage::round_fine;
+use blocks::Sizes;
 use buffers::part;
 use kernels::finite::finite;
+use steps::norm_fine;
+use steps::round_fine;
+use sums::linear::linear_from;
 
 // Whether patches, weights and tables are finite.
 pub(crate) fn inputs_fine(x: &[f32], w: &[f32], cos: &[f32], sin: &[f32]) -> bool
@@ -20,6 +23,25 @@ pub(crate) fn inputs_fine(x: &[f32], w: &[f32], cos: &[f32], sin: &[f32]) -> boo
     let c = finite(cos);
     let d = finite(sin);
     ((a & b) & c) & d
+}
+
+// A linear layer of another slice, and whether all is finite up to here.
+pub(crate) fn from_fine(
+    x: &[f32],
+    s: &mut [f32],
+    y: usize,
+    n: usize,
+    nin: usize,
+    nout: usize,
+    w: &[f32],
+    ok: bool,
+) -> bool
+    requires { ⌜ FromFits (length (now x)) (length (now s)) (length (now w)) y n nin nout ⌝ }
+    ensures { λ r. ⌜ Wrote (now (s .entry)) (now (s .exit)) y (linearOf n nin nout (now (w .entry)) (now (x .entry))) ok r ⌝ }
+{
+    linear_from(x, s, y, n, nin, nout, w);
+    let e = n * nout;
+    ok & finite(part(s, y, e))
 }
 
 // Patch projection and ln_pre, each rounded to bf16: h at 0.

@@ -6,7 +6,7 @@ ghost use Rattle.stages.specs.Forward.{sizesOf, placesOf};
 ghost use Rattle.stages.specs.Fits.{PlacesFit, RegionsFit};
 use crate::Places;
 use crate::Regions;
-use crate::Sizes;
+use blocks::Sizes;
 use demands::EncoderSettings;
 
 pub(crate) fn sizes_of(s: EncoderSettings, t: usize, gw: usize) -> Sizes

@@ -1,22 +1,8 @@
-// The stages of forward, in one lent scratch: embedding, layers, projector.
-mod block;
+// The stages of forward, in one lent scratch: embedding, layers, projector; and the run of them.
 mod embed;
-mod layers;
 mod layout;
 mod projector;
 pub mod run;
-mod stage;
-
-// The sizes of a call: half is half of the head width, side is P, the most patches on a side.
-pub(crate) struct Sizes {
-    pub tokens: usize,
-    pub grid_w: usize,
-    pub side: usize,
-    pub heads: usize,
-    pub half: usize,
-    pub inter: usize,
-    pub scaling: f32,
-}
 
 // The floats of a patch, where the layers and the projector stand in the weights, the width of a merged row, and the
 // floats of the projector.

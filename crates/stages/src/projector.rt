@@ -1,16 +1,19 @@
 // The projector: norm, spatial merge, merging layer, linear_1, gelu, linear_2.
 ghost use mathlib.Core.Path.{_≡_};
-ghost use Prim.Native.Nat.{_+_, _*_};
+ghost use Prim.Native.Nat.{_+_, _*_, _≤_};
 ghost use lib.ListN.{length};
 ghost use Rattle.buffers.specs.Region.{region, put};
-ghost use Rattle.stages.specs.Run.{answer};
+ghost use Rattle.elements.specs.Element.{gelued};
+ghost use Rattle.steps.specs.Run.{answer};
+ghost use Rattle.steps.specs.Step.{Wrote};
 ghost use Rattle.stages.specs.Merge.{sourceOf, mergeOf};
 ghost use Rattle.stages.specs.Project.{projectRun};
 ghost use Rattle.stages.specs.Fits.{SourceFits, MergeFits, ProjFits};
-use crate::stage::gelu_fine;
-use crate::stage::matrix;
-use crate::stage::norm_fine;
 use buffers::part;
+use elements::element::gelu_inplace;
+use kernels::finite::finite;
+use steps::matrix;
+use steps::norm_fine;
 
 // Where place p of the merged rows takes its value from.
 pub(crate) fn source(p: usize, merge: usize, gh: usize, gw: usize, dim: usize) -> usize
@@ -48,6 +51,15 @@ pub(crate) fn merge_tokens(
         s[y + p] = s[x + i];
         p += 1;
     }
+}
+
+// gelu of the n floats at y, and whether all is finite up to here.
+pub(crate) fn gelu_fine(s: &mut [f32], y: usize, n: usize, ok: bool) -> bool
+    requires { ⌜ y + n ≤ length (now s) ⌝ }
+    ensures { λ r. ⌜ Wrote (now (s .entry)) (now (s .exit)) y (gelued n (region (now (s .entry)) y n)) ok r ⌝ }
+{
+    gelu_inplace(s, y, n);
+    ok & finite(part(s, y, n))
 }
 
 // The projector, on h at 0; its result at at + o * text. w is the projector's part of the weights.

@@ -13,10 +13,10 @@ use Rattle.limits.specs.declared.Refusal.{Refusal}
 use Rattle.demands.specs.declared.Checked.{Checked}
 use Rattle.demands.specs.declared.Checked.the-variants as C
 use Rattle.demands.specs.Settings.{checkedOf}
-use Rattle.stages.specs.Run.{Run, stopped, went}
+use Rattle.steps.specs.Run.{Run, stopped, went}
 use Rattle.stages.specs.Forward.{forwardRun}
 use Rattle.stages.specs.Vectors.{ranBy, leftBy, ranOf, leftOf}
-use Rattle.stages.proofs.Fronts.{front-is, front-cleared}
+use Rattle.steps.proofs.Fronts.{front-is, front-cleared}
 use Rattle.encoder.specs.declared.Encoded.the-variants.{Refused}
 use Rattle.encoder.specs.Forward.{encodedBy, outBy, scratchBy, encodedOf, outOf, scratchOf}
 use Rattle.encoder.proofs.Leaves.{copied-over, went-says, went-by}

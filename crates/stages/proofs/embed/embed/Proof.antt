@@ -6,8 +6,9 @@ use borrow.Author.Needs.{needs}
 use lib.ListN.{length}
 use Rattle.buffers.proofs.Regions.{length-region}
 use Rattle.buffers.specs.Region.{after}
-use Rattle.stages.specs.Sizes.{dimOf, nOf}
+use Rattle.blocks.specs.Sizes.{dimOf, nOf}
 use Rattle.stages.specs.Embed.{patchConv, lnPre}
+use Rattle.steps.proofs.Writes.{norm-wrote, round-wrote}
 use Rattle.stages.proofs.Embeds.{embedded}
 use Rattle.stages.proofs.embed.embed.Statement.{statement}
 use Rattle.stages.proofs.embed.embed.Tie as tie
@@ -35,27 +36,16 @@ from-fine-requires c κs =
     record { xin = omega (arith, g .xin); yin = omega (arith, g .room); win = omega (arith, e) }
 
 round-fine-requires : tie.Need-round-fine-requires
-round-fine-requires c κs = omega (arith, c .before .before .before .before .before .before .before .before .before .before .pre .room, c .before .before .before .from-fine .kept .1 .0)
+round-fine-requires c κs = search needs
 
 part-requires-2 : tie.Need-part-requires-2
 part-requires-2 c κs = search needs
 
 norm-fine-requires : tie.Need-norm-fine-requires
-norm-fine-requires c κs =
-    let a = c .before .before .before .before .before .before .before .before .before .before .before .before .before .before .before .args in
-    let g = c .before .before .before .before .before .before .before .before .before .before .before .before .before .before .before .pre in
-    let n = nOf (a .z) in
-    let l = c .before .before .before .before .round-fine .kept .0 ∙ c .before .before .before .before .before .before .before .before .from-fine .kept .1 .0 in
-    record {
-      small = g .small;
-      xin = omega (arith, g .room, l);
-      yin = omega (arith, g .room, l);
-      win = ap length (c .part2 .ensures) ∙ length-region (a .w .now) (dimOf (a .z) * a .f) (dimOf (a .z)) (g .weights);
-      apart = after (omega arith);
-    }
+norm-fine-requires c κs = search needs
 
 round-fine-requires-2 : tie.Need-round-fine-requires-2
-round-fine-requires-2 c κs = omega (arith, c .before .before .before .before .before .before .before .before .before .before .before .before .before .before .before .before .before .before .before .pre .room, c .before .before .before .norm-fine .kept .0, c .before .before .before .before .before .before .before .before .round-fine .kept .0, c .before .before .before .before .before .before .before .before .before .before .before .before .from-fine .kept .1 .0)
+round-fine-requires-2 c κs = search needs
 
 same-length : tie.Need-same-length
 same-length c = c .before .before .round-fine2 .kept .0 ∙ c .before .before .before .before .before .before .norm-fine .kept .0 ∙ c .before .before .before .before .before .before .before .before .before .before .before .round-fine .kept .0 ∙ c .before .before .before .before .before .before .before .before .before .before .before .before .before .before .before .from-fine .kept .1 .0
@@ -64,9 +54,29 @@ returns : tie.Need-returns
 unfolding patchConv lnPre
 returns c =
     let a = c .before .before .before .before .before .before .before .before .before .before .before .before .before .before .before .before .before .before .before .before .before .before .args in
-    embedded (a .z) (a .f) (a .w .now) (a .x .now) (a .s .now) (c .before .before .before .before .before .before .before .before .before .before .before .before .before .before .before .before .before .before .before .before .before .before .pre .room) (c .before .before .before .before .before .before .before .before .before .before .before .before .before .before .before .from-fine .last .1 .0) (c .before .before .before .before .before .before .before .before .before .before .before .round-fine .last .0) (c .before .before .before .before .before .before .norm-fine .last .0) (c .before .before .round-fine2 .last .0)
-    (a .ok) (c .before .before .before .before .before .before .before .before .before .before .before .before .before .before .before .from-fine .result) (c .before .before .before .before .before .before .before .before .before .before .before .round-fine .result) (c .before .before .before .before .before .before .norm-fine .result) (c .before .before .round-fine2 .result)
-    (rw (c .before .before .before .before .before .before .before .before .before .before .before .before .before .before .before .before .part .ensures) at (c .before .before .before .before .before .before .before .before .before .before .before .before .before .before .before .from-fine .ensures)) (c .before .before .before .before .before .before .before .before .before .before .before .round-fine .ensures) (rw (c .before .before .before .before .before .before .before .part2 .ensures) at (c .before .before .before .before .before .before .norm-fine .ensures)) (c .before .before .round-fine2 .ensures)
+    let g = c .before .before .before .before .before .before .before .before .before .before .before .before .before .before .before .before .before .before .before .before .before .before .pre in
+    let n = nOf (a .z) in
+    let x = c .before .before .before .before .before .before .before .before .before .before .before .before .before .before .before .from-fine in
+    let y = c .before .before .before .before .before .before .before .before .before .before .before .round-fine in
+    let q = c .before .before .before .before .before .before .before .part2 in
+    let z = c .before .before .before .before .before .before .norm-fine in
+    let r = c .before .before .round-fine2 in
+    let l = y .kept .0 ∙ x .kept .1 .0 in
+    embedded (a .z) (a .f) (a .w .now) (a .x .now) (a .s .now) (g .room) (x .last .1 .0) (y .last .0) (z .last .0) (r .last .0)
+    (a .ok) (x .result) (y .result) (z .result) (r .result)
+    (rw (c .before .before .before .before .before .before .before .before .before .before .before .before .before .before .before .before .part .ensures) at (x .ensures))
+    (round-wrote n n (omega (arith, g .room, x .kept .1 .0)) (y .ensures))
+    (rw (q .ensures) at
+    (norm-wrote (q .result .now) n 0 (a .z .tokens) (dimOf (a .z))
+    (record {
+      small = g .small;
+      xin = omega (arith, g .room, l);
+      yin = omega (arith, g .room, l);
+      win = ap length (q .ensures) ∙ length-region (a .w .now) (dimOf (a .z) * a .f) (dimOf (a .z)) (g .weights);
+      apart = after (omega arith);
+    })
+    (z .ensures)))
+    (round-wrote 0 n (omega (arith, g .room, z .kept .0, l)) (r .ensures))
 
 pub embed-spec : {M : Type 1} → statement M
 embed-spec =

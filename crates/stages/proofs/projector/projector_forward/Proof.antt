@@ -1,11 +1,13 @@
 -- `stages::projector::projector_forward` meets its contract. Assumes nothing.
 use mathlib.Core.Path.{ap, _∙_}
+use Prim.Native.Nat.{_+_, _*_}
 use native.Mathlib.Omega.{arith}
 use borrow.Author.Needs.{needs}
 use lib.ListN.{length}
 use Rattle.buffers.proofs.Regions.{length-region}
 use Rattle.buffers.specs.Region.{before}
 use Rattle.stages.specs.Project.{projNorm, mergingLayer, linear1, linear2}
+use Rattle.steps.proofs.Writes.{norm-wrote, matrix-wrote}
 use Rattle.stages.proofs.Projects.{project-run}
 use Rattle.stages.proofs.projector.projector_forward.Statement.{statement}
 use Rattle.stages.proofs.projector.projector_forward.Tie as tie
@@ -32,16 +34,7 @@ part-requires : tie.Need-part-requires
 part-requires c κs = search needs
 
 norm-fine-requires : tie.Need-norm-fine-requires
-norm-fine-requires c κs =
-    let a = c .before .before .before .before .args in
-    let g = c .before .before .before .before .pre in
-    record {
-      small = g .small;
-      xin = omega arith;
-      yin = omega arith;
-      win = ap length (c .part .ensures) ∙ length-region (a .w .now) 0 (a .dim) (omega arith);
-      apart = before (omega arith);
-    }
+norm-fine-requires c κs = search needs
 
 mul-merge-tokens : tie.Need-mul-merge-tokens
 mul-merge-tokens c = search needs
@@ -59,19 +52,13 @@ mul-matrix-2 : tie.Need-mul-matrix-2
 mul-matrix-2 c = search needs
 
 matrix-requires : tie.Need-matrix-requires
-matrix-requires c κs =
-    let g = c .before .before .before .before .before .before .before .before .before .before .before .before .pre in
-    let l = c .before .before .before .merge-tokens .kept .0 ∙ c .before .before .before .before .before .before .before .norm-fine .kept .0 in
-    record { xIn = omega arith; yIn = omega arith; wIn = omega arith; apart = before (omega arith) }
+matrix-requires c κs = search needs
 
 mul-matrix-3 : tie.Need-mul-matrix-3
 mul-matrix-3 c = search needs
 
 matrix-requires-2 : tie.Need-matrix-requires-2
-matrix-requires-2 c κs =
-    let g = c .before .before .before .before .before .before .before .before .before .before .before .before .before .before .before .before .pre in
-    let l = c .before .before .before .matrix .kept .0 ∙ c .before .before .before .before .before .before .before .merge-tokens .kept .0 ∙ c .before .before .before .before .before .before .before .before .before .before .before .norm-fine .kept .0 in
-    record { xIn = omega arith; yIn = omega arith; wIn = omega arith; apart = before (omega arith) }
+matrix-requires-2 c κs = search needs
 
 gelu-fine-requires : tie.Need-gelu-fine-requires
 gelu-fine-requires c κs =
@@ -83,10 +70,7 @@ add-matrix : tie.Need-add-matrix
 add-matrix c = omega (arith, c .before .before .before .before .before .before .before .before .before .before .before .before .before .before .before .before .before .before .before .before .before .before .before .before)
 
 matrix-requires-3 : tie.Need-matrix-requires-3
-matrix-requires-3 c κs =
-    let g = c .before .before .before .before .before .before .before .before .before .before .before .before .before .before .before .before .before .before .before .before .before .before .before .before .pre in
-    let l = c .before .before .before .gelu-fine .kept .0 ∙ c .before .before .before .before .before .before .before .matrix2 .kept .0 ∙ c .before .before .before .before .before .before .before .before .before .before .before .matrix .kept .0 ∙ c .before .before .before .before .before .before .before .before .before .before .before .before .before .before .before .merge-tokens .kept .0 ∙ c .before .before .before .before .before .before .before .before .before .before .before .before .before .before .before .before .before .before .before .norm-fine .kept .0 in
-    record { xIn = omega arith; yIn = omega arith; wIn = omega arith; apart = before (omega arith) }
+matrix-requires-3 c κs = search needs
 
 same-length : tie.Need-same-length
 same-length c = c .before .before .matrix3 .kept .0 ∙ c .before .before .before .before .before .before .gelu-fine .kept .0 ∙ c .before .before .before .before .before .before .before .before .before .before .matrix2 .kept .0 ∙ c .before .before .before .before .before .before .before .before .before .before .before .before .before .before .matrix .kept .0 ∙ c .before .before .before .before .before .before .before .before .before .before .before .before .before .before .before .before .before .before .merge-tokens .kept .0 ∙ c .before .before .before .before .before .before .before .before .before .before .before .before .before .before .before .before .before .before .before .before .before .before .norm-fine .kept .0
@@ -95,9 +79,43 @@ returns : tie.Need-returns
 unfolding projNorm mergingLayer linear1 linear2
 returns c =
     let a = c .before .before .before .before .before .before .before .before .before .before .before .before .before .before .before .before .before .before .before .before .before .before .before .before .before .before .before .args in
-    project-run (a .t) (a .dim) (a .o) (a .wide) (a .text) (a .w .now) (a .s .now) (c .before .before .before .before .before .before .before .before .before .before .before .before .before .before .before .before .before .before .before .before .before .before .norm-fine .last .0) (c .before .before .before .before .before .before .before .before .before .before .before .before .before .before .before .before .before .before .merge-tokens .last .0) (c .before .before .before .before .before .before .before .before .before .before .before .before .before .before .matrix .last .0) (c .before .before .before .before .before .before .before .before .before .before .matrix2 .last .0) (c .before .before .before .before .before .before .gelu-fine .last .0) (c .before .before .matrix3 .last .0)
-    (length (a .w .now)) (a .merge) (a .gh) (a .gw) (a .at) (c .before .before .before .before .before .before .before .before .before .before .before .before .before .before .before .before .before .before .before .before .before .before .norm-fine .result) (c .before .before .before .before .before .before .before .before .before .before .before .before .before .before .matrix .result) (c .before .before .before .before .before .before .before .before .before .before .matrix2 .result) (c .before .before .before .before .before .before .gelu-fine .result) (c .before .before .matrix3 .result) (c .before .before .before .before .before .before .before .before .before .before .before .before .before .before .before .before .before .before .before .before .before .before .before .before .before .before .before .pre)
-    (rw (c .before .before .before .before .before .before .before .before .before .before .before .before .before .before .before .before .before .before .before .before .before .before .before .part .ensures) at (c .before .before .before .before .before .before .before .before .before .before .before .before .before .before .before .before .before .before .before .before .before .before .norm-fine .ensures)) (c .before .before .before .before .before .before .before .before .before .before .before .before .before .before .before .before .before .before .merge-tokens .ensures) (c .before .before .before .before .before .before .before .before .before .before .before .before .before .before .matrix .ensures) (c .before .before .before .before .before .before .before .before .before .before .matrix2 .ensures) (c .before .before .before .before .before .before .gelu-fine .ensures) (c .before .before .matrix3 .ensures)
+    let g = c .before .before .before .before .before .before .before .before .before .before .before .before .before .before .before .before .before .before .before .before .before .before .before .before .before .before .before .pre in
+    let n = a .t * a .dim in
+    let e = a .o * a .text in
+    let p = a .dim + a .dim * a .wide in
+    let q = c .before .before .before .before .before .before .before .before .before .before .before .before .before .before .before .before .before .before .before .before .before .before .before .part in
+    let x₁ = c .before .before .before .before .before .before .before .before .before .before .before .before .before .before .before .before .before .before .before .before .before .before .norm-fine in
+    let x₂ = c .before .before .before .before .before .before .before .before .before .before .before .before .before .before .before .before .before .before .merge-tokens in
+    let x₃ = c .before .before .before .before .before .before .before .before .before .before .before .before .before .before .matrix in
+    let x₄ = c .before .before .before .before .before .before .before .before .before .before .matrix2 in
+    let x₅ = c .before .before .before .before .before .before .gelu-fine in
+    let x₆ = c .before .before .matrix3 in
+    let l₂ = x₂ .kept .0 ∙ x₁ .kept .0 in
+    let l₃ = x₃ .kept .0 ∙ l₂ in
+    let l₅ = x₅ .kept .0 ∙ x₄ .kept .0 ∙ l₃ in
+    project-run (a .t) (a .dim) (a .o) (a .wide) (a .text) (a .w .now) (a .s .now) (x₁ .last .0) (x₂ .last .0) (x₃ .last .0) (x₄ .last .0) (x₅ .last .0) (x₆ .last .0)
+    (length (a .w .now)) (a .merge) (a .gh) (a .gw) (a .at) (x₁ .result) (x₃ .result) (x₄ .result) (x₅ .result) (x₆ .result) g
+    (rw (q .ensures) at
+    (norm-wrote (q .result .now) 0 n (a .t) (a .dim)
+    (record {
+      small = g .small;
+      xin = omega (arith, g .at-is, g .room);
+      yin = omega (arith, g .at-is, g .room);
+      win = ap length (q .ensures) ∙ length-region (a .w .now) 0 (a .dim) (omega (arith, g .weights));
+      apart = before (omega arith);
+    })
+    (x₁ .ensures)))
+    (x₂ .ensures)
+    (matrix-wrote (a .w .now) (2 * n) (3 * n) (a .o) (a .wide) (a .dim) (a .dim)
+    (record { xIn = omega (arith, g .at-is, g .room, g .wideIn, l₂); yIn = omega (arith, g .at-is, g .room, g .foldIn, l₂); wIn = omega (arith, g .weights); apart = before (omega (arith, g .wideIn)) })
+    (x₃ .ensures))
+    (matrix-wrote (a .w .now) (3 * n) (a .at) (a .o) (a .dim) (a .text) p
+    (record { xIn = omega (arith, g .at-is, g .room, g .foldIn, l₃); yIn = omega (arith, g .room, l₃); wIn = omega (arith, g .weights); apart = before (omega (arith, g .at-is, g .foldIn)) })
+    (x₄ .ensures))
+    (x₅ .ensures)
+    (matrix-wrote (a .w .now) (a .at) (a .at + e) (a .o) (a .text) (a .text) (p + a .text * a .dim)
+    (record { xIn = omega (arith, g .room, l₅); yIn = omega (arith, g .room, l₅); wIn = omega (arith, g .weights); apart = before (omega arith) })
+    (x₆ .ensures))
 
 pub projector-forward-spec : {M : Type 1} → statement M
 projector-forward-spec =

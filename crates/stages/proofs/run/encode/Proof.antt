@@ -5,7 +5,8 @@ use native.Mathlib.Omega.{arith}
 use borrow.Author.Needs.{needs}
 use lib.ListN.{length}
 use Rattle.buffers.proofs.Regions.{length-region}
-use Rattle.stages.specs.Sizes.{hdOf, dimOf}
+use Rattle.blocks.specs.Sizes.{hdOf, dimOf}
+use Rattle.blocks.proofs.Leaves.{layers-done}
 use Rattle.stages.proofs.Runs.{run-of}
 use Rattle.stages.proofs.run.encode.Statement.{statement}
 use Rattle.stages.proofs.run.encode.Tie as tie
@@ -35,7 +36,7 @@ embed-requires : tie.Need-embed-requires
 embed-requires c κs = rw (c .before .before .before .before .before .places .ensures, c .before .before .before .before .before .before .sizes-of .ensures) (c .before .before .before .before .before .before .before .before .before .before .before .before .before .pre .1 .embeds)
 
 layers-requires : tie.Need-layers-requires
-layers-requires c κs = rw (c .before .before .before .embed .kept .1 .0, c .before .before .before .before .before .before .before .regions .ensures, c .before .before .before .before .before .before .before .before .before .places .ensures, c .before .before .before .before .before .before .before .before .before .before .sizes-of .ensures) (c .before .before .before .before .before .before .before .before .before .before .before .before .before .before .before .before .before .pre .1 .layers)
+layers-requires c κs = search needs
 
 part-requires : tie.Need-part-requires
 part-requires c κs = search needs
@@ -54,9 +55,16 @@ same-length c = c .before .before .projector-forward .kept .0 ∙ c .before .bef
 returns : tie.Need-returns
 returns c =
     let a = c .before .before .before .before .before .before .before .before .before .before .before .before .before .before .before .before .before .before .before .before .before .before .before .before .before .args in
+    let z = c .before .before .before .before .before .before .before .before .before .before .before .before .before .before .before .before .before .before .sizes-of .result in
+    let p = c .before .before .before .before .before .before .before .before .before .before .before .before .before .before .before .before .before .places .result in
+    let q = c .before .before .before .before .before .before .before .before .before .before .before .before .before .before .before .regions .result in
+    let n = c .before .before .before .before .before .before .before .before .before .before .before .embed in
+    let l = c .before .before .before .before .before .before .before .layers in
+    let done = layers-done z (n .last .1 .0) (l .last .0) (a .w .now) (a .cos .now) (a .sin .now) (q .row) (p .layers) (a .s .«num_layers») (l .result)
+    (rw (n .kept .1 .0, c .before .before .before .before .before .before .before .before .before .before .before .before .before .before .before .regions .ensures, c .before .before .before .before .before .before .before .before .before .before .before .before .before .before .before .before .before .places .ensures, c .before .before .before .before .before .before .before .before .before .before .before .before .before .before .before .before .before .before .sizes-of .ensures) (c .before .before .before .before .before .before .before .before .before .before .before .before .before .before .before .before .before .before .before .before .before .before .before .before .before .pre .1 .layers)) (l .ensures .0) (l .ensures .1) in
     run-of (a .s) (a .gh) (a .gw) (a .t) (a .o) (a .w .now) (a .cos .now) (a .sin .now) (a .patches .now) (c .before .before .before .before .part .result .now) (c .before .before .before .before .before .before .before .before .before .before .before .embed .last .1 .0) (c .before .before .before .before .before .before .before .layers .last .0) (c .before .before .projector-forward .last .0)
     (c .before .before .before .before .before .before .before .before .before .before .before .before .before .inputs-fine .result) (c .before .before .before .before .before .before .before .before .before .before .before .embed .result) (c .before .before .before .before .before .before .before .layers .result) (c .before .before .projector-forward .result)
-    (c .before .before .before .before .before .before .before .before .before .before .before .before .before .inputs-fine .ensures) (rw (c .before .before .before .before .before .before .before .before .before .before .before .before .before .before .before .before .before .places .ensures, c .before .before .before .before .before .before .before .before .before .before .before .before .before .before .before .before .before .before .sizes-of .ensures) at (c .before .before .before .before .before .before .before .before .before .before .before .embed .ensures)) (rw (c .before .before .before .before .before .before .before .before .before .before .before .before .before .before .before .before .before .places .ensures, c .before .before .before .before .before .before .before .before .before .before .before .before .before .before .before .before .before .before .sizes-of .ensures) at (c .before .before .before .before .before .before .before .layers .ensures)) (rw (c .before .before .before .before .before .before .before .before .before .before .before .before .before .before .before .before .before .places .ensures, c .before .before .before .before .before .before .before .before .before .before .before .before .before .before .before .before .before .before .sizes-of .ensures) at (c .before .before .before .before .part .ensures)) (rw (c .before .before .before .before .before .before .before .before .before .before .before .before .before .before .before .regions .ensures, c .before .before .before .before .before .before .before .before .before .before .before .before .before .before .before .before .before .places .ensures, c .before .before .before .before .before .before .before .before .before .before .before .before .before .before .before .before .before .before .sizes-of .ensures) at (c .before .before .projector-forward .ensures))
+    (c .before .before .before .before .before .before .before .before .before .before .before .before .before .inputs-fine .ensures) (rw (c .before .before .before .before .before .before .before .before .before .before .before .before .before .before .before .before .before .places .ensures, c .before .before .before .before .before .before .before .before .before .before .before .before .before .before .before .before .before .before .sizes-of .ensures) at (c .before .before .before .before .before .before .before .before .before .before .before .embed .ensures)) (rw (c .before .before .before .before .before .before .before .before .before .before .before .before .before .before .before .before .before .places .ensures, c .before .before .before .before .before .before .before .before .before .before .before .before .before .before .before .before .before .before .sizes-of .ensures) at done) (rw (c .before .before .before .before .before .before .before .before .before .before .before .before .before .before .before .before .before .places .ensures, c .before .before .before .before .before .before .before .before .before .before .before .before .before .before .before .before .before .before .sizes-of .ensures) at (c .before .before .before .before .part .ensures)) (rw (c .before .before .before .before .before .before .before .before .before .before .before .before .before .before .before .regions .ensures, c .before .before .before .before .before .before .before .before .before .before .before .before .before .before .before .before .before .places .ensures, c .before .before .before .before .before .before .before .before .before .before .before .before .before .before .before .before .before .before .sizes-of .ensures) at (c .before .before .projector-forward .ensures))
 
 pub encode-spec : {M : Type 1} → statement M
 encode-spec =

@@ -11,7 +11,7 @@ use Rattle.stages.specs.Live.{regionsOf}
 use Rattle.stages.specs.Forward.{sizesOf, runOf}
 use Rattle.stages.specs.Vectors.{ranBy, leftBy}
 use Rattle.stages.specs.Fits.{RunFits}
-use Rattle.stages.proofs.Runs.{went-of, stopped-of}
+use Rattle.steps.proofs.Writes.{went-of, stopped-of}
 use Rattle.stages.proofs.run.run.Statement.{statement}
 use Rattle.stages.proofs.run.run.Tie as tie
 

@@ -7,7 +7,7 @@ use lib.ListN.{length, getD, length-set}
 use lib.Ieee.{nan}
 use Rattle.buffers.specs.Rows.{tab}
 use Rattle.buffers.specs.Region.{region, put}
-use Rattle.stages.proofs.Fronts.{front-turn, front-end}
+use Rattle.steps.proofs.Fronts.{front-turn, front-end}
 use Rattle.stages.proofs.run.to_front.Statement.{statement}
 use Rattle.stages.proofs.run.to_front.Tie as tie
 

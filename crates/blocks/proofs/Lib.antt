@@ -1,0 +1,4 @@
+pub mod Lives
+pub mod Turns
+pub mod Rooms
+pub mod Leaves
