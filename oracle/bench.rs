@@ -147,11 +147,16 @@ fn print_settings() {
 /// Sides of grids, and how often each forward runs.
 const PLAN: [(usize, usize); 4] = [(4, 5), (8, 5), (16, 3), (32, 2)];
 
-/// All grids, or the two small ones alone, each twice.
+/// A grid of four tokens, whose whole forward alone is timed.
+const FEW: (usize, usize) = (2, 5);
+
+/// All grids, or the small ones alone, each twice.
 fn all(quick: bool) -> Result<(), String> {
     let plan = if quick { &PLAN[..2] } else { &PLAN };
     print_settings();
     head("processor seconds", "");
+    let few = fastest(real(FEW.0), FEW.0, if quick { 2 } else { FEW.1 })?;
+    line(&format!("forward {0}x{0}", FEW.0), few, |_| String::new());
     let run = |(side, rounds): &(usize, usize)| grid(*side, if quick { 2 } else { *rounds });
     let grids = plan.iter().map(run).collect::<Result<Vec<_>, _>>()?;
     let (small, large) = grids.split_at(2);
