@@ -2,15 +2,13 @@
 use Prim.Native.Nat.{ℕ}
 use mathlib.Core.Bool.{cond}
 use lib.Ieee.{Float, nan, binary32, binary64, neg, add, sub, mul, div, le, ne, ofBits, toBits}
+use Rattle.buffers.specs.Region.{one32}
 use Rattle.floats.specs.Narrow.{narrow}
 use Rattle.exps.specs.Exp.{one, F}
 
--- two, as f64; one and ten, as f32
+-- two, as f64; ten, as f32
 abbrev pub two : Float
 two = ofBits binary64 0x4000_0000_0000_0000
-
-abbrev pub one32 : Float
-one32 = ofBits binary32 0x3F80_0000
 
 abbrev pub ten : Float
 ten = ofBits binary32 0x4120_0000
