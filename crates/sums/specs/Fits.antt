@@ -58,12 +58,9 @@ pub record UnpackFits (lens lenb at nout r : ℕ) : Type 0 where
   pub to : (l : ℕ) → l < r → at + l * nout + 4 ≤ lens
 
 -- up to four rows of sums, and columns c to c + 3 of them
-pub record FewFit (lens lenw lent y r nin nout k n : ℕ) : Type 0 where
+pub record FourAt (lens lenw lent y r nin nout k n c : ℕ) : Type 0 where
   pub few : r ≤ 4
   pub fits : ColumnsFits lens lenw lent y r nin nout k n
-
-pub record FourAt (lens lenw lent y r nin nout k n c : ℕ) : Type 0 where
-  pub all : FewFit lens lenw lent y r nin nout k n
   pub columns : c + 4 ≤ nout
 
 -- r is at most a and at most b, and not 0 where neither is

@@ -4,12 +4,10 @@ ghost use mathlib.Core.Path.{_≡_};
 ghost use Prim.Native.Nat.{_+_, _*_, _/_, _%_};
 ghost use lib.ListN.{length, getD};
 ghost use lib.Ieee.{nan, binary32, add, mul};
-ghost use Rattle.buffers.specs.Region.{put};
-ghost use Rattle.buffers.specs.Rows.{tab, grid};
+ghost use Rattle.buffers.specs.Rows.{tab};
 ghost use Rattle.sums.specs.Lanes.{cellOf, goneSum, filled};
-ghost use Rattle.sums.specs.Fits.{CellFits, CellsFit, UnpackFits, FewFit, FourAt};
+ghost use Rattle.sums.specs.Fits.{CellFits, CellsFit, UnpackFits, FourAt};
 use crate::lanes::copy_spread;
-use crate::lanes::one_column;
 use crate::lanes::pack;
 
 // Each cell and its product.
@@ -88,31 +86,4 @@ pub(crate) fn four_columns(
     pack(&mut a, 4, s, to, r, nout, 4);
     let b = cells(a, xt, w, c * nin + k, nin, n);
     unpack(s, to, nout, r, &b);
-}
-
-// All columns of the r rows of sums at y go on by n products, four columns at a time.
-pub(crate) fn few_columns(
-    s: &mut [f32],
-    y: usize,
-    r: usize,
-    nin: usize,
-    nout: usize,
-    w: &[f32],
-    k: usize,
-    n: usize,
-    xt: &[f32],
-)
-    requires { ⌜ FewFit (length (now s)) (length (now w)) (length (now xt)) y r nin nout k n ⌝ }
-    ensures { λ _. ⌜ now (s .exit) ≡ put (now (s .entry)) y (grid r nout (goneSum (now (s .entry)) (now (w .entry)) (now (xt .entry)) y nin nout k n)) ⌝ }
-{
-    let mut c = 0usize;
-    while c < nout {
-        if 4 <= nout - c {
-            four_columns(s, y, r, nin, nout, w, k, n, xt, c);
-            c += 4;
-        } else {
-            one_column(s, y, r, nin, nout, w, k, n, xt, c);
-            c += 1;
-        }
-    }
 }

@@ -3,10 +3,9 @@ ghost use mathlib.Core.Path.{_≡_};
 ghost use Prim.Native.Nat.{_+_, _*_, _≤_};
 ghost use lib.ListN.{length, getD};
 ghost use lib.Ieee.{nan, binary32, add, mul};
-ghost use Rattle.buffers.specs.Region.{put};
-ghost use Rattle.buffers.specs.Rows.{tab, grid};
+ghost use Rattle.buffers.specs.Rows.{tab};
 ghost use Rattle.sums.specs.Lanes.{laneOf, goneSum, spread, filled};
-ghost use Rattle.sums.specs.Fits.{TwoFit, StrideFits, PackFits, ColumnsFits, ColumnAt};
+ghost use Rattle.sums.specs.Fits.{TwoFit, StrideFits, PackFits, ColumnAt};
 use buffers::part;
 
 // Each lane and its product with t.
@@ -152,30 +151,4 @@ pub(crate) fn two_columns(
     let g = both.second;
     copy_spread(s, at, nout, &f, 0, 1, r);
     copy_spread(s, to, nout, &g, 0, 1, r);
-}
-
-// The r rows of sums at y go on by n products: a lane of xt by the floats from k on of each of the nout rows of w, two
-// rows at a time.
-pub(crate) fn many_columns(
-    s: &mut [f32],
-    y: usize,
-    r: usize,
-    nin: usize,
-    nout: usize,
-    w: &[f32],
-    k: usize,
-    n: usize,
-    xt: &[f32],
-)
-    requires { ⌜ ColumnsFits (length (now s)) (length (now w)) (length (now xt)) y r nin nout k n ⌝ }
-    ensures { λ _. ⌜ now (s .exit) ≡ put (now (s .entry)) y (grid r nout (goneSum (now (s .entry)) (now (w .entry)) (now (xt .entry)) y nin nout k n)) ⌝ }
-{
-    let mut c = 0usize;
-    while 2 <= nout - c {
-        two_columns(s, y, r, nin, nout, w, k, n, xt, c);
-        c += 2;
-    }
-    if c < nout {
-        one_column(s, y, r, nin, nout, w, k, n, xt, c);
-    }
 }

@@ -9,9 +9,10 @@ ghost use Rattle.sums.specs.Lanes.{goneSum, goneOn};
 ghost use Rattle.buffers.specs.Room.{whereFits};
 ghost use Rattle.sums.specs.Room.{linearFits, fromFits};
 ghost use Rattle.sums.specs.Fits.{UpTo, ColumnsFits, PieceFits, BlockFits, LinearFits, FromPieceFits, FromBlockFits, FromFits};
-use crate::few::few_columns;
-use crate::lanes::many_columns;
+use crate::few::four_columns;
+use crate::lanes::one_column;
 use crate::lanes::pack;
+use crate::lanes::two_columns;
 use crate::room::from_fits;
 use crate::room::linear_fits;
 use buffers::clear_at;
@@ -30,7 +31,8 @@ pub(crate) fn next_rows(n: usize) -> usize
     if n < 9 { least(n, 4) } else { least(n, 16) }
 }
 
-// The r rows of sums at y go on by n products: a lane of xt by the floats from k on of each of the nout rows of w.
+// The r rows of sums at y go on by n products: a lane of xt by the floats from k on of each of the nout rows of w, of few
+// rows four columns at a time, of more two.
 pub(crate) fn columns(
     s: &mut [f32],
     y: usize,
@@ -45,10 +47,20 @@ pub(crate) fn columns(
     requires { ⌜ ColumnsFits (length (now s)) (length (now w)) (length (now xt)) y r nin nout k n ⌝ }
     ensures { λ _. ⌜ now (s .exit) ≡ put (now (s .entry)) y (grid r nout (goneSum (now (s .entry)) (now (w .entry)) (now (xt .entry)) y nin nout k n)) ⌝ }
 {
-    if r < 5 {
-        few_columns(s, y, r, nin, nout, w, k, n, xt);
-    } else {
-        many_columns(s, y, r, nin, nout, w, k, n, xt);
+    let mut c = 0usize;
+    while c < nout {
+        if 4 <= nout - c {
+            if r < 5 {
+                four_columns(s, y, r, nin, nout, w, k, n, xt, c);
+                c += 4;
+            } else {
+                two_columns(s, y, r, nin, nout, w, k, n, xt, c);
+                c += 2;
+            }
+        } else {
+            one_column(s, y, r, nin, nout, w, k, n, xt, c);
+            c += 1;
+        }
     }
 }
 

@@ -17,19 +17,19 @@ use Rattle.sums.proofs.few.four_columns.Tie as tie
 -- the four columns of row l are inside s, and the next floats of their weights are inside w
 module _ {lens lenw lent y r nin nout k n c : ℕ} (f : FourAt lens lenw lent y r nin nout k n c) where
   row : (l : ℕ) → l < r → y + c + l * nout + 4 ≤ lens
-  row l h = omega (arith, fit nout h, f .columns, f .all .fits .yin)
+  row l h = omega (arith, fit nout h, f .columns, f .fits .yin)
 
   room : c * nin + k + 3 * nin + n ≤ lenw
-  room = omega (arith, fit-more c 4 nin (f .columns), f .all .fits .win, f .all .fits .kin)
+  room = omega (arith, fit-more c 4 nin (f .columns), f .fits .win, f .fits .kin)
 
 add-to : tie.Need-add-to
-add-to c = omega (arith, row (c .before .before .before .pre) 0 (c .before .before .before .pre .all .fits .some))
+add-to c = omega (arith, row (c .before .before .before .pre) 0 (c .before .before .before .pre .fits .some))
 
 slice-aggregate-pack : tie.Need-slice-aggregate-pack
 slice-aggregate-pack c = search needs
 
 pack-requires : tie.Need-pack-requires
-pack-requires c κs = let p = c .before .before .before .before .before .pre in record { rows = p .all .few; tin = simp length-replicate (omega arith); xin = row p }
+pack-requires c κs = let p = c .before .before .before .before .before .pre in record { rows = p .few; tin = simp length-replicate (omega arith); xin = row p }
 
 mul-cells : tie.Need-mul-cells
 mul-cells c = omega (arith, room (c .before .before .before .before .before .before .before .pre))
@@ -38,7 +38,7 @@ add-cells : tie.Need-add-cells
 add-cells c = omega (arith, room (c .before .before .before .before .before .before .before .pre))
 
 cells-requires : tie.Need-cells-requires
-cells-requires c κs = let p = c .before .before .before .before .before .before .before .pre in record { cells = c .before .pack .kept .0 ∙ simp length-replicate; tin = p .all .fits .tin; win = room p }
+cells-requires c κs = let p = c .before .before .before .before .before .before .before .pre in record { cells = c .before .pack .kept .0 ∙ simp length-replicate; tin = p .fits .tin; win = room p }
 
 slice-aggregate-unpack : tie.Need-slice-aggregate-unpack
 slice-aggregate-unpack c = search needs
@@ -47,7 +47,7 @@ unpack-requires : tie.Need-unpack-requires
 unpack-requires c κs =
     let p = c .before .before .before .before .before .before .before .before .before .before .pre in
     let l : length (c .before .before .cells .result) ≡ 16 = ap length (c .before .before .cells .ensures) ∙ length-tab 16 _ in
-    record { rows = p .all .few; wide = omega (arith, p .columns); cells = omega (arith, l); to = row p }
+    record { rows = p .few; wide = omega (arith, p .columns); cells = omega (arith, l); to = row p }
 
 same-length : tie.Need-same-length
 same-length c = search needs
@@ -61,7 +61,7 @@ returns c =
     let B = c .before .before .before .before .before .cells in
     c .before .before .unpack .ensures
     ∙ filled-ext (a .s .now) (a .y + a .c) (a .nout) (a .r) 4 (λ l o. getD (B .result) (l + o * 4) nan) (λ l o. goneSum (a .s .now) (a .w .now) (a .xt .now) (a .y) (a .nin) (a .nout) (a .k) (a .n) l (a .c + o))
-    (four-cells (a .w .now) (a .xt .now) (a .y) (a .r) (a .nin) (a .nout) (a .k) (a .n) (a .s .now) (replicate 16 zero32) (A .last .0) (B .result) (a .c) (p .all .few) (simp length-replicate) (A .ensures) (B .ensures))
+    (four-cells (a .w .now) (a .xt .now) (a .y) (a .r) (a .nin) (a .nout) (a .k) (a .n) (a .s .now) (replicate 16 zero32) (A .last .0) (B .result) (a .c) (p .few) (simp length-replicate) (A .ensures) (B .ensures))
 
 pub four-columns-spec : {M : Type 1} → statement M
 four-columns-spec =
