@@ -7,15 +7,15 @@ use borrow.Author.Tests.{le-leb}
 use lib.ListN.{length}
 use lib.Ieee.{Float}
 use Rattle.buffers.specs.Region.{over, copied, cleared}
-use Rattle.demands.specs.declared.EncoderSettings.{EncoderSettings}
-use Rattle.demands.specs.declared.Checked.{Checked}
-use Rattle.demands.specs.declared.Checked.the-variants as C
-use Rattle.demands.specs.Settings.{checkedOf}
-use Rattle.demands.proofs.Accepted.{accepted-says}
-use Rattle.steps.specs.Run.{Run, stopped, went}
-use Rattle.stages.specs.Forward.{forwardRun}
-use Rattle.stages.specs.Vectors.{ranBy, leftBy, ranOf, leftOf}
-use Rattle.stages.proofs.Runs.{vectors-long}
+use Rattle.encoder_settings.specs.declared.EncoderSettings.{EncoderSettings}
+use Rattle.encoder_settings.specs.declared.Checked.{Checked}
+use Rattle.encoder_settings.specs.declared.Checked.the-variants as C
+use Rattle.encoder_settings.specs.Settings.{checkedOf}
+use Rattle.encoder_settings.proofs.Accepted.{accepted-says}
+use Rattle.encoder_steps.specs.Run.{Run, stopped, went}
+use Rattle.encoder_stages.specs.Forward.{forwardRun}
+use Rattle.encoder_stages.specs.Vectors.{ranBy, leftBy, ranOf, leftOf}
+use Rattle.encoder_stages.proofs.Runs.{vectors-long}
 
 pub copied-over : (ys old : List Float) → length ys ≤ length old → copied ys old ≡ over ys old
 unfolding copied

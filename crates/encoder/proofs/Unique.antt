@@ -5,17 +5,17 @@ use Prim.Native.Nat.{ℕ, _*_, _/_}
 use native.Mathlib.Omega.{arith}
 use lib.ListN.{length}
 use lib.Ieee.{Float}
-use Rattle.limits.proofs.Unique.{one}
-use Rattle.demands.specs.declared.EncoderSettings.{EncoderSettings}
-use Rattle.demands.specs.declared.Checked.{Checked}
-use Rattle.demands.specs.declared.Checked.the-variants as C
+use Rattle.picture_limits.proofs.Unique.{one}
+use Rattle.encoder_settings.specs.declared.EncoderSettings.{EncoderSettings}
+use Rattle.encoder_settings.specs.declared.Checked.{Checked}
+use Rattle.encoder_settings.specs.declared.Checked.the-variants as C
 use Rattle.encoder.specs.declared.Encoded.{Encoded}
 use Rattle.encoder.specs.declared.Encoded.the-variants.{Tokens}
-use Rattle.demands.specs.Settings.{mergeArea, checkedOf}
-use Rattle.steps.specs.Run.{Run, stopped, went}
-use Rattle.stages.specs.Forward.{forwardRun}
+use Rattle.encoder_settings.specs.Settings.{mergeArea, checkedOf}
+use Rattle.encoder_steps.specs.Run.{Run, stopped, went}
+use Rattle.encoder_stages.specs.Forward.{forwardRun}
 use Rattle.encoder.specs.Forward.{encodedBy, encodedOf, outOf, scratchOf}
-use Rattle.demands.proofs.Accepted.{accepted-says}
+use Rattle.encoder_settings.proofs.Accepted.{accepted-says}
 
 module _ (s : EncoderSettings) (gh gw : ℕ) (w cos sin x : List Float) where
   -- the contract, as a type of an answer and of output and scratch at exit

@@ -4,14 +4,14 @@ use Prim.Native.Nat.{ℕ}
 use lib.ListN.{length}
 use lib.Ieee.{Float}
 use Rattle.buffers.specs.Region.{over, cleared}
-use Rattle.limits.specs.declared.Refusal.the-variants.{NotFinite}
-use Rattle.limits.specs.Refusal as R
-use Rattle.demands.specs.declared.EncoderSettings.{EncoderSettings}
-use Rattle.demands.specs.declared.Checked.{Checked}
-use Rattle.demands.specs.declared.Checked.the-variants as C
-use Rattle.demands.specs.Settings.{checkedOf}
-use Rattle.steps.specs.Run.{Run, stopped, went}
-use Rattle.stages.specs.Forward.{forwardRun}
+use Rattle.picture_limits.specs.declared.Refusal.the-variants.{NotFinite}
+use Rattle.picture_limits.specs.Refusal as R
+use Rattle.encoder_settings.specs.declared.EncoderSettings.{EncoderSettings}
+use Rattle.encoder_settings.specs.declared.Checked.{Checked}
+use Rattle.encoder_settings.specs.declared.Checked.the-variants as C
+use Rattle.encoder_settings.specs.Settings.{checkedOf}
+use Rattle.encoder_steps.specs.Run.{Run, stopped, went}
+use Rattle.encoder_stages.specs.Forward.{forwardRun}
 use Rattle.encoder.specs.declared.Encoded.{Encoded}
 use Rattle.encoder.specs.declared.Encoded.the-variants.{Tokens, Refused}
 

@@ -6,9 +6,9 @@ use crate::Encoded;
 use buffers::clear_at;
 use buffers::copy;
 use buffers::part;
-use demands::Checked;
-use demands::EncoderSettings;
-use stages::run::token_vectors;
+use encoder_settings::Checked;
+use encoder_settings::EncoderSettings;
+use encoder_stages::run::token_vectors;
 
 // The token vectors of patches: the count of them, or a refusal.
 pub fn forward(

@@ -1,7 +1,7 @@
 // The Pixtral encoder: from patches to token vectors.
 pub mod forward;
 
-use limits::Refusal;
+use picture_limits::Refusal;
 
 pub enum Encoded {
     Tokens { count: usize },

@@ -5,8 +5,8 @@ use mathlib.Core.Path.{_≡_}
 use lib.ListN.{length, getD, take}
 use lib.Ieee.{Float, binary32, ofBits}
 use Rattle.buffers.specs.Region.{region}
-use Rattle.limits.specs.Refusal as R
-use Rattle.demands.specs.declared.EncoderSettings.{EncoderSettings}
+use Rattle.picture_limits.specs.Refusal as R
+use Rattle.encoder_settings.specs.declared.EncoderSettings.{EncoderSettings}
 use Rattle.encoder.specs.declared.Encoded.{Encoded}
 use Rattle.encoder.specs.declared.Encoded.the-variants.{Tokens, Refused}
 use Rattle.encoder.specs.Forward.{encodedOf, outOf, scratchOf}

@@ -2,9 +2,9 @@
 ghost use mathlib.Core.Path.{_≡_};
 ghost use lib.ListN.{length};
 ghost use Rattle.encoder_replay.specs.Run.{answerOf, settingsOf, inputsFrom, callOf, runOf, Small, Room};
-use demands::EncoderSettings;
+use encoder_settings::EncoderSettings;
 use encoder::Encoded;
-use limits::PictureSettings;
+use picture_limits::PictureSettings;
 use replay::damage::damage;
 use replay::hash::hash_floats;
 use replay::marks::MARKS;
@@ -50,7 +50,7 @@ fn encode(
             scratch: work,
         },
         Encoded::Refused(r) => Answer {
-            number: limits::settings::number(r) as usize,
+            number: picture_limits::settings::number(r) as usize,
             tokens: 0,
             out: left,
             scratch: work,
@@ -74,7 +74,7 @@ fn settings(v: &[usize; 25]) -> EncoderSettings
         num_layers: v[6],
         intermediate_size: v[7],
         text_hidden_size: v[8],
-        scaling: floats::pattern::f32_of_bits((v[9] % 4294967296) as u32),
+        scaling: number_floats::pattern::f32_of_bits((v[9] % 4294967296) as u32),
     }
 }
 

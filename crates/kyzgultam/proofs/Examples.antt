@@ -5,18 +5,18 @@ use Prim.Native.Nat.{ℕ, _+_, _*_}
 use lib.ListN.{getD}
 use lib.Ieee.{Float, nan, add, sub, mul, div, lt, le, ne, ofInt, ofBits, toBits, toUnsigned, neg, round, size}
 use Rattle.buffers.specs.Rows.{tab, rows}
-use Rattle.patterns.specs.Bf16.{bf16}
-use Rattle.patterns.specs.Half.{subnormal, halfSize, half}
-use Rattle.patterns.specs.Root.{wholeRoot, nearRoot, rootOfNumber, root}
-use Rattle.floats.specs.Narrow.{narrow}
-use Rattle.exps.specs.Exp.{series, E, expBits}
-use Rattle.limits.specs.declared.PictureSettings.{PictureSettings}
+use Rattle.number_bf16_half_root.specs.Bf16.{bf16}
+use Rattle.number_bf16_half_root.specs.Half.{subnormal, halfSize, half}
+use Rattle.number_bf16_half_root.specs.Root.{wholeRoot, nearRoot, rootOfNumber, root}
+use Rattle.number_floats.specs.Narrow.{narrow}
+use Rattle.number_exp_tanh.specs.Exp.{series, E, expBits}
+use Rattle.picture_limits.specs.declared.PictureSettings.{PictureSettings}
 use Rattle.picture.specs.declared.Preprocessed.{Preprocessed}
-use Rattle.limits.specs.Settings.{allowed}
-use Rattle.limits.specs.Sides.{side, resized}
-use Rattle.resize.specs.Resize.{whole, near, blend, toByte, mix}
+use Rattle.picture_limits.specs.Settings.{allowed}
+use Rattle.picture_limits.specs.Sides.{side, resized}
+use Rattle.picture_resize.specs.Resize.{whole, near, blend, toByte, mix}
 use Rattle.picture.specs.Preprocess.{preprocessed, resizedBytes}
-use Rattle.stages.specs.Merge.{mergeOf}
+use Rattle.encoder_stages.specs.Merge.{mergeOf}
 
 -- ---- bf16, half, E, root
 

@@ -7,8 +7,8 @@ use lib.Dec.{leb}
 use lib.ListN.{length, take, drop}
 use lib.Ieee.{Float}
 use Rattle.buffers.specs.Region.{region}
-use Rattle.limits.specs.Settings.{within}
-use Rattle.limits.specs.Patches.{patchFloats}
+use Rattle.picture_limits.specs.Settings.{within}
+use Rattle.picture_limits.specs.Patches.{patchFloats}
 use Rattle.picture.specs.Part.{patchPart}
 use Rattle.kyzgultam.specs.declared.PatchPlace.{PatchPlace}
 use Rattle.kyzgultam.specs.Face.{placeOf}

@@ -2,14 +2,14 @@
 use mathlib.Core.Bool.{cond, _&&_}
 use Prim.Native.Nat.{ℕ, _+_, _*_}
 use lib.Dec.{leb}
-use Rattle.limits.specs.declared.PictureSettings as P
+use Rattle.picture_limits.specs.declared.PictureSettings as P
 use Rattle.picture.specs.declared.Preprocessed.{Preprocessed}
-use Rattle.restore.specs.declared.Restored.{Restored}
-use Rattle.limits.specs.Settings.{within}
-use Rattle.limits.specs.Patches.{patchFloats}
+use Rattle.picture_restore.specs.declared.Restored.{Restored}
+use Rattle.picture_limits.specs.Settings.{within}
+use Rattle.picture_limits.specs.Patches.{patchFloats}
 use Rattle.picture.specs.Preprocess as Pre
-use Rattle.restore.specs.Restore as Res
-use Rattle.demands.specs.declared.EncoderSettings as E
+use Rattle.picture_restore.specs.Restore as Res
+use Rattle.encoder_settings.specs.declared.EncoderSettings as E
 use Rattle.encoder.specs.declared.Encoded.{Encoded}
 use Rattle.encoder.specs.Forward as Fwd
 use Rattle.kyzgultam.specs.declared.PictureSettings as K

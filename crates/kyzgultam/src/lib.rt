@@ -2,11 +2,11 @@
 // as it is when the settings inside grow.
 use encoder::Encoded;
 use picture::Preprocessed;
-use restore::Restored;
+use picture_restore::Restored;
 ghost use mathlib.Core.Path.{_≡_};
 ghost use lib.ListN.{length};
 ghost use Rattle.picture.specs.Preprocess.{preprocessed, patchesOf, patchesLeft};
-ghost use Rattle.restore.specs.Restore.{restored, bytesOf, bytesLeft};
+ghost use Rattle.picture_restore.specs.Restore.{restored, bytesOf, bytesLeft};
 ghost use Rattle.kyzgultam.specs.Face.{inner, innerEncoder, preprocessReport, restoreReport, forwardReport, placeOf};
 ghost use Rattle.encoder.specs.Forward.{encodedOf, outOf, scratchOf};
 
@@ -57,20 +57,20 @@ pub struct ForwardReport {
     pub tokens: usize,
 }
 
-fn settings(s: PictureSettings) -> limits::PictureSettings
+fn settings(s: PictureSettings) -> picture_limits::PictureSettings
     ensures { λ r. ⌜ r ≡ inner s ⌝ }
 {
-    limits::PictureSettings {
+    picture_limits::PictureSettings {
         patch_size: s.patch_size,
         spatial_merge_size: s.spatial_merge_size,
         image_size: s.image_size,
     }
 }
 
-fn encoder_settings(s: EncoderSettings) -> demands::EncoderSettings
+fn encoder_settings(s: EncoderSettings) -> encoder_settings::EncoderSettings
     ensures { λ r. ⌜ r ≡ innerEncoder s ⌝ }
 {
-    demands::EncoderSettings {
+    encoder_settings::EncoderSettings {
         picture: settings(s.picture),
         hidden_size: s.hidden_size,
         num_heads: s.num_heads,
@@ -106,7 +106,7 @@ pub extern "C" fn kz_preprocess(
             floats,
         },
         Preprocessed::Refused(r) => PreprocessReport {
-            number: limits::settings::number(r),
+            number: picture_limits::settings::number(r),
             grid_h: 0,
             grid_w: 0,
             floats: 0,
@@ -125,7 +125,7 @@ pub extern "C" fn kz_restore(
     ensures answer { λ r. ⌜ r ≡ restoreReport (restored (inner s) (now (patches .entry)) «grid_h» «grid_w» (length (now (out .entry)))) ⌝ }
     ensures output { λ _. ⌜ now (out .exit) ≡ bytesLeft (restored (inner s) (now (patches .entry)) «grid_h» «grid_w» (length (now (out .entry)))) (bytesOf (inner s) (now (patches .entry)) «grid_h» «grid_w») (now (out .entry)) ⌝ }
 {
-    let found = restore::restore(settings(s), patches, grid_h, grid_w, out);
+    let found = picture_restore::restore(settings(s), patches, grid_h, grid_w, out);
     match found {
         Restored::Picture { height, width } => RestoreReport {
             number: 0,
@@ -133,7 +133,7 @@ pub extern "C" fn kz_restore(
             width,
         },
         Restored::Refused(r) => RestoreReport {
-            number: limits::settings::number(r),
+            number: picture_limits::settings::number(r),
             height: 0,
             width: 0,
         },
@@ -187,7 +187,7 @@ pub extern "C" fn kz_forward(
             tokens: count,
         },
         Encoded::Refused(r) => ForwardReport {
-            number: limits::settings::number(r),
+            number: picture_limits::settings::number(r),
             tokens: 0,
         },
     }

@@ -4,11 +4,11 @@ use mathlib.Core.Bool.{cond}
 use mathlib.Core.List.{List, [], _∷_}
 use lib.Dec.{eqb, ltb}
 use lib.ListN.{length, getD, take, drop, set}
-use Rattle.patterns.specs.Bf16.{bf16}
-use Rattle.patterns.specs.Half.{half}
-use Rattle.patterns.specs.Root.{root}
-use Rattle.exps.specs.Exp.{expBits}
-use Rattle.exps.specs.Tanh.{tanhBits}
+use Rattle.number_bf16_half_root.specs.Bf16.{bf16}
+use Rattle.number_bf16_half_root.specs.Half.{half}
+use Rattle.number_bf16_half_root.specs.Root.{root}
+use Rattle.number_exp_tanh.specs.Exp.{expBits}
+use Rattle.number_exp_tanh.specs.Tanh.{tanhBits}
 use Rattle.number_replay.specs.Hex.{wordOf}
 use Rattle.number_replay.specs.declared.hex.Word.{Word}
 use Rattle.number_replay.specs.declared.hex.Word.the-variants.{Value, Bad}

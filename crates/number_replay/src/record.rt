@@ -18,7 +18,7 @@ fn half(input: u32) -> Word
     ensures { λ r. ⌜ r ≡ answerOf 104 input ⌝ }
 {
     if input < 0x1_0000 {
-        Word::Value(patterns::half::half_to_f32(input as u16))
+        Word::Value(number_bf16_half_root::half::half_to_f32(input as u16))
     } else {
         Word::Bad
     }
@@ -28,11 +28,11 @@ fn answer(letter: u8, input: u32) -> Word
     ensures { λ r. ⌜ r ≡ answerOf letter input ⌝ }
 {
     match letter {
-        b'b' => Word::Value(patterns::bf16::bf16(input)),
+        b'b' => Word::Value(number_bf16_half_root::bf16::bf16(input)),
         b'h' => half(input),
-        b'r' => Word::Value(patterns::root::root(input)),
-        b'e' => Word::Value(exps::exp::exp(input)),
-        b't' => Word::Value(exps::tanh::tanh(input)),
+        b'r' => Word::Value(number_bf16_half_root::root::root(input)),
+        b'e' => Word::Value(number_exp_tanh::exp::exp(input)),
+        b't' => Word::Value(number_exp_tanh::tanh::tanh(input)),
         _ => Word::Bad,
     }
 }

@@ -9,18 +9,18 @@ use borrow.Author.Tests.{eq-eqb, le-leb, eqb-true, leb-true}
 use lib.Dec.{eqb, leb}
 use lib.ListN.{length}
 use lib.Ieee.{Float}
-use Rattle.limits.specs.declared.PictureSettings.{PictureSettings}
-use Rattle.limits.specs.declared.Refusal.{Refusal}
+use Rattle.picture_limits.specs.declared.PictureSettings.{PictureSettings}
+use Rattle.picture_limits.specs.declared.Refusal.{Refusal}
 use Rattle.picture.specs.declared.Preprocessed.{Preprocessed}
 use Rattle.picture.specs.declared.Preprocessed.the-variants.{Patches, Refused}
 use Rattle.buffers.specs.Region.{over}
-use Rattle.limits.specs.Settings.{allowed, sided, align}
-use Rattle.limits.specs.Sides.{gridOf}
-use Rattle.samples.specs.Samples.{sample}
-use Rattle.limits.specs.Patches.{patchFloats}
+use Rattle.picture_limits.specs.Settings.{allowed, sided, align}
+use Rattle.picture_limits.specs.Sides.{gridOf}
+use Rattle.picture_samples.specs.Samples.{sample}
+use Rattle.picture_limits.specs.Patches.{patchFloats}
 use Rattle.picture.specs.Preprocess.{floatsOf, unless, preprocessed, resizedPixel, patchesOf, patchesLeft}
 use Rattle.buffers.proofs.Regions.{put-over}
-use Rattle.patches.proofs.Patches.{length-patches}
+use Rattle.picture_patches.proofs.Patches.{length-patches}
 
 -- what preprocess asks
 pub record Accepts (s : PictureSettings) (len h w room : ℕ) : Type 0 where

@@ -14,29 +14,29 @@ use lib.Ieee.Bits.{ofBits-toBits}
 use Rattle.buffers.specs.Rows.{tab, rows}
 use Rattle.buffers.specs.Region.{over}
 use Rattle.buffers.proofs.Lists.{fit, and-both, and-left, and-right, all-of, rows-ext, tab-ext}
-use Rattle.limits.specs.declared.PictureSettings.{PictureSettings}
-use Rattle.limits.specs.declared.Refusal.{Refusal}
+use Rattle.picture_limits.specs.declared.PictureSettings.{PictureSettings}
+use Rattle.picture_limits.specs.declared.Refusal.{Refusal}
 use Rattle.picture.specs.declared.Preprocessed.{Preprocessed}
-use Rattle.restore.specs.declared.Restored.{Restored}
-use Rattle.limits.specs.Settings.{within, allowed, align}
-use Rattle.limits.specs.Sides.{side, resized, gridOf}
-use Rattle.resize.specs.Resize.{pixel, resizedAt}
-use Rattle.samples.specs.Samples.{sample, sampleBits, value, byteOf}
-use Rattle.limits.specs.Patches.{patchFloats, picture, samplePlace}
-use Rattle.patches.specs.Patches.{patches}
-use Rattle.limits.specs.Shape.{most, gridAllowed, shaped}
+use Rattle.picture_restore.specs.declared.Restored.{Restored}
+use Rattle.picture_limits.specs.Settings.{within, allowed, align}
+use Rattle.picture_limits.specs.Sides.{side, resized, gridOf}
+use Rattle.picture_resize.specs.Resize.{pixel, resizedAt}
+use Rattle.picture_samples.specs.Samples.{sample, sampleBits, value, byteOf}
+use Rattle.picture_limits.specs.Patches.{patchFloats, picture, samplePlace}
+use Rattle.picture_patches.specs.Patches.{patches}
+use Rattle.picture_limits.specs.Shape.{most, gridAllowed, shaped}
 use Rattle.picture.specs.Preprocess.{floatsOf, preprocessed, resizedPixel, resizedBytes, patchesOf}
-use Rattle.restore.specs.Restore.{known, bytesFrom, unless, restored, bytesOf, bytesLeft}
-use Rattle.samples.proofs.Table.{value-is, distinct}
-use Rattle.samples.proofs.Finds.{Distinct, byte-back, pattern-back}
-use Rattle.restore.proofs.Known.{known-at}
-use Rattle.limits.proofs.Places.{times, patch-in, place-in-patch, picture-at, length-picture}
-use Rattle.patches.proofs.Patches.{length-patches, patches-ext}
+use Rattle.picture_restore.specs.Restore.{known, bytesFrom, unless, restored, bytesOf, bytesLeft}
+use Rattle.picture_samples.proofs.Table.{value-is, distinct}
+use Rattle.picture_samples.proofs.Finds.{Distinct, byte-back, pattern-back}
+use Rattle.picture_restore.proofs.Known.{known-at}
+use Rattle.picture_limits.proofs.Places.{times, patch-in, place-in-patch, picture-at, length-picture}
+use Rattle.picture_patches.proofs.Patches.{length-patches, patches-ext}
 use Rattle.picture.proofs.Places.{patch-at, sample-at, patches-self}
-use Rattle.limits.proofs.Sides.{allowed-says, sided-says, side-le, side-same}
-use Rattle.limits.proofs.Shapes.{grid-side-says}
+use Rattle.picture_limits.proofs.Sides.{allowed-says, sided-says, side-le, side-same}
+use Rattle.picture_limits.proofs.Shapes.{grid-side-says}
 use Rattle.picture.proofs.Accepts.{Accepts, accepted, acceptance}
-use Rattle.resize.proofs.Same.{Bytes, byte-below, pixel-same, picture-same}
+use Rattle.picture_resize.proofs.Same.{Bytes, byte-below, pixel-same, picture-same}
 
 -- ---- a resized side and its grid
 -- the side is k times patch times merge, with k above 0

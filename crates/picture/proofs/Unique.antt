@@ -4,17 +4,17 @@ use mathlib.Core.List.{List}
 use Prim.Native.Nat.{ℕ}
 use lib.ListN.{length}
 use lib.Ieee.{Float}
-use Rattle.limits.specs.declared.PictureSettings.{PictureSettings}
+use Rattle.picture_limits.specs.declared.PictureSettings.{PictureSettings}
 use Rattle.picture.specs.declared.Preprocessed.{Preprocessed}
-use Rattle.restore.specs.declared.Restored.{Restored}
-use Rattle.limits.proofs.Unique.{one}
-use Rattle.samples.specs.Samples.{sampleTable}
-use Rattle.resize.specs.declared.Near.{Near}
-use Rattle.resize.specs.Resize.{near, blend, toByte, resizedByte}
-use Rattle.patches.specs.Resized.{patchesOver}
+use Rattle.picture_restore.specs.declared.Restored.{Restored}
+use Rattle.picture_limits.proofs.Unique.{one}
+use Rattle.picture_samples.specs.Samples.{sampleTable}
+use Rattle.picture_resize.specs.declared.Near.{Near}
+use Rattle.picture_resize.specs.Resize.{near, blend, toByte, resizedByte}
+use Rattle.picture_patches.specs.Resized.{patchesOver}
 use Rattle.picture.specs.Part.{patchPart}
 use Rattle.picture.specs.Preprocess.{preprocessed, patchesOf, patchesLeft}
-use Rattle.restore.specs.Restore.{restored, bytesOf, bytesLeft}
+use Rattle.picture_restore.specs.Restore.{restored, bytesOf, bytesLeft}
 
 -- the contracts, as types of an answer and of the output at exit
 abbrev pub Preprocesses : PictureSettings → List ℕ → ℕ → ℕ → List Float → Preprocessed → List Float → Type 0

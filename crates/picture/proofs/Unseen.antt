@@ -3,7 +3,7 @@ use mathlib.Core.Path.{_≡_, ap}
 use mathlib.Core.List.{List}
 use Prim.Native.Nat.{ℕ}
 use lib.ListN.{length}
-use Rattle.limits.specs.declared.PictureSettings.{PictureSettings}
+use Rattle.picture_limits.specs.declared.PictureSettings.{PictureSettings}
 use Rattle.picture.specs.Preprocess.{preprocessed}
 
 pub unseen : (s : PictureSettings) (rgb rgb′ : List ℕ) (h w room : ℕ) → length rgb ≡ length rgb′ → preprocessed s (length rgb) h w room ≡ preprocessed s (length rgb′) h w room

@@ -5,8 +5,8 @@ use Prim.Native.Nat.{ℕ, _+_, _*_}
 use lib.Dec.{leb}
 use lib.ListN.{length, take, drop}
 use lib.Ieee.{Float}
-use Rattle.limits.specs.Settings.{within}
-use Rattle.limits.specs.Patches.{patchFloats}
+use Rattle.picture_limits.specs.Settings.{within}
+use Rattle.picture_limits.specs.Patches.{patchFloats}
 
 -- the floats from place i·3p², where p is in 1..32 and the whole patch lies inside; else none
 unfoldable pub patchPart : List Float → ℕ → ℕ → List Float

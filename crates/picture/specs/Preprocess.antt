@@ -5,18 +5,18 @@ use Prim.Native.Nat.{ℕ, _*_}
 use lib.Dec.{leb, eqb}
 use lib.Ieee.{Float}
 use Rattle.buffers.specs.Region.{over}
-use Rattle.limits.specs.declared.PictureSettings.{PictureSettings}
-use Rattle.limits.specs.declared.Refusal.{Refusal}
-use Rattle.limits.specs.declared.Refusal.the-variants.{Setting, Side, RgbLength, ImageSize, Output}
+use Rattle.picture_limits.specs.declared.PictureSettings.{PictureSettings}
+use Rattle.picture_limits.specs.declared.Refusal.{Refusal}
+use Rattle.picture_limits.specs.declared.Refusal.the-variants.{Setting, Side, RgbLength, ImageSize, Output}
 use Rattle.picture.specs.declared.Preprocessed.{Preprocessed}
 use Rattle.picture.specs.declared.Preprocessed.the-variants.{Patches, Refused}
-use Rattle.limits.specs.Refusal as R
-use Rattle.limits.specs.Settings.{allowed, sided, align}
-use Rattle.limits.specs.Sides.{resized, gridOf}
-use Rattle.resize.specs.Resize.{resizedAt}
-use Rattle.samples.specs.Samples.{sample}
-use Rattle.limits.specs.Patches.{patchFloats, picture}
-use Rattle.patches.specs.Patches.{patches}
+use Rattle.picture_limits.specs.Refusal as R
+use Rattle.picture_limits.specs.Settings.{allowed, sided, align}
+use Rattle.picture_limits.specs.Sides.{resized, gridOf}
+use Rattle.picture_resize.specs.Resize.{resizedAt}
+use Rattle.picture_samples.specs.Samples.{sample}
+use Rattle.picture_limits.specs.Patches.{patchFloats, picture}
+use Rattle.picture_patches.specs.Patches.{patches}
 
 -- the answer where the test passes, and the refusal where it fails
 abbrev pub unless : Bool → Refusal → Preprocessed → Preprocessed

@@ -2,7 +2,7 @@
 pub mod patch;
 pub mod preprocess;
 
-use limits::Refusal;
+use picture_limits::Refusal;
 
 pub enum Preprocessed {
     Patches {

@@ -1,14 +1,14 @@
 // A picture to patches: what is refused, and the sides of the picture resized.
 use crate::Preprocessed;
-use limits::PictureSettings;
-use limits::Refusal;
-use limits::settings::settings_allowed;
-use limits::settings::sides_allowed;
-use patches::frame::resized_patches;
+use picture_limits::PictureSettings;
+use picture_limits::Refusal;
+use picture_limits::settings::settings_allowed;
+use picture_limits::settings::sides_allowed;
+use picture_patches::frame::resized_patches;
 ghost use mathlib.Core.Path.{_≡_};
 ghost use Prim.Native.Nat.{_≤_, _<_};
 ghost use lib.ListN.{length};
-ghost use Rattle.limits.specs.Sides.{side};
+ghost use Rattle.picture_limits.specs.Sides.{side};
 ghost use Rattle.picture.specs.Preprocess.{preprocessed, patchesOf, patchesLeft};
 
 // A side x rounded up to a multiple of a, cut to n, rounded down to a multiple of a.

@@ -3,13 +3,13 @@ use Prim.Native.Nat.{ℕ}
 use mathlib.Core.List.{List, _++_}
 use lib.ListN.{length, getD, take, drop}
 use lib.Ieee.{Float}
-use Rattle.limits.specs.declared.PictureSettings.{PictureSettings}
+use Rattle.picture_limits.specs.declared.PictureSettings.{PictureSettings}
 use Rattle.picture.specs.declared.Preprocessed.{Preprocessed}
-use Rattle.restore.specs.declared.Restored.{Restored}
+use Rattle.picture_restore.specs.declared.Restored.{Restored}
 use Rattle.picture.specs.Preprocess as Pre
 use Rattle.picture.specs.Preprocess.{preprocessed, patchesOf, patchesLeft}
-use Rattle.restore.specs.Restore as Res
-use Rattle.restore.specs.Restore.{restored, bytesOf, bytesLeft}
+use Rattle.picture_restore.specs.Restore as Res
+use Rattle.picture_restore.specs.Restore.{restored, bytesOf, bytesLeft}
 use Rattle.picture_replay.specs.declared.run.Made.{Made}
 use Rattle.picture_replay.specs.declared.run.Back.{Back}
 use Rattle.replay.specs.Hash.{byteHash, floatHash}

@@ -3,14 +3,14 @@ ghost use mathlib.Core.Path.{_≡_};
 ghost use Prim.Native.Nat.{_≤_};
 ghost use lib.ListN.{length};
 ghost use Rattle.picture_replay.specs.Run.{room, at, madeOf, left, backOf, settingsOf, firstOf, cellsLeft, secondOf};
-use limits::PictureSettings;
+use picture_limits::PictureSettings;
 use picture::Preprocessed;
 use replay::damage::damage;
 use replay::hash::hash_bytes;
 use replay::hash::hash_floats;
 use replay::marks::MARKS;
 use replay::marks::fill_bytes;
-use restore::Restored;
+use picture_restore::Restored;
 
 // The cells of each buffer.
 pub const ROOM: usize = 12352;
@@ -51,7 +51,7 @@ fn make(s: PictureSettings, rgb: &[u8], height: usize, width: usize, out: &mut [
             hash,
         },
         Preprocessed::Refused(r) => Made {
-            number: limits::settings::number(r) as usize,
+            number: picture_limits::settings::number(r) as usize,
             grid_h: 0,
             grid_w: 0,
             floats: 0,
@@ -63,7 +63,7 @@ fn make(s: PictureSettings, rgb: &[u8], height: usize, width: usize, out: &mut [
 fn bring(s: PictureSettings, patches: &[f32], grid_h: usize, grid_w: usize, out: &mut [u8]) -> Back
     ensures { λ r. ⌜ r ≡ backOf s (now (patches .entry)) «grid_h» «grid_w» (now (out .entry)) ⌝ }
 {
-    let found = restore::restore(s, patches, grid_h, grid_w, out);
+    let found = picture_restore::restore(s, patches, grid_h, grid_w, out);
     let hash = hash_bytes(out) as usize;
     match found {
         Restored::Picture { height, width } => Back {
@@ -73,7 +73,7 @@ fn bring(s: PictureSettings, patches: &[f32], grid_h: usize, grid_w: usize, out:
             hash,
         },
         Restored::Refused(r) => Back {
-            number: limits::settings::number(r) as usize,
+            number: picture_limits::settings::number(r) as usize,
             height: 0,
             width: 0,
             hash,

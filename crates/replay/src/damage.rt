@@ -20,7 +20,7 @@ pub fn damage(cells: &mut [f32], code: usize, place: usize)
     ensures { λ _. ⌜ now (cells .exit) ≡ damaged (now (cells .entry)) code place ⌝ }
 {
     if place < cells.len() {
-        let bits = floats::pattern::bits_of_f32(cells[place]);
-        cells[place] = floats::pattern::f32_of_bits(damaged_bits(bits, code, place));
+        let bits = number_floats::pattern::bits_of_f32(cells[place]);
+        cells[place] = number_floats::pattern::f32_of_bits(damaged_bits(bits, code, place));
     }
 }

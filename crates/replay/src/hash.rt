@@ -50,7 +50,7 @@ pub fn hash_floats(s: &[f32]) -> u64
     };
     let mut i = 0;
     while i < s.len() {
-        h = add(h, floats::pattern::bits_of_f32(s[i]) as u64);
+        h = add(h, number_floats::pattern::bits_of_f32(s[i]) as u64);
         i += 1;
     }
     sum(h)

@@ -14,7 +14,7 @@ use lib.Seq.{take-add, take-all, length-take-le}
 use Rattle.buffers.proofs.Lists.{fit}
 use Rattle.buffers.specs.Rows as B
 use Rattle.buffers.specs.Region.{region}
-use Rattle.resize.proofs.Same.{Bytes}
+use Rattle.picture_resize.proofs.Same.{Bytes}
 use Rattle.unpatch_form.specs.Words.{word, same, onto, pieces, _>>=_, first, end, joined, behind}
 use Rattle.unpatch_form.specs.Decimal.{isDigit, digitsFrom, decimal}
 use Rattle.unpatch_form.specs.Hex.{nibble, pair, hexPairs, hexBytes}

@@ -10,25 +10,25 @@ use native.Mathlib.Omega.{arith}
 use borrow.Author.Tests.{ltb-false, leb-true}
 use lib.Dec.{eqb, ltb, leb}
 use lib.ListN.{length, getD}
-use Rattle.limits.specs.declared.PictureSettings.{PictureSettings}
-use Rattle.limits.specs.declared.Refusal.{Refusal}
-use Rattle.limits.specs.declared.Refusal.the-variants.{Setting, Side, RgbLength, ImageSize, Output, Grid, PatchesLength, Sample, WeightsLength, TableLength, Scratch, NotFinite}
+use Rattle.picture_limits.specs.declared.PictureSettings.{PictureSettings}
+use Rattle.picture_limits.specs.declared.Refusal.{Refusal}
+use Rattle.picture_limits.specs.declared.Refusal.the-variants.{Setting, Side, RgbLength, ImageSize, Output, Grid, PatchesLength, Sample, WeightsLength, TableLength, Scratch, NotFinite}
 use Rattle.picture.specs.declared.Preprocessed.{Preprocessed}
 use Rattle.picture.specs.declared.Preprocessed.the-variants as P
-use Rattle.restore.specs.declared.Restored.{Restored}
-use Rattle.restore.specs.declared.Restored.the-variants as R
-use Rattle.limits.specs.Refusal.{number}
-use Rattle.limits.specs.Settings.{align}
-use Rattle.limits.specs.Sides.{resized, gridOf}
+use Rattle.picture_restore.specs.declared.Restored.{Restored}
+use Rattle.picture_restore.specs.declared.Restored.the-variants as R
+use Rattle.picture_limits.specs.Refusal.{number}
+use Rattle.picture_limits.specs.Settings.{align}
+use Rattle.picture_limits.specs.Sides.{resized, gridOf}
 use Rattle.picture.specs.Preprocess.{floatsOf, preprocessed, resizedPixel, resizedBytes, patchesOf}
-use Rattle.restore.specs.Restore.{restored, bytesOf}
-use Rattle.resize.proofs.Same.{Bytes, byte-below}
-use Rattle.limits.proofs.Sides.{side-same, allowed-says, sided-says}
-use Rattle.limits.proofs.Shapes.{grid-side-says}
-use Rattle.limits.proofs.Places.{times, length-picture}
+use Rattle.picture_restore.specs.Restore.{restored, bytesOf}
+use Rattle.picture_resize.proofs.Same.{Bytes, byte-below}
+use Rattle.picture_limits.proofs.Sides.{side-same, allowed-says, sided-says}
+use Rattle.picture_limits.proofs.Shapes.{grid-side-says}
+use Rattle.picture_limits.proofs.Places.{times, length-picture}
 use Rattle.picture.proofs.Accepts.{acceptance}
 use Rattle.picture.proofs.Undo.{Undone, undo, own-bytes, spanned, bytes-append, no-bytes, one-byte, bytes-tab, bytes-rows}
-use Rattle.limits.proofs.Unique.{one}
+use Rattle.picture_limits.proofs.Unique.{one}
 use Rattle.unpatch_form.specs.Words.{word, _>>=_, first, end, joined, behind}
 use Rattle.unpatch_form.specs.Decimal.{decimal}
 use Rattle.unpatch_form.specs.Hex.{nibble, pair, hexPairs, hexBytes}

@@ -10,25 +10,25 @@ use lib.Dec.{leb}
 use lib.ListN.{length, take, replicate, length-replicate}
 use lib.Seq.{take-at}
 use lib.Ieee.{Float}
-use Rattle.limits.specs.declared.PictureSettings.{PictureSettings}
-use Rattle.limits.specs.declared.Refusal.{Refusal}
-use Rattle.limits.specs.declared.Shape.{Shape}
-use Rattle.limits.specs.declared.Shape.the-variants.{Shaped, Unshaped}
+use Rattle.picture_limits.specs.declared.PictureSettings.{PictureSettings}
+use Rattle.picture_limits.specs.declared.Refusal.{Refusal}
+use Rattle.picture_limits.specs.declared.Shape.{Shape}
+use Rattle.picture_limits.specs.declared.Shape.the-variants.{Shaped, Unshaped}
 use Rattle.picture.specs.declared.Preprocessed.{Preprocessed}
 use Rattle.picture.specs.declared.Preprocessed.the-variants as P
-use Rattle.restore.specs.declared.Restored.{Restored}
-use Rattle.restore.specs.declared.Restored.the-variants.{Picture, Refused}
-use Rattle.limits.specs.Settings.{align}
-use Rattle.limits.specs.Sides.{side, resized, gridOf}
-use Rattle.limits.specs.Patches.{patchFloats}
-use Rattle.limits.specs.Shape.{shaped}
+use Rattle.picture_restore.specs.declared.Restored.{Restored}
+use Rattle.picture_restore.specs.declared.Restored.the-variants.{Picture, Refused}
+use Rattle.picture_limits.specs.Settings.{align}
+use Rattle.picture_limits.specs.Sides.{side, resized, gridOf}
+use Rattle.picture_limits.specs.Patches.{patchFloats}
+use Rattle.picture_limits.specs.Shape.{shaped}
 use Rattle.picture.specs.Preprocess.{floatsOf, preprocessed, resizedPixel, patchesOf, patchesLeft}
-use Rattle.restore.specs.Restore.{known, unless, decided, restored, bytesOf, bytesLeft}
-use Rattle.samples.specs.Samples.{sample, sampleBits}
-use Rattle.limits.proofs.Places.{times, length-picture}
-use Rattle.patches.proofs.Patches.{length-patches}
-use Rattle.limits.proofs.Sides.{side-le}
-use Rattle.limits.proofs.Shapes.{Grids, shaped-says}
+use Rattle.picture_restore.specs.Restore.{known, unless, decided, restored, bytesOf, bytesLeft}
+use Rattle.picture_samples.specs.Samples.{sample, sampleBits}
+use Rattle.picture_limits.proofs.Places.{times, length-picture}
+use Rattle.picture_patches.proofs.Patches.{length-patches}
+use Rattle.picture_limits.proofs.Sides.{side-le}
+use Rattle.picture_limits.proofs.Shapes.{Grids, shaped-says}
 use Rattle.picture.proofs.Accepts.{acceptance}
 use Rattle.unpatch_text.specs.Print.{refusedLine}
 use Rattle.unpatch_text.specs.Answer.{restoredText, preprocessedText, ran}

@@ -8,10 +8,10 @@ use native.Mathlib.Omega.{arith}
 use lib.ListN.{length, drop, length-append, length-take}
 use Rattle.buffers.specs.Rows.{rows}
 use Rattle.buffers.specs.Region.{region}
-use Rattle.limits.specs.declared.Refusal.{Refusal}
-use Rattle.limits.specs.declared.Refusal.the-variants.{Setting, Side, RgbLength, ImageSize, Output, Grid, PatchesLength, Sample, WeightsLength, TableLength, Scratch, NotFinite}
-use Rattle.limits.specs.Refusal.{number}
-use Rattle.limits.proofs.Places.{times}
+use Rattle.picture_limits.specs.declared.Refusal.{Refusal}
+use Rattle.picture_limits.specs.declared.Refusal.the-variants.{Setting, Side, RgbLength, ImageSize, Output, Grid, PatchesLength, Sample, WeightsLength, TableLength, Scratch, NotFinite}
+use Rattle.picture_limits.specs.Refusal.{number}
+use Rattle.picture_limits.proofs.Places.{times}
 use Rattle.unpatch_text.specs.Print.{decimalText, refusedLine, gridLine, rowLine, rowLines}
 use Rattle.unpatch_text.proofs.Writes.{digits-one, digits-more, length-refused, length-grid, length-row}
 

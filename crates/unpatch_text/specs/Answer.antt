@@ -6,14 +6,14 @@ use Prim.Native.Nat.{ℕ, _*_, _/_}
 use lib.Dec.{leb}
 use lib.ListN.{length}
 use Rattle.buffers.specs.Region.{over}
-use Rattle.limits.specs.declared.PictureSettings.{PictureSettings}
+use Rattle.picture_limits.specs.declared.PictureSettings.{PictureSettings}
 use Rattle.picture.specs.declared.Preprocessed.{Preprocessed}
 use Rattle.picture.specs.declared.Preprocessed.the-variants as P
-use Rattle.restore.specs.declared.Restored.{Restored}
-use Rattle.restore.specs.declared.Restored.the-variants as R
-use Rattle.limits.specs.Refusal.{number}
+use Rattle.picture_restore.specs.declared.Restored.{Restored}
+use Rattle.picture_restore.specs.declared.Restored.the-variants as R
+use Rattle.picture_limits.specs.Refusal.{number}
 use Rattle.picture.specs.Preprocess.{floatsOf, preprocessed, patchesOf}
-use Rattle.restore.specs.Restore.{restored, bytesOf}
+use Rattle.picture_restore.specs.Restore.{restored, bytesOf}
 use Rattle.unpatch_form.specs.Form.{Request, form}
 use Rattle.unpatch_text.specs.Print.{refusedLine, outsideLine, gridLine, rowLines}
 

@@ -4,7 +4,7 @@ mod run;
 
 use crate::print::put_bytes;
 use crate::run::run;
-use limits::PictureSettings;
+use picture_limits::PictureSettings;
 use unpatch_read::read::Reading;
 use unpatch_read::read::read;
 ghost use mathlib.Core.Path.{_≡_};

@@ -1,8 +1,8 @@
 -- `kyzgultam::encoder_settings` meets its contract. Assumes nothing.
 use mathlib.Core.Path.{_≡_, ap}
 use borrow.Author.Needs.{needs}
-use Rattle.limits.specs.declared.PictureSettings.{PictureSettings}
-use Rattle.demands.specs.declared.EncoderSettings.{EncoderSettings}
+use Rattle.picture_limits.specs.declared.PictureSettings.{PictureSettings}
+use Rattle.encoder_settings.specs.declared.EncoderSettings.{EncoderSettings}
 use Rattle.kyzgultam.proofs.encoder_settings.Statement.{statement}
 use Rattle.kyzgultam.proofs.encoder_settings.Tie as tie
 

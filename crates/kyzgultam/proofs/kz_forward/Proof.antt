@@ -3,7 +3,7 @@ use mathlib.Core.Path.{_≡_, sym, ap, _∙_}
 use Prim.Native.Nat.{ℕ}
 use borrow.Author.Needs.{needs}
 use lib.ListN.{length}
-use Rattle.demands.specs.declared.EncoderSettings.{EncoderSettings}
+use Rattle.encoder_settings.specs.declared.EncoderSettings.{EncoderSettings}
 use Rattle.encoder.specs.Forward.{encodedOf, outOf, scratchOf}
 use Rattle.kyzgultam.specs.Face.{innerEncoder, forwardReport}
 use Rattle.kyzgultam.proofs.kz_forward.Statement.{statement}

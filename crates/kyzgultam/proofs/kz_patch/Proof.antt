@@ -11,11 +11,11 @@ use lib.ListN.{length, take, drop, length-drop}
 use lib.Seq.{length-take-le}
 use lib.Ieee.{Float}
 use Rattle.buffers.proofs.Lists.{and-left, and-right}
-use Rattle.limits.specs.Settings.{within}
-use Rattle.limits.specs.Patches.{patchFloats}
+use Rattle.picture_limits.specs.Settings.{within}
+use Rattle.picture_limits.specs.Patches.{patchFloats}
 use Rattle.picture.specs.Part.{patchPart}
-use Rattle.limits.proofs.Places.{times}
-use Rattle.limits.proofs.Sides.{within-says}
+use Rattle.picture_limits.proofs.Places.{times}
+use Rattle.picture_limits.proofs.Sides.{within-says}
 use Rattle.kyzgultam.specs.declared.PatchPlace.{PatchPlace}
 use Rattle.kyzgultam.specs.Face.{placeOf}
 use Rattle.kyzgultam.proofs.kz_patch.Statement.{statement}

@@ -3,7 +3,7 @@ use mathlib.Core.Path.{_≡_, sym, ap, _∙_}
 use Prim.Native.Nat.{ℕ}
 use borrow.Author.Needs.{needs}
 use lib.ListN.{length}
-use Rattle.limits.specs.declared.PictureSettings.{PictureSettings}
+use Rattle.picture_limits.specs.declared.PictureSettings.{PictureSettings}
 use Rattle.picture.specs.Preprocess.{preprocessed, patchesOf, patchesLeft}
 use Rattle.kyzgultam.specs.Face.{inner, preprocessReport}
 use Rattle.kyzgultam.proofs.kz_preprocess.Statement.{statement}

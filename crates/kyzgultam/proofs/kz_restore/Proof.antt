@@ -3,8 +3,8 @@ use mathlib.Core.Path.{_≡_, sym, ap, _∙_}
 use Prim.Native.Nat.{ℕ}
 use borrow.Author.Needs.{needs}
 use lib.ListN.{length}
-use Rattle.limits.specs.declared.PictureSettings.{PictureSettings}
-use Rattle.restore.specs.Restore.{restored, bytesOf, bytesLeft}
+use Rattle.picture_limits.specs.declared.PictureSettings.{PictureSettings}
+use Rattle.picture_restore.specs.Restore.{restored, bytesOf, bytesLeft}
 use Rattle.kyzgultam.specs.Face.{inner, restoreReport}
 use Rattle.kyzgultam.proofs.kz_restore.Statement.{statement}
 use Rattle.kyzgultam.proofs.kz_restore.Tie as tie

@@ -9,14 +9,14 @@ use lib.Ieee.{Float}
 use Rattle.buffers.specs.Rows.{tab}
 use Rattle.buffers.specs.Region.{region, put, copied, zero32}
 use Rattle.buffers.proofs.Rooms.{written}
-use Rattle.limits.specs.declared.Refusal.{Refusal}
-use Rattle.demands.specs.declared.Checked.{Checked}
-use Rattle.demands.specs.declared.Checked.the-variants as C
-use Rattle.demands.specs.Settings.{checkedOf}
-use Rattle.steps.specs.Run.{Run, stopped, went}
-use Rattle.stages.specs.Forward.{forwardRun}
-use Rattle.stages.specs.Vectors.{ranBy, leftBy, ranOf, leftOf}
-use Rattle.steps.proofs.Fronts.{front-is, front-cleared}
+use Rattle.picture_limits.specs.declared.Refusal.{Refusal}
+use Rattle.encoder_settings.specs.declared.Checked.{Checked}
+use Rattle.encoder_settings.specs.declared.Checked.the-variants as C
+use Rattle.encoder_settings.specs.Settings.{checkedOf}
+use Rattle.encoder_steps.specs.Run.{Run, stopped, went}
+use Rattle.encoder_stages.specs.Forward.{forwardRun}
+use Rattle.encoder_stages.specs.Vectors.{ranBy, leftBy, ranOf, leftOf}
+use Rattle.encoder_steps.proofs.Fronts.{front-is, front-cleared}
 use Rattle.encoder.specs.declared.Encoded.the-variants.{Refused}
 use Rattle.encoder.specs.Forward.{encodedBy, outBy, scratchBy, encodedOf, outOf, scratchOf}
 use Rattle.encoder.proofs.Leaves.{copied-over, went-says, went-by}

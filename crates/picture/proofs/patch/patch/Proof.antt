@@ -5,9 +5,9 @@ use native.Mathlib.Nat.{le-div-iff-mul-le, div-lt-iff-lt-mul, add-sub-cancel-lef
 use native.Mathlib.Omega.{arith}
 use borrow.Author.Tests.{le-leb, lt-leb}
 use lib.ListN.{length}
-use Rattle.limits.specs.Patches.{patchFloats}
+use Rattle.picture_limits.specs.Patches.{patchFloats}
 use Rattle.picture.specs.Part.{patchPart}
-use Rattle.limits.proofs.Places.{square, times, turn}
+use Rattle.picture_limits.proofs.Places.{square, times, turn}
 use borrow.Author.Needs.{needs}
 use Rattle.picture.proofs.patch.patch.Statement.{statement}
 use Rattle.picture.proofs.patch.patch.Tie as tie

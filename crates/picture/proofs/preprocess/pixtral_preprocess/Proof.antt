@@ -8,16 +8,16 @@ use borrow.Author.Needs.{needs}
 use borrow.Author.Tests.{not-true, not-false, eq-eqb, ne-eqb, le-leb, lt-leb, eqb-true}
 use lib.ListN.{length}
 use Rattle.buffers.specs.Region.{over}
-use Rattle.limits.specs.Settings.{allowed, sided, align}
-use Rattle.limits.specs.Sides.{resized, gridOf}
-use Rattle.limits.specs.Patches.{patchFloats}
+use Rattle.picture_limits.specs.Settings.{allowed, sided, align}
+use Rattle.picture_limits.specs.Sides.{resized, gridOf}
+use Rattle.picture_limits.specs.Patches.{patchFloats}
 use Rattle.picture.specs.Preprocess.{floatsOf, preprocessed}
 use Rattle.picture.proofs.Accepts.{Accepts, accepted, written}
-use Rattle.limits.proofs.Places.{square, times}
-use Rattle.limits.proofs.Sides.{Allowed, allowed-says, sided-says, side-le, Spans, spans}
-use Rattle.patches.specs.Resized.{resizedPatches, fits}
-use Rattle.patches.proofs.Fits as W
-use Rattle.patches.proofs.Fits.{fits-where}
+use Rattle.picture_limits.proofs.Places.{square, times}
+use Rattle.picture_limits.proofs.Sides.{Allowed, allowed-says, sided-says, side-le, Spans, spans}
+use Rattle.picture_patches.specs.Resized.{resizedPatches, fits}
+use Rattle.picture_patches.proofs.Fits as W
+use Rattle.picture_patches.proofs.Fits.{fits-where}
 use Rattle.picture.proofs.preprocess.pixtral_preprocess.Statement.{statement}
 use Rattle.picture.proofs.preprocess.pixtral_preprocess.Tie as tie
 

@@ -4,7 +4,7 @@ use Prim.Native.Nat.{ℕ, _+_, _*_, _-_, _/_, _≤_, min}
 use native.Mathlib.Nat.{div-mul-le-self}
 use native.Mathlib.Omega.{arith}
 use borrow.Author.Needs.{needs}
-use Rattle.limits.specs.Sides.{side}
+use Rattle.picture_limits.specs.Sides.{side}
 use Rattle.picture.proofs.preprocess.side_of.Statement.{statement}
 use Rattle.picture.proofs.preprocess.side_of.Tie as tie
 

@@ -4,9 +4,9 @@ use Prim.Native.Nat.{ℕ}
 use mathlib.Core.Path.{_≡_, sym, ap, _∙_}
 use mathlib.Core.List.{List}
 use lib.Ieee.{Float}
-use Rattle.limits.specs.declared.PictureSettings.{PictureSettings}
-use Rattle.restore.specs.declared.Restored.{Restored}
-use Rattle.restore.specs.Restore.{bytesOf, bytesLeft}
+use Rattle.picture_limits.specs.declared.PictureSettings.{PictureSettings}
+use Rattle.picture_restore.specs.declared.Restored.{Restored}
+use Rattle.picture_restore.specs.Restore.{bytesOf, bytesLeft}
 use Rattle.replay.specs.Hash.{byteHash}
 use Rattle.picture_replay.specs.Run.{brought, backFrom, backOf}
 use Rattle.picture_replay.proofs.run.bring.Statement.{statement}

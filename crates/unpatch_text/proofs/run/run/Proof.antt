@@ -8,14 +8,14 @@ use lib.ListN.{length, take, replicate, length-replicate}
 use lib.Seq.{length-take-le}
 use lib.Ieee.{Float}
 use Rattle.buffers.specs.Region.{zero32}
-use Rattle.limits.specs.declared.PictureSettings.{PictureSettings}
+use Rattle.picture_limits.specs.declared.PictureSettings.{PictureSettings}
 use Rattle.picture.specs.declared.Preprocessed.{Preprocessed}
 use Rattle.picture.specs.declared.Preprocessed.the-variants as P
-use Rattle.restore.specs.declared.Restored.{Restored}
-use Rattle.restore.specs.declared.Restored.the-variants as R
+use Rattle.picture_restore.specs.declared.Restored.{Restored}
+use Rattle.picture_restore.specs.declared.Restored.the-variants as R
 use Rattle.picture.specs.Preprocess.{floatsOf, preprocessed, patchesOf}
-use Rattle.restore.specs.Restore.{restored, bytesOf}
-use Rattle.limits.proofs.Places.{times}
+use Rattle.picture_restore.specs.Restore.{restored, bytesOf}
+use Rattle.picture_limits.proofs.Places.{times}
 use Rattle.picture.proofs.Accepts.{Accepted, acceptance}
 use Rattle.unpatch_text.specs.Print.{refusedLine, gridLine, rowLines}
 use Rattle.unpatch_text.specs.Answer.{restoredText, preprocessedText, ran}
@@ -28,8 +28,8 @@ use Rattle.unpatch_text.proofs.run.run.Tie as tie
 use Rattle.unpatch_text.proofs.run.run.Reads as reads
 use Rattle.unpatch_text.proofs.run.run.Lts as lts
 use Rattle.picture.proofs.preprocess.pixtral_preprocess.Reads as pixtral-preprocess-reads
-use Rattle.restore.proofs.restore.Reads as restore-reads
-use Rattle.limits.proofs.settings.number.Reads as number-reads
+use Rattle.picture_restore.proofs.restore.Reads as restore-reads
+use Rattle.picture_limits.proofs.settings.number.Reads as number-reads
 use Rattle.unpatch_text.proofs.print.put_refused.Reads as put-refused-reads
 use Rattle.unpatch_text.proofs.run.show.Reads as show-reads
 

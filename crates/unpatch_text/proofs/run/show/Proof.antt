@@ -3,7 +3,7 @@ use borrow.Author.Needs.{needs}
 use Prim.Native.Nat.{ℕ, _*_, _/_, _≤_}
 use native.Mathlib.Omega.{arith}
 use lib.ListN.{length, length-append}
-use Rattle.limits.proofs.Places.{times}
+use Rattle.picture_limits.proofs.Places.{times}
 use Rattle.unpatch_text.specs.Print.{gridLine, rowLines}
 use Rattle.unpatch_text.proofs.Writes.{wrote-then}
 use Rattle.unpatch_text.proofs.Short.{shown-short}

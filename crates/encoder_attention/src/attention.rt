@@ -1,0 +1,241 @@
+// Attention, with one score row for the source's matrix of scores, and the keys turned so that those of one place lie
+// together: then the scores of several keys run side by side, each from +0 upward by itself.
+ghost use mathlib.Core.Path.{_≡_};
+ghost use mathlib.Core.Bool.{_&&_, cond};
+ghost use Prim.Native.Nat.{_+_, _*_, _≤_};
+ghost use lib.ListN.{length, getD};
+ghost use lib.Ieee.{lt, nan};
+ghost use Rattle.buffers.specs.Region.{region, put, zero32};
+ghost use Rattle.buffers.specs.Each.{blank};
+ghost use Rattle.encoder_kernels.specs.Finite.{sound};
+ghost use Rattle.encoder_linear.specs.Lanes.{spread};
+ghost use Rattle.encoder_linear.specs.Weighed.{weighedRow};
+ghost use Rattle.encoder_linear.specs.Fits.{WeighFits};
+ghost use Rattle.encoder_attention.specs.Attention.{maxOf, totalOf, inverseOf, scaled, headScores, headSums, softmaxOf, tokenScores, tokenSums, scoresOf, attentionOf};
+ghost use Rattle.encoder_attention.specs.Keys.{turnedKeys, keysOf};
+ghost use Rattle.encoder_attention.specs.Room.{attendFits};
+ghost use Rattle.encoder_attention.specs.Fits.{TurnFits, KeyAt, HeadAt, TokenAt, AttendFits};
+use crate::room::attend_fits;
+use crate::soften::exp_row;
+use buffers::clear_at;
+use buffers::part;
+use encoder_kernels::finite::finite;
+use encoder_linear::weigh::weigh;
+
+// b where a < b, else a.
+pub(crate) fn larger(a: f32, b: f32) -> f32
+    ensures { λ r. ⌜ r ≡ cond (lt a b) b a ⌝ }
+{
+    if a < b { b } else { a }
+}
+
+pub(crate) fn row_max(x: &[f32]) -> f32
+    ensures { λ r. ⌜ r ≡ maxOf (now (x .entry)) ⌝ }
+{
+    let mut m = -1.0f32 / 0.0;
+    let mut i = 0usize;
+    while i < x.len() {
+        m = larger(m, x[i]);
+        i += 1;
+    }
+    m
+}
+
+pub(crate) fn total(x: &[f32]) -> f32
+    ensures { λ r. ⌜ r ≡ totalOf (now (x .entry)) ⌝ }
+{
+    let mut acc = 0.0f32;
+    let mut i = 0usize;
+    while i < x.len() {
+        acc = acc + x[i];
+        i += 1;
+    }
+    acc
+}
+
+pub(crate) fn inverse(x: f32) -> f32
+    ensures { λ r. ⌜ r ≡ inverseOf x ⌝ }
+{
+    if 0.0 < x { 1.0 / x } else { 0.0 }
+}
+
+pub(crate) fn scale_row(s: &mut [f32], y: usize, n: usize, m: f32)
+    requires { ⌜ y + n ≤ length (now s) ⌝ }
+    ensures { λ _. ⌜ now (s .exit) ≡ put (now (s .entry)) y (scaled n m (region (now (s .entry)) y n)) ⌝ }
+{
+    let mut i = 0usize;
+    while i < n {
+        s[y + i] = s[y + i] * m;
+        i += 1;
+    }
+}
+
+// One query against t keys, turned, into the score row.
+pub(crate) fn scores(
+    s: &mut [f32],
+    q: usize,
+    k: usize,
+    row: usize,
+    t: usize,
+    hd: usize,
+    scaling: f32,
+)
+    requires { ⌜ WeighFits (length (now s)) q k row hd t t 0 ⌝ }
+    ensures { λ _. ⌜ now (s .exit) ≡ put (now (s .entry)) row (scaled t scaling (weighedRow hd t t 0 (region (now (s .entry)) q hd) (region (now (s .entry)) k (hd * t)))) ⌝ }
+{
+    weigh(s, q, k, row, hd, t, t, 0);
+    scale_row(s, row, t, scaling);
+}
+
+// The row's scores become its weights.
+pub(crate) fn softmax(s: &mut [f32], row: usize, t: usize)
+    requires { ⌜ row + t ≤ length (now s) ⌝ }
+    ensures { λ _. ⌜ now (s .exit) ≡ put (now (s .entry)) row (softmaxOf t (region (now (s .entry)) row t)) ⌝ }
+{
+    let m = row_max(part(s, row, t));
+    exp_row(s, row, t, m);
+    let f = inverse(total(part(s, row, t)));
+    scale_row(s, row, t, f);
+}
+
+// One query of one head: its scores over the keys, turned at k, softened, weigh the values. Says whether every score was finite.
+pub(crate) fn attend_head(
+    s: &mut [f32],
+    q: usize,
+    k: usize,
+    v: usize,
+    row: usize,
+    out: usize,
+    t: usize,
+    heads: usize,
+    hd: usize,
+    i: usize,
+    h: usize,
+    scaling: f32,
+) -> bool
+    requires { ⌜ HeadAt (length (now s)) q k v row out t heads hd i h ⌝ }
+    ensures { λ r. ⌜ r ≡ sound (headScores t (heads * hd) hd scaling (region (now (s .entry)) q (t * (heads * hd))) (keysOf t (heads * hd) (region (now (s .entry)) k (t * (heads * hd)))) i (h * hd)) ⌝ }
+    ensures { λ r. ⌜ blank zero32 row t (now (s .exit)) ≡ put (blank zero32 row t (now (s .entry))) (out + (i * (heads * hd) + h * hd))
+        (headSums t (heads * hd) hd scaling (region (now (s .entry)) q (t * (heads * hd))) (keysOf t (heads * hd) (region (now (s .entry)) k (t * (heads * hd)))) (region (now (s .entry)) v (t * (heads * hd))) i (h * hd)) ⌝ }
+{
+    let dim = heads * hd;
+    let o = h * hd;
+    let at = i * dim + o;
+    scores(s, q + at, k + o * t, row, t, hd, scaling);
+    let ok = finite(part(s, row, t));
+    softmax(s, row, t);
+    weigh(s, row, v, out + at, t, dim, hd, o);
+    ok
+}
+
+// One query, all heads.
+pub(crate) fn attend_token(
+    s: &mut [f32],
+    q: usize,
+    k: usize,
+    v: usize,
+    row: usize,
+    out: usize,
+    t: usize,
+    heads: usize,
+    hd: usize,
+    i: usize,
+    scaling: f32,
+) -> bool
+    requires { ⌜ TokenAt (length (now s)) q k v row out t heads hd i ⌝ }
+    ensures { λ r. ⌜ r ≡ sound (tokenScores t heads hd scaling (region (now (s .entry)) q (t * (heads * hd))) (keysOf t (heads * hd) (region (now (s .entry)) k (t * (heads * hd)))) i) ⌝ }
+    ensures { λ r. ⌜ blank zero32 row t (now (s .exit)) ≡ put (blank zero32 row t (now (s .entry))) (out + i * (heads * hd))
+        (tokenSums t heads hd scaling (region (now (s .entry)) q (t * (heads * hd))) (keysOf t (heads * hd) (region (now (s .entry)) k (t * (heads * hd)))) (region (now (s .entry)) v (t * (heads * hd))) i) ⌝ }
+{
+    let mut ok = true;
+    let mut h = 0usize;
+    while h < heads {
+        let fine = attend_head(s, q, k, v, row, out, t, heads, hd, i, h, scaling);
+        ok = ok & fine;
+        h += 1;
+    }
+    ok
+}
+
+// Every query, one after another.
+pub(crate) fn attend_tokens(
+    s: &mut [f32],
+    q: usize,
+    k: usize,
+    v: usize,
+    row: usize,
+    out: usize,
+    t: usize,
+    heads: usize,
+    hd: usize,
+    scaling: f32,
+) -> bool
+    requires { ⌜ AttendFits (length (now s)) q k v row out t heads hd ⌝ }
+    ensures { λ r. ⌜ r ≡ sound (scoresOf t heads hd scaling (region (now (s .entry)) q (t * (heads * hd))) (keysOf t (heads * hd) (region (now (s .entry)) k (t * (heads * hd))))) ⌝ }
+    ensures { λ r. ⌜ blank zero32 row t (now (s .exit)) ≡ put (blank zero32 row t (now (s .entry))) out
+        (attentionOf t heads hd scaling (region (now (s .entry)) q (t * (heads * hd))) (keysOf t (heads * hd) (region (now (s .entry)) k (t * (heads * hd)))) (region (now (s .entry)) v (t * (heads * hd)))) ⌝ }
+{
+    let mut ok = true;
+    let mut i = 0usize;
+    while i < t {
+        let fine = attend_token(s, q, k, v, row, out, t, heads, hd, i, scaling);
+        ok = ok & fine;
+        i += 1;
+    }
+    ok
+}
+
+// Key j to column j of the turned keys.
+pub(crate) fn turn_key(s: &mut [f32], k: usize, kt: usize, t: usize, dim: usize, j: usize)
+    requires { ⌜ KeyAt (length (now s)) k kt t dim j ⌝ }
+    ensures { λ _. ⌜ now (s .exit) ≡ spread (now (s .entry)) (kt + j) t dim (λ d. getD (region (now (s .entry)) k (t * dim)) (j * dim + d) nan) ⌝ }
+{
+    let mut d = 0usize;
+    while d < dim {
+        s[kt + j + d * t] = s[k + (j * dim + d)];
+        d += 1;
+    }
+}
+
+// The t keys of dim at k, turned at kt: row d holds place d of each key.
+pub(crate) fn turn_keys(s: &mut [f32], k: usize, kt: usize, t: usize, dim: usize)
+    requires { ⌜ TurnFits (length (now s)) k kt t dim ⌝ }
+    ensures { λ _. ⌜ now (s .exit) ≡ put (now (s .entry)) kt (turnedKeys t dim (region (now (s .entry)) k (t * dim))) ⌝ }
+{
+    let mut j = 0usize;
+    while j < t {
+        turn_key(s, k, kt, t, dim, j);
+        j += 1;
+    }
+}
+
+// Every query: its sums at out. Says whether all fits and every scaled score was finite; the keys then stand turned at
+// kt, and the score row is +0.
+pub fn attend(
+    s: &mut [f32],
+    q: usize,
+    k: usize,
+    v: usize,
+    kt: usize,
+    row: usize,
+    out: usize,
+    t: usize,
+    heads: usize,
+    hd: usize,
+    scaling: f32,
+) -> bool
+    ensures { λ r. ⌜ r ≡ (attendFits (length (now (s .entry))) q k v kt row out t heads hd
+        && sound (scoresOf t heads hd scaling (region (now (s .entry)) q (t * (heads * hd))) (region (now (s .entry)) k (t * (heads * hd))))) ⌝ }
+    ensures { λ r. ⌜ now (s .exit) ≡ cond (attendFits (length (now (s .entry))) q k v kt row out t heads hd)
+        (put (blank zero32 row t (put (now (s .entry)) kt (turnedKeys t (heads * hd) (region (now (s .entry)) k (t * (heads * hd)))))) out
+        (attentionOf t heads hd scaling (region (now (s .entry)) q (t * (heads * hd))) (region (now (s .entry)) k (t * (heads * hd))) (region (now (s .entry)) v (t * (heads * hd)))))
+        (now (s .entry)) ⌝ }
+{
+    if attend_fits(s.len(), q, k, v, kt, row, out, t, heads, hd) {
+        turn_keys(s, k, kt, t, heads * hd);
+        let ok = attend_tokens(s, q, kt, v, row, out, t, heads, hd, scaling);
+        clear_at(s, row, t);
+        return ok;
+    }
+    false
+}

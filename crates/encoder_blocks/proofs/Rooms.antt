@@ -1,0 +1,120 @@
+-- Laws of what fits: a test that passes gives what the inner functions ask, and what they ask passes the test.
+-- Assumes nothing.
+use mathlib.Core.Bool.{true, _&&_}
+use mathlib.Core.Path.{_≡_}
+use Prim.Native.Nat.{ℕ, _+_, _*_, _≤_}
+use native.Mathlib.Nat.{mul-le-mul}
+use native.Mathlib.Omega.{arith}
+use borrow.Author.Tests.{ltb-true, leb-true, eqb-true, lt-ltb, le-leb, eq-eqb}
+use lib.Dec.{leb, ltb, eqb}
+use Rattle.buffers.specs.Room.{inside}
+use Rattle.buffers.proofs.Rooms.{both, two}
+use Rattle.encoder_blocks.specs.declared.Sizes.{Sizes}
+use Rattle.encoder_blocks.specs.Sizes.{hdOf, dimOf, nOf, mOf}
+use Rattle.encoder_blocks.specs.Weights.{layerOf}
+use Rattle.encoder_blocks.specs.Room.{sizesFit, lengthsFit, layersFit}
+use Rattle.encoder_blocks.specs.Fits.{LayersFits, SizesFit}
+
+-- the products of small sizes
+pub record Products (z : Sizes) : Type 0 where
+  pub grid : z .side * z .side ≤ 4194304
+  pub table : z .side * z .side * hdOf z ≤ 1073741824
+  pub hiddens : nOf z ≤ 8589934592
+  pub inners : mOf z ≤ 34359738368
+  pub squares : dimOf z * dimOf z ≤ 4194304
+  pub inner : z .inter * dimOf z ≤ 16777216
+  pub outer : dimOf z * z .inter ≤ 16777216
+
+pub products : (z : Sizes) → SizesFit z → Products z
+products z f =
+    let g : z .side * z .side ≤ 4194304 = mul-le-mul (f .tables) (f .tables) in
+    let w : z .«grid_w» ≤ 2048 = omega (arith, f .tables, f .wide) in
+    let m : z .side * z .«grid_w» ≤ 4194304 = mul-le-mul (f .tables) w in
+    let t : z .tokens ≤ 4194304 = omega (arith, m, f .high) in
+    record {
+      grid = g;
+      table = mul-le-mul g (f .narrow);
+      hiddens = mul-le-mul t (f .small);
+      inners = mul-le-mul t (f .inner);
+      squares = mul-le-mul (f .small) (f .small);
+      inner = mul-le-mul (f .inner) (f .small);
+      outer = mul-le-mul (f .small) (f .inner);
+    }
+
+module _ (z : Sizes) where
+  pub sizes-say : sizesFit z ≡ true → SizesFit z
+  unfolding sizesFit
+  sizes-say h =
+      let few = inside 2048 0 (dimOf z) && leb (z .tokens) (z .side * z .«grid_w») in
+      let some = leb (z .inter) 8192 && ltb 0 (z .«grid_w») in
+      let a = both (leb (z .half) 128) (leb (z .side) 2048 && (leb (z .«grid_w») (z .side) && (few && some))) h in
+      let b = both (leb (z .side) 2048) (leb (z .«grid_w») (z .side) && (few && some)) (a .1) in
+      let c = both (leb (z .«grid_w») (z .side)) (few && some) (b .1) in
+      let d = both few some (c .1) in
+      let e = both (inside 2048 0 (dimOf z)) (leb (z .tokens) (z .side * z .«grid_w»)) (d .0) in
+      let f = both (leb (z .inter) 8192) (ltb 0 (z .«grid_w»)) (d .1) in
+      let narrow = leb-true (z .half) 128 (a .0) in
+      let small = leb-true (0 + dimOf z) 2048 (e .0) in
+      record {
+        narrow = omega arith;
+        small = omega arith;
+        tables = leb-true (z .side) 2048 (b .0);
+        some = ltb-true 0 (z .«grid_w») (f .1);
+        wide = leb-true (z .«grid_w») (z .side) (c .0);
+        high = leb-true (z .tokens) (z .side * z .«grid_w») (e .1);
+        inner = leb-true (z .inter) 8192 (f .0);
+      }
+
+  sizes-fit : SizesFit z → sizesFit z ≡ true
+  unfolding sizesFit
+  sizes-fit f =
+      let narrow : z .half ≤ 128 = omega (arith, f .narrow) in
+      let small : 0 + dimOf z ≤ 2048 = omega (arith, f .small) in
+      two (le-leb (z .half) 128 narrow) (two (le-leb (z .side) 2048 (f .tables)) (two (le-leb (z .«grid_w») (z .side) (f .wide))
+      (two (two (le-leb (0 + dimOf z) 2048 small) (le-leb (z .tokens) (z .side * z .«grid_w») (f .high))) (two (le-leb (z .inter) 8192 (f .inner)) (lt-ltb 0 (z .«grid_w») (f .some))))))
+
+  module _ {lens lenw lenc lenn row at count : ℕ} where
+    pub layers-say : layersFit z lens lenw lenc lenn row at count ≡ true → LayersFits z lens lenw lenc lenn row at count
+    unfolding layersFit lengthsFit
+    layers-say h =
+        let table = z .side * z .side * hdOf z in
+        let tables = eqb lenc table && eqb lenn table in
+        let held = leb (7 * nOf z + 2 * mOf z) row && inside lens row (z .tokens) in
+        let p = both (sizesFit z) ((tables && (held && leb (dimOf z) lens)) && inside lenw at (count * layerOf z)) h in
+        let a = both (tables && (held && leb (dimOf z) lens)) (inside lenw at (count * layerOf z)) (p .1) in
+        let b = both tables (held && leb (dimOf z) lens) (a .0) in
+        let c = both (eqb lenc table) (eqb lenn table) (b .0) in
+        let d = both held (leb (dimOf z) lens) (b .1) in
+        let e = both (leb (7 * nOf z + 2 * mOf z) row) (inside lens row (z .tokens)) (d .0) in
+        let f = sizes-say (p .0) in
+        let q = products z f in
+        let behind = leb-true (7 * nOf z + 2 * mOf z) row (e .0) in
+        let within = leb-true (row + z .tokens) lens (e .1) in
+        record {
+          weights = leb-true (at + count * layerOf z) lenw (a .1);
+          one = omega (arith, q .squares, q .inner, q .outer, f .small);
+          inner = f .inner;
+          turn = record {
+            scratch = omega (arith, behind, within);
+            small = f .small;
+            narrow = f .narrow;
+            dimIn = leb-true (dimOf z) lens (d .1);
+            tables = f .tables;
+            some = f .some;
+            wide = f .wide;
+            high = f .high;
+            cosines = eqb-true lenc table (c .0);
+            sines = eqb-true lenn table (c .1);
+          };
+          scores = record { behind = behind; inside = within };
+        }
+
+    pub layers-fit : LayersFits z lens lenw lenc lenn row at count → layersFit z lens lenw lenc lenn row at count ≡ true
+    unfolding layersFit lengthsFit
+    layers-fit f =
+        let t = f .turn in
+        let table = z .side * z .side * hdOf z in
+        two (sizes-fit (record { narrow = t .narrow; small = t .small; tables = t .tables; some = t .some; wide = t .wide; high = t .high; inner = f .inner }))
+        (two (two (two (eq-eqb lenc table (t .cosines)) (eq-eqb lenn table (t .sines)))
+        (two (two (le-leb (7 * nOf z + 2 * mOf z) row (f .scores .behind)) (le-leb (row + z .tokens) lens (f .scores .inside))) (le-leb (dimOf z) lens (t .dimIn))))
+        (le-leb (at + count * layerOf z) lenw (f .weights)))

@@ -1,0 +1,107 @@
+-- `blocks::block::feed_in` meets its contract. Assumes nothing.
+use mathlib.Core.Path.{_∙_}
+use Prim.Native.Nat.{_+_, _*_}
+use native.Mathlib.Omega.{arith}
+use borrow.Author.Needs.{needs}
+use Rattle.buffers.specs.Region.{before}
+use Rattle.encoder_steps.proofs.Writes.{matrix-wrote}
+use Rattle.encoder_blocks.specs.Block.{gateOf, upOf}
+use Rattle.encoder_blocks.specs.Sizes.{dimOf, nOf, mOf}
+use Rattle.encoder_blocks.proofs.Lives.{feed-in}
+use Rattle.encoder_blocks.proofs.block.feed_in.Statement.{statement}
+use Rattle.encoder_blocks.proofs.block.feed_in.Tie as tie
+
+add-dim : tie.Need-add-dim
+add-dim c = search needs
+
+mul-dim : tie.Need-mul-dim
+mul-dim c = search needs
+
+mul-n : tie.Need-mul-n
+mul-n c = search needs
+
+mul-m : tie.Need-mul-m
+mul-m c = search needs
+
+mul-at : tie.Need-mul-at
+mul-at c = search needs
+
+mul-at-2 : tie.Need-mul-at-2
+mul-at-2 c = search needs
+
+mul-at-3 : tie.Need-mul-at-3
+mul-at-3 c = search needs
+
+add-at : tie.Need-add-at
+add-at c = search needs
+
+mul-bt : tie.Need-mul-bt
+mul-bt c = search needs
+
+add-bt : tie.Need-add-bt
+add-bt c = search needs
+
+norm2-requires : tie.Need-norm2-requires
+norm2-requires c κs = search needs
+
+mul-matrix : tie.Need-mul-matrix
+mul-matrix c = search needs
+
+matrix-requires : tie.Need-matrix-requires
+matrix-requires c κs = search needs
+
+mul-matrix-2 : tie.Need-mul-matrix-2
+mul-matrix-2 c = search needs
+
+add-matrix : tie.Need-add-matrix
+add-matrix c = search needs
+
+matrix-requires-2 : tie.Need-matrix-requires-2
+matrix-requires-2 c κs = search needs
+
+same-length : tie.Need-same-length
+same-length c = search needs
+
+returns : tie.Need-returns
+unfolding gateOf upOf
+returns c =
+    let a = c .before .before .before .before .before .before .before .before .before .before .before .before .before .before .before .args in
+    let g = c .before .before .before .before .before .before .before .before .before .before .before .before .before .before .before .pre in
+    let x = c .before .before .before .before .before .before .before .before .before .before .norm2 in
+    let y = c .before .before .before .before .before .before .matrix in
+    let z = c .before .before .matrix2 in
+    let t = a .z .tokens in
+    let d = dimOf (a .z) in
+    let i = a .z .inter in
+    let n = nOf (a .z) in
+    let m = mOf (a .z) in
+    let k = 2 * d + 4 * (d * d) in
+    let l = y .kept .0 ∙ x .kept .0 in
+    feed-in (a .z) (a .w .now) (a .s .now) (g .scratch) (x .last .0) (y .last .0) (z .last .0) (a .ok) (x .result) (y .result) (z .result) (x .ensures)
+    (matrix-wrote (a .w .now) n (7 * n) t d i k
+    (record { xIn = omega (arith, g .scratch, x .kept .0); yIn = omega (arith, g .scratch, x .kept .0); wIn = omega (arith, g .weights); apart = before (omega arith) }) (y .ensures))
+    (matrix-wrote (a .w .now) n (7 * n + m) t d i (k + i * d)
+    (record { xIn = omega (arith, g .scratch, l); yIn = omega (arith, g .scratch, l); wIn = omega (arith, g .weights); apart = before (omega arith) }) (z .ensures))
+
+pub feed-in-spec : {M : Type 1} → statement M
+feed-in-spec =
+    tie.close
+    (tie.spec
+    add-dim
+    mul-dim
+    mul-n
+    mul-m
+    mul-at
+    mul-at-2
+    mul-at-3
+    add-at
+    mul-bt
+    add-bt
+    norm2-requires
+    mul-matrix
+    matrix-requires
+    mul-matrix-2
+    add-matrix
+    matrix-requires-2
+    same-length
+    returns)

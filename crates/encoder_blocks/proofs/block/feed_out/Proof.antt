@@ -1,0 +1,129 @@
+-- `blocks::block::feed_out` meets its contract. Assumes nothing.
+use mathlib.Core.Path.{_∙_}
+use Prim.Native.Nat.{_+_, _*_}
+use native.Mathlib.Omega.{arith}
+use borrow.Author.Needs.{needs}
+use Rattle.buffers.specs.Region.{after}
+use Rattle.encoder_steps.proofs.Writes.{matrix-wrote, gate-wrote, add-wrote, round-wrote}
+use Rattle.encoder_blocks.specs.Block.{downOf}
+use Rattle.encoder_blocks.specs.Sizes.{dimOf, nOf, mOf}
+use Rattle.encoder_blocks.proofs.Lives.{feed-out}
+use Rattle.encoder_blocks.proofs.block.feed_out.Statement.{statement}
+use Rattle.encoder_blocks.proofs.block.feed_out.Tie as tie
+
+add-dim : tie.Need-add-dim
+add-dim c = search needs
+
+mul-dim : tie.Need-mul-dim
+mul-dim c = search needs
+
+mul-n : tie.Need-mul-n
+mul-n c = search needs
+
+mul-m : tie.Need-mul-m
+mul-m c = search needs
+
+mul-at : tie.Need-mul-at
+mul-at c = search needs
+
+mul-at-2 : tie.Need-mul-at-2
+mul-at-2 c = search needs
+
+mul-at-3 : tie.Need-mul-at-3
+mul-at-3 c = search needs
+
+add-at : tie.Need-add-at
+add-at c = search needs
+
+mul-at-4 : tie.Need-mul-at-4
+mul-at-4 c = search needs
+
+mul-at-5 : tie.Need-mul-at-5
+mul-at-5 c = search needs
+
+add-at-2 : tie.Need-add-at-2
+add-at-2 c = search needs
+
+mul-gate-fine : tie.Need-mul-gate-fine
+mul-gate-fine c = search needs
+
+mul-gate-fine-2 : tie.Need-mul-gate-fine-2
+mul-gate-fine-2 c = search needs
+
+add-gate-fine : tie.Need-add-gate-fine
+add-gate-fine c = search needs
+
+gate-fine-requires : tie.Need-gate-fine-requires
+gate-fine-requires c κs = search needs
+
+mul-matrix : tie.Need-mul-matrix
+mul-matrix c = search needs
+
+mul-matrix-2 : tie.Need-mul-matrix-2
+mul-matrix-2 c = search needs
+
+matrix-requires : tie.Need-matrix-requires
+matrix-requires c κs = search needs
+
+mul-add-fine : tie.Need-mul-add-fine
+mul-add-fine c = search needs
+
+add-fine-requires : tie.Need-add-fine-requires
+add-fine-requires c κs = search needs
+
+round-fine-requires : tie.Need-round-fine-requires
+round-fine-requires c κs = search needs
+
+same-length : tie.Need-same-length
+same-length c = search needs
+
+returns : tie.Need-returns
+unfolding downOf
+returns c =
+    let a = c .before .before .before .before .before .before .before .before .before .before .before .before .before .before .before .before .before .before .before .args in
+    let g = c .before .before .before .before .before .before .before .before .before .before .before .before .before .before .before .before .before .before .before .pre in
+    let v = c .before .before .before .before .before .before .before .before .before .before .before .before .before .before .gate-fine in
+    let x = c .before .before .before .before .before .before .before .before .before .before .matrix in
+    let y = c .before .before .before .before .before .before .add-fine in
+    let z = c .before .before .round-fine in
+    let t = a .z .tokens in
+    let d = dimOf (a .z) in
+    let i = a .z .inter in
+    let n = nOf (a .z) in
+    let m = mOf (a .z) in
+    let l = x .kept .0 ∙ v .kept .0 in
+    let k = y .kept .0 ∙ l in
+    feed-out (a .z) (a .w .now) (a .s .now) (g .scratch) (v .last .0) (x .last .0) (y .last .0) (z .last .0) (a .ok) (v .result) (x .result) (y .result) (z .result)
+    (gate-wrote (7 * n) (7 * n + m) m (record { yin = omega (arith, g .scratch); zin = omega (arith, g .scratch); apart = after (omega arith) }) (v .ensures))
+    (matrix-wrote (a .w .now) (7 * n) (6 * n) t i d (2 * d + 4 * (d * d) + 2 * (i * d))
+    (record { xIn = omega (arith, g .scratch, v .kept .0); yIn = omega (arith, g .scratch, v .kept .0); wIn = omega (arith, g .weights); apart = after (omega arith) }) (x .ensures))
+    (add-wrote 0 (6 * n) n (record { yin = omega (arith, g .scratch, l); zin = omega (arith, g .scratch, l); apart = after (omega arith) }) (y .ensures))
+    (round-wrote 0 n (omega (arith, g .scratch, k)) (z .ensures))
+
+pub feed-out-spec : {M : Type 1} → statement M
+feed-out-spec =
+    tie.close
+    (tie.spec
+    add-dim
+    mul-dim
+    mul-n
+    mul-m
+    mul-at
+    mul-at-2
+    mul-at-3
+    add-at
+    mul-at-4
+    mul-at-5
+    add-at-2
+    mul-gate-fine
+    mul-gate-fine-2
+    add-gate-fine
+    gate-fine-requires
+    mul-matrix
+    mul-matrix-2
+    matrix-requires
+    mul-add-fine
+    add-fine-requires
+    round-fine-requires
+    same-length
+    returns)

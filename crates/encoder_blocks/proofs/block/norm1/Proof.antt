@@ -1,0 +1,53 @@
+-- `blocks::block::norm1` meets its contract. Assumes nothing.
+use mathlib.Core.Path.{ap, _∙_}
+use native.Mathlib.Omega.{arith}
+use borrow.Author.Needs.{needs}
+use lib.ListN.{length}
+use Rattle.buffers.proofs.Regions.{length-region}
+use Rattle.buffers.specs.Region.{before}
+use Rattle.encoder_blocks.specs.Block.{normed1}
+use Rattle.encoder_blocks.specs.Sizes.{dimOf, nOf}
+use Rattle.encoder_steps.proofs.Writes.{norm-wrote}
+use Rattle.encoder_blocks.proofs.block.norm1.Statement.{statement}
+use Rattle.encoder_blocks.proofs.block.norm1.Tie as tie
+
+add-dim : tie.Need-add-dim
+add-dim c = search needs
+
+mul-dim : tie.Need-mul-dim
+mul-dim c = search needs
+
+mul-norm-fine : tie.Need-mul-norm-fine
+mul-norm-fine c = search needs
+
+part-requires : tie.Need-part-requires
+part-requires c κs = search needs
+
+norm-fine-requires : tie.Need-norm-fine-requires
+norm-fine-requires c κs = search needs
+
+same-length : tie.Need-same-length
+same-length c = search needs
+
+returns : tie.Need-returns
+unfolding normed1
+returns c =
+    let a = c .before .before .before .before .before .before .before .before .args in
+    let g = c .before .before .before .before .before .before .before .before .pre in
+    let p = c .before .before .before .part in
+    let d = dimOf (a .z) in
+    rw (p .ensures) at
+    (norm-wrote (p .result .now) 0 (nOf (a .z)) (a .z .tokens) d
+    (record {
+      small = g .small;
+      xin = omega (arith, g .scratch);
+      yin = omega (arith, g .scratch);
+      win = ap length (p .ensures) ∙ length-region (a .w .now) 0 d (omega (arith, g .weights));
+      apart = before (omega arith);
+    })
+    (c .before .before .norm-fine .ensures))
+
+pub norm1-spec : {M : Type 1} → statement M
+norm1-spec =
+    tie.close
+    (tie.spec add-dim mul-dim mul-norm-fine part-requires norm-fine-requires same-length returns)

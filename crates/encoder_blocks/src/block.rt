@@ -1,0 +1,194 @@
+// One encoder block.
+ghost use mathlib.Core.Path.{_≡_};
+ghost use Prim.Native.Nat.{_+_};
+ghost use lib.ListN.{length};
+ghost use Rattle.buffers.specs.Region.{region};
+ghost use Rattle.encoder_blocks.specs.Sizes.{nOf};
+ghost use Rattle.encoder_steps.specs.Run.{answer};
+ghost use Rattle.encoder_steps.specs.Step.{Wrote};
+ghost use Rattle.encoder_blocks.specs.Block.{blockRun, normed1, normed2, squareOf, turnedAll};
+ghost use Rattle.encoder_blocks.specs.Live.{hAt, AttnIn, AttnTurn, AttnMix, FeedIn, FeedOut};
+ghost use Rattle.encoder_blocks.specs.Fits.{BlockFits, TurnFits, TurnAt, ScoreRow, SquareAt};
+use crate::Sizes;
+use encoder_attention::attention::attend;
+use buffers::part;
+use encoder_kernels::finite::finite;
+use encoder_kernels::rotate::rotate;
+use encoder_steps::add_fine;
+use encoder_steps::gate_fine;
+use encoder_steps::matrix;
+use encoder_steps::norm_fine;
+use encoder_steps::round_fine;
+
+// The norm before the attention, of h.
+pub(crate) fn norm1(s: &mut [f32], z: Sizes, w: &[f32], ok: bool) -> bool
+    requires { ⌜ BlockFits z (length (now s)) (length (now w)) ⌝ }
+    ensures { λ r. ⌜ Wrote (now (s .entry)) (now (s .exit)) (nOf z) (normed1 z (now (w .entry)) (hAt z (now (s .entry)))) ok r ⌝ }
+{
+    let t = z.tokens;
+    let half = z.half;
+    let dim = z.heads * (half + half);
+    norm_fine(s, 0, t * dim, t, dim, part(w, 0, dim), ok)
+}
+
+// Square matrix i of the layer, from x to y.
+pub(crate) fn square(
+    s: &mut [f32],
+    z: Sizes,
+    i: usize,
+    x: usize,
+    y: usize,
+    w: &[f32],
+    ok: bool,
+) -> bool
+    requires { ⌜ SquareAt z (length (now s)) (length (now w)) i x y ⌝ }
+    ensures { λ r. ⌜ Wrote (now (s .entry)) (now (s .exit)) y (squareOf z i (now (w .entry)) (region (now (s .entry)) x (nOf z))) ok r ⌝ }
+{
+    let t = z.tokens;
+    let half = z.half;
+    let dim = z.heads * (half + half);
+    let dd = dim * dim;
+    matrix(s, x, y, t, dim, dim, w, dim + i * dd, ok)
+}
+
+// Norm, q, k, v.
+pub(crate) fn attn_in(s: &mut [f32], z: Sizes, w: &[f32], ok: bool) -> bool
+    requires { ⌜ BlockFits z (length (now s)) (length (now w)) ⌝ }
+    ensures { λ r. ⌜ AttnIn z (now (w .entry)) (now (s .entry)) (now (s .exit)) ok r ⌝ }
+{
+    let half = z.half;
+    let n = z.tokens * (z.heads * (half + half));
+    let a = norm1(s, z, w, ok);
+    let b = square(s, z, 0, n, 2 * n, w, a);
+    let c = square(s, z, 1, n, 3 * n, w, b);
+    square(s, z, 2, n, 4 * n, w, c)
+}
+
+// Rotation of what stands at x.
+pub(crate) fn rotate_fine(
+    s: &mut [f32],
+    x: usize,
+    z: Sizes,
+    cos: &[f32],
+    sin: &[f32],
+    ok: bool,
+) -> bool
+    requires { ⌜ TurnAt z (length (now s)) (length (now cos)) (length (now sin)) x ⌝ }
+    ensures { λ r. ⌜ Wrote (now (s .entry)) (now (s .exit)) x (turnedAll z (now (cos .entry)) (now (sin .entry)) (region (now (s .entry)) x (nOf z))) ok r ⌝ }
+{
+    let t = z.tokens;
+    let heads = z.heads;
+    let half = z.half;
+    rotate(s, x, t, heads, half, z.grid_w, z.side, cos, sin);
+    let n = t * (heads * (half + half));
+    ok & finite(part(s, x, n))
+}
+
+// Rotated q and k.
+pub(crate) fn attn_turn(s: &mut [f32], z: Sizes, cos: &[f32], sin: &[f32], ok: bool) -> bool
+    requires { ⌜ TurnFits z (length (now s)) (length (now cos)) (length (now sin)) ⌝ }
+    ensures { λ r. ⌜ AttnTurn z (now (cos .entry)) (now (sin .entry)) (now (s .entry)) (now (s .exit)) ok r ⌝ }
+{
+    let half = z.half;
+    let n = z.tokens * (z.heads * (half + half));
+    let a = rotate_fine(s, 2 * n, z, cos, sin, ok);
+    rotate_fine(s, 3 * n, z, cos, sin, a)
+}
+
+// Scores, sums, o, residual. The keys are turned where the norm stood, which nothing reads any more.
+pub(crate) fn attn_mix(s: &mut [f32], z: Sizes, row: usize, w: &[f32], ok: bool) -> bool
+    requires { ⌜ BlockFits z (length (now s)) (length (now w)) ⌝ }
+    requires { ⌜ ScoreRow z (length (now s)) row ⌝ }
+    ensures { λ r. ⌜ AttnMix z (now (w .entry)) (now (s .entry)) (now (s .exit)) ok r ⌝ }
+{
+    let t = z.tokens;
+    let half = z.half;
+    let heads = z.heads;
+    let n = t * (heads * (half + half));
+    let f = attend(
+        s,
+        2 * n,
+        3 * n,
+        4 * n,
+        n,
+        row,
+        5 * n,
+        t,
+        heads,
+        half + half,
+        z.scaling,
+    );
+    let g = finite(part(s, 5 * n, n));
+    let a = square(s, z, 3, 5 * n, 6 * n, w, (ok & f) & g);
+    add_fine(s, 0, 6 * n, n, a)
+}
+
+// The norm before the feed-forward, of h.
+pub(crate) fn norm2(s: &mut [f32], z: Sizes, w: &[f32], ok: bool) -> bool
+    requires { ⌜ BlockFits z (length (now s)) (length (now w)) ⌝ }
+    ensures { λ r. ⌜ Wrote (now (s .entry)) (now (s .exit)) (nOf z) (normed2 z (now (w .entry)) (hAt z (now (s .entry)))) ok r ⌝ }
+{
+    let t = z.tokens;
+    let half = z.half;
+    let dim = z.heads * (half + half);
+    let at = dim + 4 * (dim * dim);
+    norm_fine(s, 0, t * dim, t, dim, part(w, at, dim), ok)
+}
+
+// Norm, gate, up.
+pub(crate) fn feed_in(s: &mut [f32], z: Sizes, w: &[f32], ok: bool) -> bool
+    requires { ⌜ BlockFits z (length (now s)) (length (now w)) ⌝ }
+    ensures { λ r. ⌜ FeedIn z (now (w .entry)) (now (s .entry)) (now (s .exit)) ok r ⌝ }
+{
+    let t = z.tokens;
+    let half = z.half;
+    let inter = z.inter;
+    let dim = z.heads * (half + half);
+    let n = t * dim;
+    let m = t * inter;
+    let at = 2 * dim + 4 * (dim * dim);
+    let bt = at + inter * dim;
+    let a = norm2(s, z, w, ok);
+    let b = matrix(s, n, 7 * n, t, dim, inter, w, at, a);
+    matrix(s, n, 7 * n + m, t, dim, inter, w, bt, b)
+}
+
+// silu * up, down, residual, bf16.
+pub(crate) fn feed_out(s: &mut [f32], z: Sizes, w: &[f32], ok: bool) -> bool
+    requires { ⌜ BlockFits z (length (now s)) (length (now w)) ⌝ }
+    ensures { λ r. ⌜ FeedOut z (now (w .entry)) (now (s .entry)) (now (s .exit)) ok r ⌝ }
+{
+    let t = z.tokens;
+    let half = z.half;
+    let inter = z.inter;
+    let dim = z.heads * (half + half);
+    let n = t * dim;
+    let m = t * inter;
+    let at = 2 * dim + 4 * (dim * dim) + 2 * (inter * dim);
+    let a = gate_fine(s, 7 * n, 7 * n + m, m, ok);
+    let b = matrix(s, 7 * n, 6 * n, t, inter, dim, w, at, a);
+    let c = add_fine(s, 0, 6 * n, n, b);
+    round_fine(s, 0, n, c)
+}
+
+// The block: h, the first n floats of the scratch, becomes the block's result where every stage is finite.
+pub(crate) fn pixtral_block_forward(
+    s: &mut [f32],
+    z: Sizes,
+    row: usize,
+    w: &[f32],
+    cos: &[f32],
+    sin: &[f32],
+) -> bool
+    requires { ⌜ BlockFits z (length (now s)) (length (now w)) ⌝ }
+    requires { ⌜ TurnFits z (length (now s)) (length (now cos)) (length (now sin)) ⌝ }
+    requires { ⌜ ScoreRow z (length (now s)) row ⌝ }
+    ensures { λ r. ⌜ answer r (hAt z (now (s .exit))) ≡ blockRun z (now (w .entry)) (now (cos .entry)) (now (sin .entry)) (hAt z (now (s .entry))) ⌝ }
+{
+    let a = attn_in(s, z, w, true);
+    let b = attn_turn(s, z, cos, sin, a);
+    let c = attn_mix(s, z, row, w, b);
+    let d = feed_in(s, z, w, true);
+    let e = feed_out(s, z, w, d);
+    c & e
+}

@@ -1,0 +1,76 @@
+// The blocks one after another.
+ghost use mathlib.Core.Path.{_≡_};
+ghost use mathlib.Core.Bool.{_&&_, cond};
+ghost use lib.ListN.{length};
+ghost use Rattle.encoder_steps.specs.Run.{answer, ran, handed};
+ghost use Rattle.encoder_blocks.specs.Layers.{layersRun};
+ghost use Rattle.encoder_blocks.specs.Live.{hAt};
+ghost use Rattle.encoder_blocks.specs.Room.{layersFit};
+ghost use Rattle.encoder_blocks.specs.Fits.{LayersFits};
+use crate::Sizes;
+use crate::block::pixtral_block_forward;
+use crate::room::layers_fit;
+use buffers::clear;
+use buffers::clear_at;
+use buffers::part;
+
+// The layers, whose weights start at place at of w.
+pub(crate) fn each_layer(
+    s: &mut [f32],
+    z: Sizes,
+    row: usize,
+    w: &[f32],
+    at: usize,
+    count: usize,
+    cos: &[f32],
+    sin: &[f32],
+) -> bool
+    requires { ⌜ LayersFits z (length (now s)) (length (now w)) (length (now cos)) (length (now sin)) row at count ⌝ }
+    ensures { λ r. ⌜ answer r (hAt z (now (s .exit))) ≡ layersRun z at (now (w .entry)) (now (cos .entry)) (now (sin .entry)) count (hAt z (now (s .entry))) ⌝ }
+{
+    let half = z.half;
+    let inter = z.inter;
+    let dim = z.heads * (half + half);
+    let size = 2 * dim + 4 * (dim * dim) + 2 * (inter * dim) + dim * inter;
+    let mut ok = true;
+    let mut l = 0usize;
+    let mut a = at;
+    while l < count {
+        let r = pixtral_block_forward(s, z, row, part(w, a, size), cos, sin);
+        ok = ok & r;
+        a += size;
+        l += 1;
+    }
+    ok
+}
+
+// The layers, on h at 0; what they hand on then stands there, with +0 behind it. Says whether all fits and every stage
+// was finite; where one was not, all of the scratch is +0.
+pub fn layers(
+    s: &mut [f32],
+    z: Sizes,
+    row: usize,
+    w: &[f32],
+    at: usize,
+    count: usize,
+    cos: &[f32],
+    sin: &[f32],
+) -> bool
+    ensures { λ r. ⌜ r ≡ (layersFit z (length (now (s .entry))) (length (now (w .entry))) (length (now (cos .entry))) (length (now (sin .entry))) row at count
+        && ran (layersRun z at (now (w .entry)) (now (cos .entry)) (now (sin .entry)) count (hAt z (now (s .entry))))) ⌝ }
+    ensures { λ r. ⌜ now (s .exit) ≡ cond (layersFit z (length (now (s .entry))) (length (now (w .entry))) (length (now (cos .entry))) (length (now (sin .entry))) row at count)
+        (handed (layersRun z at (now (w .entry)) (now (cos .entry)) (now (sin .entry)) count (hAt z (now (s .entry)))) (now (s .entry))) (now (s .entry)) ⌝ }
+{
+    if layers_fit(z, s.len(), w.len(), cos.len(), sin.len(), row, at, count) {
+        let ok = each_layer(s, z, row, w, at, count, cos, sin);
+        if ok {
+            let half = z.half;
+            let n = z.tokens * (z.heads * (half + half));
+            clear_at(s, n, s.len() - n);
+            return true;
+        }
+        clear(s);
+        return false;
+    }
+    false
+}

@@ -1,0 +1,70 @@
+// Whether what the layers are handed fits. No test forms a number that could wrap.
+ghost use mathlib.Core.Path.{_≡_};
+ghost use Rattle.encoder_blocks.specs.Room.{sizesFit, lengthsFit, layersFit};
+ghost use Rattle.encoder_blocks.specs.Fits.{SizesFit};
+use crate::Sizes;
+use buffers::room::inside;
+use buffers::room::rows_inside;
+
+// No product of the sizes is large.
+pub(crate) fn sizes_fit(z: Sizes) -> bool
+    ensures { λ r. ⌜ r ≡ sizesFit z ⌝ }
+{
+    if 128 < z.half {
+        return false;
+    }
+    if 2048 < z.side {
+        return false;
+    }
+    if z.side < z.grid_w {
+        return false;
+    }
+    let half = z.half;
+    let few = z.tokens <= z.side * z.grid_w;
+    (rows_inside(2048, 0, z.heads, half + half) & few) & ((z.inter <= 8192) & (0 < z.grid_w))
+}
+
+// Tables, scratch and weights are long enough.
+pub(crate) fn lengths_fit(
+    z: Sizes,
+    lens: usize,
+    lenw: usize,
+    lenc: usize,
+    lenn: usize,
+    row: usize,
+    at: usize,
+    count: usize,
+) -> bool
+    requires { ⌜ SizesFit z ⌝ }
+    ensures { λ r. ⌜ r ≡ lengthsFit z lens lenw lenc lenn row at count ⌝ }
+{
+    let t = z.tokens;
+    let inter = z.inter;
+    let half = z.half;
+    let hd = half + half;
+    let dim = z.heads * hd;
+    let table = z.side * z.side * hd;
+    let used = 7 * (t * dim) + 2 * (t * inter);
+    let size = 2 * dim + 4 * (dim * dim) + 2 * (inter * dim) + dim * inter;
+    let tables = (lenc == table) & (lenn == table);
+    let places = ((used <= row) & inside(lens, row, t)) & (dim <= lens);
+    (tables & places) & rows_inside(lenw, at, count, size)
+}
+
+pub(crate) fn layers_fit(
+    z: Sizes,
+    lens: usize,
+    lenw: usize,
+    lenc: usize,
+    lenn: usize,
+    row: usize,
+    at: usize,
+    count: usize,
+) -> bool
+    ensures { λ r. ⌜ r ≡ layersFit z lens lenw lenc lenn row at count ⌝ }
+{
+    if sizes_fit(z) {
+        return lengths_fit(z, lens, lenw, lenc, lenn, row, at, count);
+    }
+    false
+}

@@ -1,0 +1,74 @@
+-- Laws of what fits: a test that passes gives what the inner functions ask, and what they ask passes the test.
+-- Assumes nothing.
+use mathlib.Core.Bool.{Bool, true, _&&_}
+use mathlib.Core.Path.{_≡_}
+use Prim.Native.Nat.{ℕ, _+_, _*_, _≤_}
+use native.Mathlib.Omega.{arith}
+use borrow.Author.Tests.{leb-true, le-leb}
+use Rattle.buffers.specs.Room.{inside, aside}
+use Rattle.buffers.proofs.Rooms.{both, two, aside-says, aside-is}
+use Rattle.encoder_linear.specs.Room.{linearFits, fromFits, weighFits}
+use Rattle.encoder_linear.specs.Fits.{LinearFits, FromFits, WeighFits}
+
+module _ {lens lenw x y n nin nout : ℕ} where
+  pub linear-says : linearFits lens lenw x y n nin nout ≡ true → LinearFits lens lenw x y n nin nout
+  unfolding linearFits
+  linear-says h =
+      let p = both (inside lens x (n * nin) && inside lens y (n * nout)) (inside lenw 0 (nout * nin) && aside x (n * nin) y (n * nout)) h in
+      let a = both (inside lens x (n * nin)) (inside lens y (n * nout)) (p .0) in
+      let b = both (inside lenw 0 (nout * nin)) (aside x (n * nin) y (n * nout)) (p .1) in
+      let w = leb-true (0 + nout * nin) lenw (b .0) in
+      record {
+        xin = leb-true (x + n * nin) lens (a .0);
+        yin = leb-true (y + n * nout) lens (a .1);
+        win = omega arith;
+        apart = aside-says x (n * nin) y (n * nout) (b .1);
+      }
+
+  pub linear-fits : LinearFits lens lenw x y n nin nout → linearFits lens lenw x y n nin nout ≡ true
+  unfolding linearFits
+  linear-fits f =
+      let w : 0 + nout * nin ≤ lenw = omega (arith, f .win) in
+      two (two (le-leb (x + n * nin) lens (f .xin)) (le-leb (y + n * nout) lens (f .yin))) (two (le-leb (0 + nout * nin) lenw w) (aside-is (f .apart)))
+
+module _ {lenx lens lenw y n nin nout : ℕ} where
+  pub from-says : fromFits lenx lens lenw y n nin nout ≡ true → FromFits lenx lens lenw y n nin nout
+  unfolding fromFits
+  from-says h =
+      let p = both (inside lenx 0 (n * nin) && inside lens y (n * nout)) (inside lenw 0 (nout * nin)) h in
+      let a = both (inside lenx 0 (n * nin)) (inside lens y (n * nout)) (p .0) in
+      let x = leb-true (0 + n * nin) lenx (a .0) in
+      let w = leb-true (0 + nout * nin) lenw (p .1) in
+      record { xin = omega arith; yin = leb-true (y + n * nout) lens (a .1); win = omega arith }
+
+  pub from-fits : FromFits lenx lens lenw y n nin nout → fromFits lenx lens lenw y n nin nout ≡ true
+  unfolding fromFits
+  from-fits f =
+      let x : 0 + n * nin ≤ lenx = omega (arith, f .xin) in
+      let w : 0 + nout * nin ≤ lenw = omega (arith, f .win) in
+      two (two (le-leb (0 + n * nin) lenx x) (le-leb (y + n * nout) lens (f .yin))) (le-leb (0 + nout * nin) lenw w)
+
+module _ {len row v out t dim hd o : ℕ} where
+  pub weigh-says : weighFits len row v out t dim hd o ≡ true → WeighFits len row v out t dim hd o
+  unfolding weighFits
+  weigh-says h =
+      let m = t * dim in
+      let a = both (inside dim o hd && inside len v m) ((inside len row t && inside len out hd) && (aside row t out hd && aside v m out hd)) h in
+      let b = both (inside dim o hd) (inside len v m) (a .0) in
+      let c = both (inside len row t && inside len out hd) (aside row t out hd && aside v m out hd) (a .1) in
+      let d = both (inside len row t) (inside len out hd) (c .0) in
+      let e = both (aside row t out hd) (aside v m out hd) (c .1) in
+      record {
+        vIn = leb-true (v + m) len (b .1);
+        rowIn = leb-true (row + t) len (d .0);
+        outIn = leb-true (out + hd) len (d .1);
+        oIn = leb-true (o + hd) dim (b .0);
+        rowout = aside-says row t out hd (e .0);
+        vout = aside-says v m out hd (e .1);
+      }
+
+  pub weigh-fits : WeighFits len row v out t dim hd o → weighFits len row v out t dim hd o ≡ true
+  unfolding weighFits
+  weigh-fits f =
+      two (two (le-leb (o + hd) dim (f .oIn)) (le-leb (v + t * dim) len (f .vIn)))
+      (two (two (le-leb (row + t) len (f .rowIn)) (le-leb (out + hd) len (f .outIn))) (two (aside-is (f .rowout)) (aside-is (f .vout))))

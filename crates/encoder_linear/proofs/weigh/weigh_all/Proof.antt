@@ -1,0 +1,92 @@
+-- `sums::weigh::weigh_all` meets its contract: the sums sixteen by sixteen, and the rest behind them. Assumes nothing.
+use borrow.Author.Needs.{needs}
+use Prim.Native.Nat.{ℕ, _+_, _*_, _-_, _≤_}
+use native.Mathlib.Nat.{add-assoc}
+use native.Mathlib.Omega.{arith}
+use mathlib.Core.Path.{_≡_, refl, sym, ap, _∙_}
+use mathlib.Core.List.{List}
+use lib.ListN.{length}
+use lib.Ieee.{Float}
+use Rattle.buffers.specs.Rows.{tab}
+use Rattle.buffers.specs.Region.{region, put}
+use Rattle.buffers.proofs.Lists.{length-tab, tab-ext, tab-add}
+use Rattle.buffers.proofs.Regions.{put-append, region-put, apart-sub}
+use Rattle.encoder_linear.specs.Fits.{WeighFits}
+use Rattle.encoder_linear.specs.Weighed.{columnOf, weighedRow}
+use Rattle.encoder_linear.proofs.weigh.weigh_all.Statement.{statement}
+use Rattle.encoder_linear.proofs.weigh.weigh_all.Tie as tie
+use Rattle.encoder_linear.proofs.weigh.weigh_all.Reads as reads
+use Rattle.encoder_linear.proofs.weigh.weigh_all.Lts as lts
+use Rattle.encoder_linear.proofs.weigh.weigh_rest.Reads as weigh-rest-reads
+use Rattle.encoder_linear.proofs.weigh.weigh_wide.Reads as weigh-wide-reads
+
+rest-fits : {lens row v out t dim hd o : ℕ} (d : ℕ) → WeighFits lens row v out t dim hd o → d ≤ hd → WeighFits lens row v (out + d) t dim (hd - d) (o + d)
+rest-fits d g h = record {
+  vIn = g .vIn;
+  rowIn = g .rowIn;
+  outIn = omega (arith, g .outIn);
+  oIn = omega (arith, g .oIn);
+  rowout = apart-sub (g .rowout) (omega arith) (omega arith) (omega arith) (omega arith);
+  vout = apart-sub (g .vout) (omega arith) (omega arith) (omega arith) (omega arith);
+}
+
+-- the first d sums, and the others behind them, read past the first
+both : (s u z : List Float) (row v out t dim hd o d : ℕ) → WeighFits (length s) row v out t dim hd o → d ≤ hd
+    → u ≡ put s out (weighedRow t dim d o (region s row t) (region s v (t * dim)))
+    → z ≡ put u (out + d) (weighedRow t dim (hd - d) (o + d) (region u row t) (region u v (t * dim)))
+    → z ≡ put s out (weighedRow t dim hd o (region s row t) (region s v (t * dim)))
+unfolding weighedRow
+both s u z row v out t dim hd o d g h eu ez =
+    let G : ℕ → Float = λ i. columnOf t dim (o + i) (region s row t) (region s v (t * dim)) in
+    let n = length-tab d G in
+    let r = ap (λ x. region x row t) eu ∙ region-put s out (tab d G) row t (rw n (apart-sub (g .rowout) (omega arith) (omega arith) (omega arith) (omega arith))) in
+    let q = ap (λ x. region x v (t * dim)) eu ∙ region-put s out (tab d G) v (t * dim) (rw n (apart-sub (g .vout) (omega arith) (omega arith) (omega arith) (omega arith))) in
+    let k : d + (hd - d) ≡ hd = omega arith in
+    ez ∙ ap (put u (out + d)) (tab-ext (hd - d) _ (λ i. G (d + i)) (λ i l. rw (r, q, add-assoc o d i) refl))
+    ∙ ap (λ x. put x (out + d) (tab (hd - d) (λ i. G (d + i)))) eu
+    ∙ put-append s out (tab d G) (tab (hd - d) (λ i. G (d + i))) (out + d) (rw n refl)
+    ∙ ap (put s out) (sym (tab-add d (hd - d) G) ∙ ap (λ m. tab m G) k)
+
+-- src/attention.rt:213:9
+weigh-wide-requires : tie.Need-weigh-wide-requires
+weigh-wide-requires c κs = search needs
+
+-- src/attention.rt:214:27
+add-weigh-rest : tie.Need-add-weigh-rest
+add-weigh-rest c = search needs
+
+-- src/attention.rt:214:44
+sub-weigh-rest : tie.Need-sub-weigh-rest
+sub-weigh-rest c = search needs
+
+-- src/attention.rt:214:52
+add-weigh-rest-2 : tie.Need-add-weigh-rest-2
+add-weigh-rest-2 c = search needs
+
+-- src/attention.rt:214:5
+weigh-rest-requires : tie.Need-weigh-rest-requires
+weigh-rest-requires c κs = let w = c .before .before .before .weigh-wide in rw (w .kept .0) (rest-fits (w .result) (c .before .before .before .before .before .before .pre) (w .ensures .0))
+
+-- src/attention.rt:200:1
+same-length : tie.Need-same-length
+same-length c = search needs
+
+-- src/attention.rt:200:1
+returns : tie.Need-returns
+returns c =
+    let k = c .before .before .before .before .before .before .before .before .before in
+    let a = k .args in
+    let w = c .before .before .before .before .before .before .weigh-wide in
+    both (a .s .now) (w .last .0) _ (a .row) (a .v) (a .out) (a .t) (a .dim) (a .hd) (a .o) (w .result) (k .pre) (w .ensures .0) (w .ensures .1) (c .before .before .weigh-rest .ensures)
+
+pub weigh-all-spec : {M : Type 1} → statement M
+weigh-all-spec =
+    tie.close
+    (tie.spec
+    weigh-wide-requires
+    add-weigh-rest
+    sub-weigh-rest
+    add-weigh-rest-2
+    weigh-rest-requires
+    same-length
+    returns)

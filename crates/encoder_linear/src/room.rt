@@ -1,0 +1,57 @@
+// Whether what a sum is handed fits. No test forms a number that could wrap.
+ghost use mathlib.Core.Path.{_≡_};
+ghost use Rattle.encoder_linear.specs.Room.{linearFits, fromFits, weighFits};
+use buffers::room::aside;
+use buffers::room::inside;
+use buffers::room::rows_inside;
+
+pub(crate) fn linear_fits(
+    lens: usize,
+    lenw: usize,
+    x: usize,
+    y: usize,
+    n: usize,
+    nin: usize,
+    nout: usize,
+) -> bool
+    ensures { λ r. ⌜ r ≡ linearFits lens lenw x y n nin nout ⌝ }
+{
+    if rows_inside(lens, x, n, nin) & rows_inside(lens, y, n, nout) {
+        return rows_inside(lenw, 0, nout, nin) & aside(x, n * nin, y, n * nout);
+    }
+    false
+}
+
+pub(crate) fn from_fits(
+    lenx: usize,
+    lens: usize,
+    lenw: usize,
+    y: usize,
+    n: usize,
+    nin: usize,
+    nout: usize,
+) -> bool
+    ensures { λ r. ⌜ r ≡ fromFits lenx lens lenw y n nin nout ⌝ }
+{
+    let rows = rows_inside(lenx, 0, n, nin) & rows_inside(lens, y, n, nout);
+    rows & rows_inside(lenw, 0, nout, nin)
+}
+
+pub(crate) fn weigh_fits(
+    len: usize,
+    row: usize,
+    v: usize,
+    out: usize,
+    t: usize,
+    dim: usize,
+    hd: usize,
+    o: usize,
+) -> bool
+    ensures { λ r. ⌜ r ≡ weighFits len row v out t dim hd o ⌝ }
+{
+    if inside(dim, o, hd) & rows_inside(len, v, t, dim) {
+        let held = inside(len, row, t) & inside(len, out, hd);
+        return held & (aside(row, t, out, hd) & aside(v, t * dim, out, hd));
+    }
+    false
+}

@@ -1,0 +1,103 @@
+-- What an acceptance says: the settings are allowed, and every length is what the call needs. Assumes nothing.
+use mathlib.Core.Path.{_≡_, refl, ap}
+use mathlib.Core.Bool.{Bool, true, false, _&&_}
+use Prim.Native.Nat.{ℕ, _*_, _/_, _≤_}
+use native.Mathlib.Nat.{div-le-self}
+use native.Mathlib.Omega.{arith}
+use borrow.Author.Tests.{leb-true, eqb-true}
+use lib.Dec.{leb, eqb}
+use Rattle.buffers.proofs.Lists.{and-left, and-right}
+use Rattle.picture_limits.specs.declared.Refusal.{Refusal}
+use Rattle.picture_limits.specs.declared.Refusal.the-variants.{Setting, Output, WeightsLength, TableLength, Scratch}
+use Rattle.picture_limits.specs.declared.Shape.{Shape}
+use Rattle.picture_limits.specs.declared.Shape.the-variants.{Shaped, Unshaped}
+use Rattle.picture_limits.specs.Patches.{patchFloats}
+use Rattle.picture_limits.specs.Shape.{shaped}
+use Rattle.picture_limits.proofs.Shapes as Shapes
+use Rattle.picture_limits.proofs.Shapes.{shaped-says}
+use Rattle.encoder_settings.specs.declared.EncoderSettings.{EncoderSettings}
+use Rattle.encoder_settings.specs.declared.Checked.{Checked}
+use Rattle.encoder_settings.specs.declared.Checked.the-variants.{Accepted}
+use Rattle.encoder_settings.specs.Settings.{mergeArea, allowed, weightFloats, tableFloats, scratchFloats, unless, onward, lengths, checkedOf, Bounded, Counted}
+use Rattle.encoder_settings.proofs.Bounds.{Allowed, allowed-says, bounded, counted}
+
+passed : (b : Bool) (r : Refusal) (a : Checked) (t o : ℕ) → unless b r a ≡ Accepted t o → (b ≡ true) × (a ≡ Accepted t o)
+passed true r a t o e = (refl, e)
+passed false r a t o e = let z : _≡_ {A = ℕ} 0 1 = cc in (cc, cc)
+
+moved : (h : Shape) (f : ℕ → Checked) (t o : ℕ) → onward h f ≡ Accepted t o → (u : ℕ) × (h ≡ Shaped u) × (f u ≡ Accepted t o)
+moved (Shaped u) f t o e = (u, refl, e)
+moved (Unshaped r) f t o e = let z : _≡_ {A = ℕ} 0 1 = cc in (0, cc, cc)
+
+pub record Lengths (s : EncoderSettings) (t o weights cos sin out scratch : ℕ) : Type 0 where
+  pub weights-are : weights ≡ weightFloats s
+  pub cos-are : cos ≡ tableFloats s
+  pub sin-are : sin ≡ tableFloats s
+  pub out-holds : o * s .«text_hidden_size» ≤ out
+  pub scratch-holds : scratchFloats s t o ≤ scratch
+
+pub record Ready (s : EncoderSettings) (gh gw patches t o : ℕ) : Type 0 where
+  pub settings : Allowed s
+  pub bounds : Bounded s
+  pub grid : Shapes.Grids (s .picture) gh gw
+  pub tokens-are : t ≡ gh * gw
+  pub patches-are : patches ≡ gh * gw * patchFloats (s .picture .«patch_size»)
+  pub count-is : o ≡ gh * gw / mergeArea (s .picture)
+  pub counts : Counted s t o
+
+module _ (s : EncoderSettings) (weights cos sin out scratch : ℕ) where
+  lengths-say : (t o u v : ℕ) → lengths s t o weights cos sin out scratch ≡ Accepted u v
+      → (Lengths s t o weights cos sin out scratch) × (u ≡ t) × (v ≡ o)
+  unfolding lengths
+  lengths-say t o u v e =
+      let e5 = unless (leb (scratchFloats s t o) scratch) Scratch (Accepted t o) in
+      let e4 = unless (leb (o * s .«text_hidden_size») out) Output e5 in
+      let tables = eqb cos (tableFloats s) && eqb sin (tableFloats s) in
+      let e3 = unless tables TableLength e4 in
+      let b = passed (eqb weights (weightFloats s)) WeightsLength e3 u v e in
+      let d = passed tables TableLength e4 u v (b .1) in
+      let f = passed (leb (o * s .«text_hidden_size») out) Output e5 u v (d .1) in
+      let g = passed (leb (scratchFloats s t o) scratch) Scratch (Accepted t o) u v (f .1) in
+      let h = g .1 in (
+        record {
+          weights-are = eqb-true _ _ (b .0);
+          cos-are = eqb-true _ _ (and-left (eqb cos (tableFloats s)) (eqb sin (tableFloats s)) (d .0));
+          sin-are = eqb-true _ _ (and-right (eqb cos (tableFloats s)) (eqb sin (tableFloats s)) (d .0));
+          out-holds = leb-true _ _ (f .0);
+          scratch-holds = leb-true _ _ (g .0);
+        },
+        cc,
+        cc,
+      )
+
+  ready : (gh gw patches u t o : ℕ) → allowed s ≡ true → shaped (s .picture) gh gw patches ≡ Shaped u
+      → lengths s u (u / mergeArea (s .picture)) weights cos sin out scratch ≡ Accepted t o
+      → Ready s gh gw patches t o × Lengths s t o weights cos sin out scratch
+  ready gh gw patches u t o a h e =
+      let q = s .picture in
+      let z = shaped-says q gh gw patches u h in
+      let n = lengths-say u (u / mergeArea q) t o e in
+      let p = bounded s (allowed-says s a) in
+      let k : u ≤ 4194304 = omega (arith, z .grids .tokens, z .tokens) in
+      rw (n .1, n .2) (
+        record {
+          settings = allowed-says s a;
+          bounds = p;
+          grid = z .grids;
+          tokens-are = z .tokens;
+          patches-are = z .samples;
+          count-is = ap (λ (v : ℕ). v / mergeArea q) (z .tokens);
+          counts = counted s u (u / mergeArea q) p k (div-le-self u (mergeArea q));
+        },
+        n .0,
+      )
+
+  pub accepted-says : (gh gw patches t o : ℕ) → checkedOf s gh gw patches weights cos sin out scratch ≡ Accepted t o
+      → Ready s gh gw patches t o × Lengths s t o weights cos sin out scratch
+  unfolding checkedOf
+  accepted-says gh gw patches t o e =
+      let q = s .picture in
+      let f : ℕ → Checked = λ u. lengths s u (u / mergeArea q) weights cos sin out scratch in
+      let a = passed (allowed s) Setting (onward (shaped q gh gw patches) f) t o e in
+      let b = moved (shaped q gh gw patches) f t o (a .1) in
+      ready gh gw patches (b .0) t o (a .0) (b .1) (b .2)

@@ -1,0 +1,74 @@
+-- `demands::settings::checked` meets its contract. Assumes nothing.
+use borrow.Author.Tests.{not-true, not-false}
+use mathlib.Core.Path.{_≡_, sym, _∙_}
+use mathlib.Core.Bool.{true}
+use Prim.Native.Nat.{_≤_}
+use native.Mathlib.Nat.{div-le-self}
+use native.Mathlib.Omega.{arith}
+use borrow.Author.Needs.{needs}
+use Rattle.picture_limits.proofs.Places.{times}
+use Rattle.picture_limits.proofs.Shapes.{shaped-says}
+use Rattle.encoder_settings.specs.Settings.{allowed, checkedOf, Bounded}
+use Rattle.encoder_settings.proofs.Bounds.{allowed-says, bounded, counted}
+use Rattle.encoder_settings.proofs.settings.checked.Statement.{statement}
+use Rattle.encoder_settings.proofs.settings.checked.Tie as tie
+
+settings : (c : tie.Else1) → allowed (c .before .before .args .s) ≡ true
+settings c = sym (c .before .settings-allowed .ensures) ∙ not-false _ (c .if1 .left)
+
+sizes : (c : tie.Else1) → Bounded (c .before .before .args .s)
+sizes c = bounded _ (allowed-says _ (settings c))
+
+few : (c : tie.After-known-told) → c .before .shaped .given .0 .0 ≤ 4194304
+few c =
+    let a = c .before .before .before .before .before .before .before .args in
+    let z = shaped-says (a .s .picture) (a .grid-h) (a .grid-w) (a .patches) (c .before .shaped .given .0 .0) (sym (c .before .before .before .shape .ensures) ∙ c .before .shaped .given .1) in
+    omega (arith, z .grids .tokens, z .tokens)
+
+settings-allowed-requires : tie.Need-settings-allowed-requires
+settings-allowed-requires c κs = search needs
+
+returns : tie.Need-returns
+unfolding checkedOf
+returns c = let e = sym (c .before .settings-allowed .ensures) ∙ not-true _ (c .if1 .taken) in rw e
+
+shape-requires : tie.Need-shape-requires
+shape-requires c κs = search needs
+
+enum-known-shaped : tie.Need-enum-known-shaped
+enum-known-shaped c = search needs
+
+mul-lengths : tie.Need-mul-lengths
+mul-lengths c = omega (arith, sizes (c .before .before .before .before .before) .merge-area)
+
+div-lengths : tie.Need-div-lengths
+div-lengths c = let b = sizes (c .before .before .before .before .before) in omega (arith, times 1 1 _ _ (b .merge-low) (b .merge-low))
+
+lengths-requires : tie.Need-lengths-requires
+lengths-requires c κs = let b = sizes (c .before .before .before .before .before) in (b, counted _ _ _ b (few c) (div-le-self _ _))
+
+enum-known-shaped-2 : tie.Need-enum-known-shaped-2
+enum-known-shaped-2 c = search needs
+
+returns-2 : tie.Need-returns-2
+unfolding checkedOf
+returns-2 c = rw (settings (c .before .before .before .before .before .before), ← c .before .before .before .before .shape .ensures, c .before .before .shaped .given .1) (c .lengths .ensures)
+
+returns-3 : tie.Need-returns-3
+unfolding checkedOf
+returns-3 c = rw (settings (c .before .before .before .before .before), ← c .before .before .before .shape .ensures, c .before .shaped2 .given .1)
+
+pub checked-spec : {M : Type 1} → statement M
+checked-spec =
+    tie.close
+    (tie.spec
+    settings-allowed-requires
+    returns
+    shape-requires
+    enum-known-shaped
+    mul-lengths
+    div-lengths
+    lengths-requires
+    enum-known-shaped-2
+    returns-2
+    returns-3)

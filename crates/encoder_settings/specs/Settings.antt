@@ -1,0 +1,102 @@
+-- Allowed settings, how long each buffer has to be, and the answer of the refusals 1, 6, 7, 9, 10, 5, 11. Assumes nothing.
+use mathlib.Core.Bool.{Bool, true, false, _&&_}
+use Prim.Native.Nat.{ℕ, _+_, _*_, _/_, _%_, _≤_}
+use lib.Dec.{leb, eqb}
+use lib.Ieee.{lt, inf}
+use Rattle.buffers.specs.Region.{zero32}
+use Rattle.picture_limits.specs.declared.PictureSettings.{PictureSettings}
+use Rattle.picture_limits.specs.declared.Refusal.{Refusal}
+use Rattle.picture_limits.specs.declared.Refusal.the-variants.{Setting, Output, WeightsLength, TableLength, Scratch}
+use Rattle.picture_limits.specs.declared.Shape.{Shape}
+use Rattle.picture_limits.specs.declared.Shape.the-variants.{Shaped, Unshaped}
+use Rattle.picture_limits.specs.Settings as P
+use Rattle.picture_limits.specs.Settings.{within}
+use Rattle.picture_limits.specs.Patches.{patchFloats}
+use Rattle.picture_limits.specs.Shape.{most, shaped}
+use Rattle.encoder_settings.specs.declared.EncoderSettings.{EncoderSettings}
+use Rattle.encoder_settings.specs.declared.Checked.{Checked}
+use Rattle.encoder_settings.specs.declared.Checked.the-variants.{Accepted, Refused}
+use Rattle.encoder_settings.specs.Weights.{layerFloats, projectorFloats}
+
+abbrev pub ranged : EncoderSettings → Bool
+ranged s =
+    within 4 2048 (s .«hidden_size») && (within 1 64 (s .«num_heads») && (within 4 256 (s .«head_dim») && (leb (s .«num_layers») 48
+    && (within 1 8192 (s .«intermediate_size») && within 1 8192 (s .«text_hidden_size»)))))
+
+-- finite and above zero
+unfoldable pub scalingAllowed : EncoderSettings → Bool
+scalingAllowed s = lt zero32 (s .scaling) && lt (s .scaling) (inf false)
+
+unfoldable pub allowed : EncoderSettings → Bool
+allowed s =
+    P.allowed (s .picture) && (ranged s && (eqb (s .«head_dim» % 4) 0 && (eqb (s .«num_heads» * s .«head_dim») (s .«hidden_size») && scalingAllowed s)))
+
+abbrev pub mergeArea : PictureSettings → ℕ
+mergeArea s = s .«spatial_merge_size» * s .«spatial_merge_size»
+
+-- all weights: patch_conv, ln_pre, the layers, the projector
+abbrev pub weightFloats : EncoderSettings → ℕ
+weightFloats s =
+    s .«hidden_size» * patchFloats (s .picture .«patch_size») + s .«hidden_size» + s .«num_layers» * layerFloats (s .«hidden_size») (s .«intermediate_size»)
+    + projectorFloats (s .«hidden_size») (s .«hidden_size» * mergeArea (s .picture)) (s .«text_hidden_size»)
+
+-- either rotary table
+abbrev pub tableFloats : EncoderSettings → ℕ
+tableFloats s = most (s .picture) * most (s .picture) * s .«head_dim»
+
+abbrev pub scratchFloats : EncoderSettings → ℕ → ℕ → ℕ
+scratchFloats s t o =
+    7 * (t * s .«hidden_size») + 2 * (t * s .«intermediate_size») + t + 2 * (o * s .«text_hidden_size»)
+
+-- the answer where the test passes, and the refusal where it fails
+abbrev pub unless : Bool → Refusal → Checked → Checked
+unless true r a = a
+unless false r a = Refused r
+
+-- 9, 10, 5, 11, for t tokens of which o are left
+unfoldable pub lengths : EncoderSettings → ℕ → ℕ → ℕ → ℕ → ℕ → ℕ → ℕ → Checked
+lengths s t o weights cos sin out scratch =
+    unless (eqb weights (weightFloats s)) WeightsLength
+    (unless (eqb cos (tableFloats s) && eqb sin (tableFloats s)) TableLength
+    (unless (leb (o * s .«text_hidden_size») out) Output
+    (unless (leb (scratchFloats s t o) scratch) Scratch
+    (Accepted t o))))
+
+-- the answer for a shape's tokens, and the shape's own refusal
+abbrev pub onward : Shape → (ℕ → Checked) → Checked
+onward (Shaped t) f = f t
+onward (Unshaped r) f = Refused r
+
+unfoldable pub checkedOf : EncoderSettings → ℕ → ℕ → ℕ → ℕ → ℕ → ℕ → ℕ → ℕ → Checked
+checkedOf s gh gw patches weights cos sin out scratch =
+    unless (allowed s) Setting
+    (onward (shaped (s .picture) gh gw patches) (λ t. lengths s t (t / mergeArea (s .picture)) weights cos sin out scratch))
+
+-- what allowed settings say of the sizes and their products
+pub record Bounded (s : EncoderSettings) : Type 0 where
+  pub patch-low : 1 ≤ s .picture .«patch_size»
+  pub merge-low : 1 ≤ s .picture .«spatial_merge_size»
+  pub merge-area : mergeArea (s .picture) ≤ 16
+  pub most-high : most (s .picture) ≤ 2048
+  pub patch-area : s .picture .«patch_size» * s .picture .«patch_size» ≤ 1024
+  pub hidden-high : s .«hidden_size» ≤ 2048
+  pub inner-high : s .«intermediate_size» ≤ 8192
+  pub text-high : s .«text_hidden_size» ≤ 8192
+  pub squares : s .«hidden_size» * s .«hidden_size» ≤ 4194304
+  pub outer : s .«hidden_size» * s .«intermediate_size» ≤ 16777216
+  pub inner : s .«intermediate_size» * s .«hidden_size» ≤ 16777216
+  pub projection : s .«hidden_size» * patchFloats (s .picture .«patch_size») ≤ 6291456
+  pub layers : s .«num_layers» * layerFloats (s .«hidden_size») (s .«intermediate_size») ≤ 4294967296
+  pub merged : s .«hidden_size» * mergeArea (s .picture) ≤ 32768
+  pub merging : s .«hidden_size» * (s .«hidden_size» * mergeArea (s .picture)) ≤ 67108864
+  pub linear-1 : s .«text_hidden_size» * s .«hidden_size» ≤ 16777216
+  pub linear-2 : s .«text_hidden_size» * s .«text_hidden_size» ≤ 67108864
+  pub positions : most (s .picture) * most (s .picture) ≤ 4194304
+  pub table : most (s .picture) * most (s .picture) * s .«head_dim» ≤ 1073741824
+
+-- the same of t tokens of which o are left
+pub record Counted (s : EncoderSettings) (t o : ℕ) : Type 0 where
+  pub tokens : t ≤ 4194304
+  pub hiddens : t * s .«hidden_size» ≤ 8589934592
+  pub inners : t * s .«intermediate_size» ≤ 34359738368
+  pub texts : o * s .«text_hidden_size» ≤ 34359738368

@@ -1,0 +1,22 @@
+// What a forward call may be handed, and how long each of its buffers has to be.
+pub mod settings;
+
+use picture_limits::PictureSettings;
+use picture_limits::Refusal;
+
+pub struct EncoderSettings {
+    pub picture: PictureSettings,
+    pub hidden_size: usize,
+    pub num_heads: usize,
+    pub head_dim: usize,
+    pub num_layers: usize,
+    pub intermediate_size: usize,
+    pub text_hidden_size: usize,
+    pub scaling: f32,
+}
+
+// What the settings and the lengths say: the tokens, of which count are left, or a refusal.
+pub enum Checked {
+    Accepted { tokens: usize, count: usize },
+    Refused(Refusal),
+}

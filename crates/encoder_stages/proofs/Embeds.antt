@@ -1,0 +1,65 @@
+-- The embedding from its stages, and the whole run from its pieces. Assumes nothing.
+use mathlib.Core.Bool.{Bool, _&&_}
+use mathlib.Core.Path.{_≡_, ap, _∙_}
+use mathlib.Core.List.{List}
+use Prim.Native.Nat.{ℕ, _*_, _≤_}
+use native.Mathlib.Omega.{arith}
+use lib.ListN.{length}
+use lib.Ieee.{Float}
+use Rattle.buffers.specs.Region.{region}
+use Rattle.encoder_blocks.specs.declared.Sizes.{Sizes}
+use Rattle.encoder_blocks.specs.Sizes.{dimOf, nOf}
+use Rattle.encoder_elements.specs.Element.{rounded}
+use Rattle.encoder_steps.specs.Run.{Run, fine, answer, thenRun}
+use Rattle.encoder_stages.specs.Embed.{patchConv, lnPre, inputsFine, embedRun}
+use Rattle.encoder_steps.specs.Step.{Wrote}
+use Rattle.encoder_blocks.specs.Live.{hAt}
+use Rattle.encoder_stages.specs.Live.{Embedded}
+use Rattle.encoder_linear.proofs.Sums.{length-linear}
+use Rattle.encoder_kernels.proofs.Lengths.{length-norm}
+use Rattle.encoder_elements.proofs.Lengths.{length-rounded}
+use Rattle.encoder_steps.proofs.Writes.{answer-then, got, long}
+
+module _ (z : Sizes) (f : ℕ) (w x s : List Float) (room : 2 * nOf z ≤ length s) where
+  abbrev n : ℕ
+  n = nOf z
+
+  length-conv : length (patchConv z f w x) ≡ n
+  unfolding patchConv
+  length-conv = length-linear (z .tokens) f (dimOf z) (region w 0 (dimOf z * f)) x
+
+  length-pre : (h : List Float) → length (lnPre z f w h) ≡ n
+  unfolding lnPre
+  length-pre h = length-norm (z .tokens) (dimOf z) (region w (dimOf z * f) (dimOf z)) h
+
+  pub embedded : (s₁ s₂ s₃ s₄ : List Float) (ok a b c r : Bool)
+      → Wrote s s₁ n (patchConv z f w x) ok a
+      → Wrote s₁ s₂ n (rounded n (region s₁ n n)) a b
+      → Wrote s₂ s₃ 0 (lnPre z f w (region s₂ n n)) b c
+      → Wrote s₃ s₄ 0 (rounded n (region s₃ 0 n)) c r
+      → Embedded z f w x s₄ ok r
+  unfolding fine
+  embedded s₁ s₂ s₃ s₄ ok a b c r w₁ w₂ w₃ w₄ =
+      let k₁ = long w₁ n length-conv in
+      let l₂ = length-rounded n (region s₁ n n) in
+      let k₂ = long w₂ n l₂ in
+      let l₃ = length-pre (region s₂ n n) in
+      let k₃ = long w₃ n l₃ in
+      let l₄ = length-rounded n (region s₃ 0 n) in
+      let x₁ : region s₁ n n ≡ patchConv z f w x = got w₁ n length-conv (omega arith) in
+      let x₂ : region s₂ n n ≡ rounded n (patchConv z f w x) = got w₂ n l₂ (omega arith) ∙ ap (rounded n) x₁ in
+      let x₃ : region s₃ 0 n ≡ lnPre z f w (rounded n (patchConv z f w x)) = got w₃ n l₃ (omega arith) ∙ ap (lnPre z f w) x₂ in
+      record {
+        h-is = got w₄ n l₄ (omega arith) ∙ ap (rounded n) x₃;
+        fine-is = cc;
+      }
+
+pub embed-run : (z : Sizes) (f : ℕ) (w cos sin x t : List Float) (ok r : Bool) → ok ≡ inputsFine x w cos sin → Embedded z f w x t ok r
+    → answer r (hAt z t) ≡ embedRun z f w cos sin x
+unfolding fine embedRun
+embed-run z f w cos sin x t ok r e g = rw (g .h-is, g .fine-is, e)
+
+-- three runs one after another
+pub three : (a b c : Bool) (l m n : List Float) (r : Run) (f g : List Float → Run) → answer a l ≡ r → f l ≡ answer b m → g m ≡ answer c n
+    → answer ((a && b) && c) n ≡ thenRun (thenRun r f) g
+three a b c l m n r f g e h k = answer-then (a && b) c m n g k ∙ ap (λ u. thenRun u g) (answer-then a b l m f h ∙ ap (λ u. thenRun u f) e)

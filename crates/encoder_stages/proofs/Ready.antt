@@ -1,0 +1,221 @@
+-- What an acceptance says of a run: its places and sizes fit. Assumes nothing.
+use mathlib.Core.Path.{_≡_, refl, sym, ap, _∙_}
+use mathlib.Core.List.{List}
+use Prim.Native.Nat.{ℕ, zero, suc, _+_, _*_, _/_, _%_, _≤_, _<_}
+use native.Mathlib.Nat.{suc-mul, mul-le-mul-right, mul-comm, mul-left-comm, mul-mul-mul-comm, mul-pos, mul-div-cancel, div-le-self, div-mul-cancel, dvd-of-mod-eq-zero, le-div-iff-mul-le}
+use native.Mathlib.Omega.{arith}
+use lib.Ieee.{Float}
+use Rattle.buffers.specs.Region.{before}
+use Rattle.picture_limits.specs.Patches.{patchFloats}
+use Rattle.picture_limits.specs.Shape.{most}
+use Rattle.encoder_settings.specs.declared.EncoderSettings.{EncoderSettings}
+use Rattle.encoder_settings.specs.Settings.{mergeArea}
+use Rattle.encoder_settings.proofs.Accepted.{Lengths, Ready}
+use Rattle.encoder_blocks.specs.declared.Sizes.{Sizes}
+use Rattle.encoder_blocks.specs.Sizes.{hdOf, dimOf}
+use Rattle.encoder_stages.specs.Live.{regionsOf}
+use Rattle.encoder_stages.specs.Forward.{sizesOf, placesOf, runOf, forwardRun}
+use Rattle.encoder_blocks.specs.Fits.{TurnFits, LayersFits}
+use Rattle.encoder_stages.specs.Fits.{PlacesFit, RegionsFit, EmbedFits, SourceFits, MergeFits, ProjFits, RunFits}
+
+-- the two halves of a head
+halves : (d : ℕ) → d % 4 ≡ 0 → d / 2 + d / 2 ≡ d
+halves d e = omega arith
+
+-- the squares of a grid that merge divides
+squares : (m gh gw : ℕ) → 0 < m * m → gh ≡ gh / m * m → gw ≡ gw / m * m → gh / m * (gw / m) ≡ gh * gw / (m * m)
+squares m gh gw h e g =
+    let p : gh * gw ≡ gh / m * (gw / m) * (m * m) = cc (mul-mul-mul-comm (gh / m) m (gw / m) m) in
+    sym (ap (λ (k : ℕ). k / (m * m)) p ∙ mul-div-cancel (gh / m * (gw / m)) h)
+
+module _ (s : EncoderSettings) (gh gw lenx lenw lenc lenn out lens t o : ℕ) (r : Ready s gh gw lenx t o) (l : Lengths s t o lenw lenc lenn out lens) where
+  abbrev z : Sizes
+  z = sizesOf s t gw
+
+  abbrev H : ℕ
+  H = s .«hidden_size»
+
+  abbrev m : ℕ
+  m = s .picture .«spatial_merge_size»
+
+  head-is : hdOf z ≡ s .«head_dim»
+  head-is = halves (s .«head_dim») (r .settings .fourth)
+
+  dim-is : dimOf z ≡ H
+  dim-is = ap (λ (k : ℕ). s .«num_heads» * k) head-is ∙ r .settings .split
+
+  some-merge : 0 < m
+  some-merge = r .bounds .merge-low
+
+  some-square : 0 < m * m
+  some-square = mul-pos some-merge some-merge
+
+  tall : gh ≡ gh / m * m
+  tall = sym (div-mul-cancel m (dvd-of-mod-eq-zero m (r .grid .tall .even)))
+
+  wide : gw ≡ gw / m * m
+  wide = sym (div-mul-cancel m (dvd-of-mod-eq-zero m (r .grid .wide .even)))
+
+  count : gh / m * (gw / m) ≡ o
+  count = squares m gh gw some-square tall wide ∙ sym (r .count-is)
+
+  whole : o * (m * m) ≡ t
+  whole = cc (count, tall, wide, r .tokens-are, mul-mul-mul-comm (gh / m) m (gw / m) m)
+
+  few : o ≤ t
+  few = omega (arith, r .count-is, r .tokens-are, div-le-self (gh * gw) (mergeArea (s .picture)))
+
+  some-tokens : 1 ≤ t
+  some-tokens = omega (arith, r .tokens-are, mul-pos (r .grid .tall .low) (r .grid .wide .low))
+
+  hiddens : H ≤ t * H
+  hiddens = omega (arith, mul-le-mul-right H some-tokens)
+
+  merged : o * (H * (m * m)) ≡ t * H
+  merged = mul-left-comm o H (m * m) ∙ ap (λ (k : ℕ). H * k) whole ∙ mul-comm H t
+
+  place-fits : PlacesFit s z
+  place-fits =
+      let b = r .bounds in
+      record {
+        narrow = rw head-is (r .settings .ranges .width .1);
+        small = rw dim-is (b .hidden-high);
+        patch-area = b .patch-area;
+        projection = rw dim-is (b .projection);
+        squares = rw dim-is (b .squares);
+        inner = rw dim-is (b .inner);
+        outer = rw dim-is (b .outer);
+        layers = rw dim-is (b .layers);
+        merge-area = b .merge-area;
+        wide = rw dim-is (b .merged);
+        merging = rw dim-is (b .merging);
+        linear-1 = rw dim-is (b .linear-1);
+        linear-2 = b .linear-2;
+      }
+
+  regions-fit : RegionsFit z (o * s .«text_hidden_size»)
+  regions-fit =
+      record {
+        narrow = rw head-is (r .settings .ranges .width .1);
+        small = rw dim-is (r .bounds .hidden-high);
+        hiddens = rw dim-is (r .counts .hiddens);
+        inners = r .counts .inners;
+        texts = r .counts .texts;
+      }
+
+  embed-fits : EmbedFits z lenx lens lenw (placesOf s z .floats)
+  embed-fits =
+      record {
+        narrow = rw head-is (r .settings .ranges .width .1);
+        small = rw dim-is (r .bounds .hidden-high);
+        xin = r .patches-are ∙ ap (λ (k : ℕ). k * patchFloats (s .picture .«patch_size»)) (sym (r .tokens-are));
+        room = rw dim-is (omega (arith, l .scratch-holds));
+        weights = rw dim-is (omega (arith, l .weights-are));
+      }
+
+  side-holds : (g : ℕ) → g * s .picture .«patch_size» ≤ s .picture .«image_size» → g ≤ most (s .picture)
+  side-holds g h = le-div-iff-mul-le (r .bounds .patch-low) .1 h
+
+  turn-fits : TurnFits z lens lenc lenn
+  turn-fits =
+      let p = most (s .picture) in
+      record {
+        scratch = rw dim-is (omega (arith, l .scratch-holds));
+        small = rw dim-is (r .bounds .hidden-high);
+        narrow = rw head-is (r .settings .ranges .width .1);
+        dimIn = rw dim-is (omega (arith, l .scratch-holds, hiddens));
+        tables = r .bounds .most-high;
+        some = r .grid .wide .low;
+        wide = side-holds gw (r .grid .wide .high);
+        high = omega (arith, r .tokens-are, mul-le-mul-right gw (side-holds gh (r .grid .tall .high)));
+        cosines = l .cos-are ∙ ap (λ (k : ℕ). p * p * k) (sym head-is);
+        sines = l .sin-are ∙ ap (λ (k : ℕ). p * p * k) (sym head-is);
+      }
+
+  layers-fit : LayersFits z lens lenw lenc lenn (regionsOf z (o * s .«text_hidden_size») .row) (placesOf s z .layers) (s .«num_layers»)
+  layers-fit =
+      record {
+        weights = rw dim-is (omega (arith, l .weights-are));
+        one = rw dim-is (omega (arith, r .bounds .squares, r .bounds .inner, r .bounds .outer, r .bounds .hidden-high));
+        inner = r .settings .ranges .inner .1;
+        turn = turn-fits;
+        scores = record { behind = omega arith; inside = rw dim-is (omega (arith, l .scratch-holds)) };
+      }
+
+  total : o * (dimOf z * (m * m)) ≡ gh / m * (gw / m) * (dimOf z * (m * m))
+  total = ap (λ (k : ℕ). k * (dimOf z * (m * m))) (sym count)
+
+  some-wide : 0 < gw / m
+  some-wide = omega (arith, le-div-iff-mul-le {k = m} {x = 1} {y = gw} some-merge .1 (least gw (r .grid .wide .low) wide))
+    where
+      least : (g : ℕ) → 1 ≤ g → g ≡ g / m * m → 1 * m ≤ g
+      least g h e = few-of (g / m) g h e
+        where
+          few-of : (q g : ℕ) → 1 ≤ g → g ≡ q * m → 1 * m ≤ g
+          few-of zero g h e = absurd (omega arith)
+          few-of (suc q) g h e = omega (arith, e, suc-mul q m)
+
+  source-fits : (p : ℕ) → p < o * (dimOf z * (m * m)) → SourceFits p m gh gw (dimOf z)
+  source-fits p h =
+      record {
+        some = some-merge;
+        square = some-square;
+        small = r .bounds .merge-area;
+        wide = some-wide;
+        row = rw dim-is (mul-pos (omega (arith, r .settings .ranges .hidden .0)) some-square);
+        rowIn = rw dim-is (omega (arith, r .bounds .merged));
+        gh-is = tall;
+        gw-is = wide;
+        tokens = r .grid .tokens;
+        room = rw dim-is (omega (arith, r .counts .hiddens, ap (λ (k : ℕ). k * H) (r .tokens-are)));
+        inside = omega (arith, h, total);
+      }
+
+  merge-fits : MergeFits lens (t * dimOf z) (2 * (t * dimOf z)) (o * (dimOf z * (m * m))) m gh gw (dimOf z)
+  merge-fits =
+      let e : gh * gw * dimOf z ≡ t * dimOf z = ap (λ (k : ℕ). k * dimOf z) (sym (r .tokens-are)) in
+      let f : o * (dimOf z * (m * m)) ≡ t * dimOf z = rw dim-is merged in
+      let g : 7 * (t * dimOf z) ≤ lens = rw dim-is (omega (arith, l .scratch-holds)) in
+      record {
+        each = source-fits;
+        total-is = total;
+        some = some-merge;
+        wide = some-wide;
+        channels = rw dim-is (omega (arith, r .settings .ranges .hidden .0));
+        xIn = omega (arith, e, g);
+        yIn = omega (arith, f, g);
+        apart = before (omega (arith, e));
+      }
+
+  project-fits : ProjFits t (dimOf z) o (placesOf s z .wide) (s .«text_hidden_size») lens (placesOf s z .size) m gh gw (regionsOf z (o * s .«text_hidden_size») .linear)
+  project-fits =
+      let f : o * (dimOf z * (m * m)) ≡ t * dimOf z = rw dim-is merged in
+      record {
+        small = rw dim-is (r .bounds .hidden-high);
+        weights = omega arith;
+        same = ap (λ (k : ℕ). k * dimOf z) (sym (r .tokens-are));
+        count = count;
+        wide-is = refl;
+        wideIn = omega (arith, f);
+        foldIn = mul-le-mul-right (dimOf z) few;
+        at-is = omega arith;
+        room = rw dim-is (omega (arith, l .scratch-holds));
+        merges = merge-fits;
+      }
+
+  pub run-fits : RunFits s gh gw t o lenx lenw lenc lenn lens
+  run-fits =
+      record {
+        dim-is = dim-is;
+        places = place-fits;
+        regions = regions-fit;
+        embeds = embed-fits;
+        layers = layers-fit;
+        part = rw dim-is (omega (arith, l .weights-are));
+        projects = project-fits;
+      }
+
+  -- the run of an accepted call is the call's
+  pub run-is : (w cos sin x : List Float) → runOf s gh gw t o w cos sin x ≡ forwardRun s gh gw w cos sin x
+  run-is w cos sin x =
+      ap (λ (u : ℕ). runOf s gh gw u o w cos sin x) (r .tokens-are) ∙ ap (λ (v : ℕ). runOf s gh gw (gh * gw) v w cos sin x) (r .count-is)

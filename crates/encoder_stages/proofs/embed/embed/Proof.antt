@@ -1,0 +1,96 @@
+-- `stages::embed::embed` meets its contract. Assumes nothing.
+use mathlib.Core.Path.{_≡_, ap, _∙_}
+use Prim.Native.Nat.{_*_}
+use native.Mathlib.Omega.{arith}
+use borrow.Author.Needs.{needs}
+use lib.ListN.{length}
+use Rattle.buffers.proofs.Regions.{length-region}
+use Rattle.buffers.specs.Region.{after}
+use Rattle.encoder_blocks.specs.Sizes.{dimOf, nOf}
+use Rattle.encoder_stages.specs.Embed.{patchConv, lnPre}
+use Rattle.encoder_steps.proofs.Writes.{norm-wrote, round-wrote}
+use Rattle.encoder_stages.proofs.Embeds.{embedded}
+use Rattle.encoder_stages.proofs.embed.embed.Statement.{statement}
+use Rattle.encoder_stages.proofs.embed.embed.Tie as tie
+
+add-dim : tie.Need-add-dim
+add-dim c = omega (arith, c .before .before .before .pre .narrow)
+
+mul-dim : tie.Need-mul-dim
+mul-dim c = search needs
+
+mul-n : tie.Need-mul-n
+mul-n c = search needs
+
+mul-e : tie.Need-mul-e
+mul-e c = search needs
+
+part-requires : tie.Need-part-requires
+part-requires c κs = search needs
+
+from-fine-requires : tie.Need-from-fine-requires
+from-fine-requires c κs =
+    let a = c .before .before .before .before .before .before .args in
+    let g = c .before .before .before .before .before .before .pre in
+    let e : length (c .part .result .now) ≡ dimOf (a .z) * a .f = ap length (c .part .ensures) ∙ length-region (a .w .now) 0 (dimOf (a .z) * a .f) (omega (arith, g .weights)) in
+    record { xin = omega (arith, g .xin); yin = omega (arith, g .room); win = omega (arith, e) }
+
+round-fine-requires : tie.Need-round-fine-requires
+round-fine-requires c κs = search needs
+
+part-requires-2 : tie.Need-part-requires-2
+part-requires-2 c κs = search needs
+
+norm-fine-requires : tie.Need-norm-fine-requires
+norm-fine-requires c κs = search needs
+
+round-fine-requires-2 : tie.Need-round-fine-requires-2
+round-fine-requires-2 c κs = search needs
+
+same-length : tie.Need-same-length
+same-length c = c .before .before .round-fine2 .kept .0 ∙ c .before .before .before .before .before .before .norm-fine .kept .0 ∙ c .before .before .before .before .before .before .before .before .before .before .before .round-fine .kept .0 ∙ c .before .before .before .before .before .before .before .before .before .before .before .before .before .before .before .from-fine .kept .1 .0
+
+returns : tie.Need-returns
+unfolding patchConv lnPre
+returns c =
+    let a = c .before .before .before .before .before .before .before .before .before .before .before .before .before .before .before .before .before .before .before .before .before .before .args in
+    let g = c .before .before .before .before .before .before .before .before .before .before .before .before .before .before .before .before .before .before .before .before .before .before .pre in
+    let n = nOf (a .z) in
+    let x = c .before .before .before .before .before .before .before .before .before .before .before .before .before .before .before .from-fine in
+    let y = c .before .before .before .before .before .before .before .before .before .before .before .round-fine in
+    let q = c .before .before .before .before .before .before .before .part2 in
+    let z = c .before .before .before .before .before .before .norm-fine in
+    let r = c .before .before .round-fine2 in
+    let l = y .kept .0 ∙ x .kept .1 .0 in
+    embedded (a .z) (a .f) (a .w .now) (a .x .now) (a .s .now) (g .room) (x .last .1 .0) (y .last .0) (z .last .0) (r .last .0)
+    (a .ok) (x .result) (y .result) (z .result) (r .result)
+    (rw (c .before .before .before .before .before .before .before .before .before .before .before .before .before .before .before .before .part .ensures) at (x .ensures))
+    (round-wrote n n (omega (arith, g .room, x .kept .1 .0)) (y .ensures))
+    (rw (q .ensures) at
+    (norm-wrote (q .result .now) n 0 (a .z .tokens) (dimOf (a .z))
+    (record {
+      small = g .small;
+      xin = omega (arith, g .room, l);
+      yin = omega (arith, g .room, l);
+      win = ap length (q .ensures) ∙ length-region (a .w .now) (dimOf (a .z) * a .f) (dimOf (a .z)) (g .weights);
+      apart = after (omega arith);
+    })
+    (z .ensures)))
+    (round-wrote 0 n (omega (arith, g .room, z .kept .0, l)) (r .ensures))
+
+pub embed-spec : {M : Type 1} → statement M
+embed-spec =
+    tie.close
+    (tie.spec
+    add-dim
+    mul-dim
+    mul-n
+    mul-e
+    part-requires
+    from-fine-requires
+    round-fine-requires
+    part-requires-2
+    norm-fine-requires
+    round-fine-requires-2
+    same-length
+    returns)

@@ -1,0 +1,61 @@
+// The embedding: inputs examined, patch projection, ln_pre.
+ghost use mathlib.Core.Path.{_≡_};
+ghost use lib.ListN.{length};
+ghost use Rattle.encoder_linear.specs.Linear.{linearOf};
+ghost use Rattle.encoder_linear.specs.Fits.{FromFits};
+ghost use Rattle.encoder_steps.specs.Step.{Wrote};
+ghost use Rattle.encoder_stages.specs.Live.{Embedded};
+ghost use Rattle.encoder_stages.specs.Embed.{inputsFine};
+ghost use Rattle.encoder_stages.specs.Fits.{EmbedFits};
+use encoder_blocks::Sizes;
+use buffers::part;
+use encoder_kernels::finite::finite;
+use encoder_steps::norm_fine;
+use encoder_steps::round_fine;
+use encoder_linear::linear::linear_from;
+
+// Whether patches, weights and tables are finite.
+pub(crate) fn inputs_fine(x: &[f32], w: &[f32], cos: &[f32], sin: &[f32]) -> bool
+    ensures { λ r. ⌜ r ≡ inputsFine (now (x .entry)) (now (w .entry)) (now (cos .entry)) (now (sin .entry)) ⌝ }
+{
+    let a = finite(x);
+    let b = finite(w);
+    let c = finite(cos);
+    let d = finite(sin);
+    ((a & b) & c) & d
+}
+
+// A linear layer of another slice, and whether all is finite up to here.
+pub(crate) fn from_fine(
+    x: &[f32],
+    s: &mut [f32],
+    y: usize,
+    n: usize,
+    nin: usize,
+    nout: usize,
+    w: &[f32],
+    ok: bool,
+) -> bool
+    requires { ⌜ FromFits (length (now x)) (length (now s)) (length (now w)) y n nin nout ⌝ }
+    ensures { λ r. ⌜ Wrote (now (s .entry)) (now (s .exit)) y (linearOf n nin nout (now (w .entry)) (now (x .entry))) ok r ⌝ }
+{
+    linear_from(x, s, y, n, nin, nout, w);
+    let e = n * nout;
+    ok & finite(part(s, y, e))
+}
+
+// Patch projection and ln_pre, each rounded to bf16: h at 0.
+pub(crate) fn embed(x: &[f32], s: &mut [f32], z: Sizes, f: usize, w: &[f32], ok: bool) -> bool
+    requires { ⌜ EmbedFits z (length (now x)) (length (now s)) (length (now w)) f ⌝ }
+    ensures { λ r. ⌜ Embedded z f (now (w .entry)) (now (x .entry)) (now (s .exit)) ok r ⌝ }
+{
+    let t = z.tokens;
+    let half = z.half;
+    let dim = z.heads * (half + half);
+    let n = t * dim;
+    let e = dim * f;
+    let a = from_fine(x, s, n, t, f, dim, part(w, 0, e), ok);
+    let b = round_fine(s, n, n, a);
+    let c = norm_fine(s, n, 0, t, dim, part(w, e, dim), b);
+    round_fine(s, 0, n, c)
+}

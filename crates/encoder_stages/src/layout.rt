@@ -1,0 +1,63 @@
+// The sizes of a call, and the places in weights and scratch that follow from them.
+ghost use mathlib.Core.Path.{_≡_};
+ghost use Prim.Native.Nat.{_≤_};
+ghost use Rattle.encoder_stages.specs.Live.{regionsOf};
+ghost use Rattle.encoder_stages.specs.Forward.{sizesOf, placesOf};
+ghost use Rattle.encoder_stages.specs.Fits.{PlacesFit, RegionsFit};
+use crate::Places;
+use crate::Regions;
+use encoder_blocks::Sizes;
+use encoder_settings::EncoderSettings;
+
+pub(crate) fn sizes_of(s: EncoderSettings, t: usize, gw: usize) -> Sizes
+    requires { ⌜ 1 ≤ s .picture .«patch_size» ⌝ }
+    ensures { λ r. ⌜ r ≡ sizesOf s t gw ⌝ }
+{
+    let q = s.picture;
+    Sizes {
+        tokens: t,
+        grid_w: gw,
+        side: q.image_size / q.patch_size,
+        heads: s.num_heads,
+        half: s.head_dim / 2,
+        inter: s.intermediate_size,
+        scaling: s.scaling,
+    }
+}
+
+pub(crate) fn places(s: EncoderSettings, z: Sizes) -> Places
+    requires { ⌜ PlacesFit s z ⌝ }
+    ensures { λ r. ⌜ r ≡ placesOf s z ⌝ }
+{
+    let q = s.picture;
+    let p = q.patch_size;
+    let m = q.spatial_merge_size;
+    let i = z.inter;
+    let half = z.half;
+    let h = z.heads * (half + half);
+    let x = s.text_hidden_size;
+    let f = 3 * (p * p);
+    let at = h * f + h;
+    let layer = 2 * h + 4 * (h * h) + 2 * (i * h) + h * i;
+    let wide = h * (m * m);
+    Places {
+        floats: f,
+        layers: at,
+        projector: at + s.num_layers * layer,
+        wide: wide,
+        size: h + h * wide + x * h + x * x,
+    }
+}
+
+pub(crate) fn regions(z: Sizes, e: usize) -> Regions
+    requires { ⌜ RegionsFit z e ⌝ }
+    ensures { λ r. ⌜ r ≡ regionsOf z e ⌝ }
+{
+    let t = z.tokens;
+    let half = z.half;
+    let lin = 7 * (t * (z.heads * (half + half))) + 2 * (t * z.inter);
+    Regions {
+        linear: lin,
+        row: lin + 2 * e,
+    }
+}

@@ -1,0 +1,119 @@
+-- Laws of the steps, what one leaves, and of a run, what it hands on. Assumes nothing.
+use mathlib.Core.Bool.{Bool, true, false, _&&_, true≢false}
+use mathlib.Core.Path.{_≡_, refl, sym, ap, _∙_}
+use mathlib.Core.List.{List}
+use Prim.Native.Nat.{ℕ, _+_, _*_, _≤_}
+use native.Mathlib.Nat.{le-refl}
+use borrow.Author.Tests.{le-leb}
+use lib.ListN.{length}
+use lib.Ieee.{Float}
+use Rattle.buffers.specs.Region.{Apart, region, put}
+use Rattle.buffers.specs.Room.{inside, whereFits}
+use Rattle.buffers.proofs.Regions.{length-put, region-put, region-put-same}
+use Rattle.buffers.proofs.Rooms.{two}
+use Rattle.encoder_linear.specs.Linear.{linearOf}
+use Rattle.encoder_linear.proofs.Sums.{length-linear}
+use Rattle.encoder_linear.proofs.Rooms.{linear-fits}
+use Rattle.encoder_elements.specs.Element.{added, gated, rounded}
+use Rattle.encoder_kernels.specs.Finite.{sound}
+use Rattle.encoder_kernels.specs.Fits.{NormFits}
+use Rattle.encoder_elements.specs.Fits.{PairFits}
+use Rattle.encoder_kernels.specs.Norm.{normOf}
+use Rattle.encoder_kernels.specs.Room.{normFits}
+use Rattle.encoder_elements.specs.Room.{pairFits}
+use Rattle.encoder_kernels.proofs.Lengths.{length-norm}
+use Rattle.encoder_elements.proofs.Lengths.{length-added, length-gated, length-rounded}
+use Rattle.encoder_kernels.proofs.Rooms.{norm-fits}
+use Rattle.encoder_elements.proofs.Rooms.{pair-fits}
+use Rattle.encoder_steps.specs.Run.{Run, stopped, went, answer, thenRun}
+use Rattle.encoder_steps.specs.Step.{fineAt, matrixFits, MatrixAt, Tried, Wrote}
+
+pub answer-then : (a b : Bool) (l m : List Float) (f : List Float → Run) → f l ≡ answer b m → answer (a && b) m ≡ thenRun (answer a l) f
+answer-then true b l m f e = sym e
+answer-then false b l m f e = refl
+
+-- from the write, and the test of what it wrote
+pub wrote : (s t : List Float) (y n : ℕ) (l p : List Float) (ok f : Bool) → t ≡ put s y l → length l ≡ n → y + n ≤ length s → p ≡ region t y n → f ≡ sound p
+    → Wrote s t y l ok (ok && f)
+wrote s t y n l p ok f e h k g i =
+    let q : region t y n ≡ l = ap (λ u. region u y n) e ∙ region-put-same s y l n (sym h) (rw h k) in
+    record { all = e; fine-is = ap (λ b. ok && b) (i ∙ ap sound (g ∙ q)) }
+
+module _ {s t l : List Float} {y : ℕ} {ok r : Bool} (w : Wrote s t y l ok r) (n : ℕ) (h : length l ≡ n) where
+  -- what was written
+  pub got : y + n ≤ length s → region t y n ≡ l
+  got k = ap (λ u. region u y n) (w .all) ∙ region-put-same s y l n (sym h) (rw h k)
+
+  pub long : length t ≡ length s
+  long = ap length (w .all) ∙ length-put s y l
+
+  -- what was left
+  pub left : (a m : ℕ) → Apart a m y n → region t a m ≡ region s a m
+  left a m k = ap (λ u. region u a m) (w .all) ∙ region-put s y l a m (rw h k)
+
+-- ---- a step that fits
+
+module _ {s t : List Float} {ok r : Bool} where
+  tried : (fits : Bool) (l : List Float) (y n : ℕ) → fits ≡ true → length l ≡ n → y + n ≤ length s → Tried fits s t y n l ok r → Wrote s t y l ok r
+  unfolding fineAt
+  tried fits l y n h k i w =
+      let e : t ≡ put s y l = w .all ∙ ap (λ b. whereFits b s y l) h in
+      let q : region t y n ≡ l = ap (λ u. region u y n) e ∙ region-put-same s y l n (sym k) (rw k i) in
+      let j : length t ≡ length s = ap length e ∙ length-put s y l in
+      let f : inside (length t) y n ≡ true = le-leb (y + n) (length t) (rw j i) in
+      record { all = e; fine-is = w .fine-is ∙ ap (λ b. ok && (b && sound (region t y n))) f ∙ ap (λ u. ok && sound u) q }
+
+  pub matrix-wrote : (w : List Float) (x y n nin nout at : ℕ) → MatrixAt (length s) (length w) x y n nin nout at
+      → Tried (matrixFits (length s) (length w) x y n nin nout at) s t y (n * nout) (linearOf n nin nout (region w at (nout * nin)) (region s x (n * nin))) ok r
+      → Wrote s t y (linearOf n nin nout (region w at (nout * nin)) (region s x (n * nin))) ok r
+  unfolding matrixFits
+  matrix-wrote w x y n nin nout at f =
+      let m = region w at (nout * nin) in
+      let l = region s x (n * nin) in
+      tried (matrixFits (length s) (length w) x y n nin nout at) (linearOf n nin nout m l) y (n * nout)
+      (two (le-leb (at + nout * nin) (length w) (f .wIn)) (linear-fits (record { xin = f .xIn; yin = f .yIn; win = le-refl (nout * nin); apart = f .apart })))
+      (length-linear n nin nout m l) (f .yIn)
+
+  pub norm-wrote : (w : List Float) (x y n dim : ℕ) → NormFits (length s) (length w) x y n dim
+      → Tried (normFits (length s) (length w) x y n dim) s t y (n * dim) (normOf n dim w (region s x (n * dim))) ok r
+      → Wrote s t y (normOf n dim w (region s x (n * dim))) ok r
+  norm-wrote w x y n dim f =
+      let l = region s x (n * dim) in
+      tried (normFits (length s) (length w) x y n dim) (normOf n dim w l) y (n * dim) (norm-fits f) (length-norm n dim w l) (f .yin)
+
+  pub add-wrote : (y z n : ℕ) → PairFits (length s) y z n
+      → Tried (pairFits (length s) y z n) s t y n (added n (region s y n) (region s z n)) ok r
+      → Wrote s t y (added n (region s y n) (region s z n)) ok r
+  add-wrote y z n f =
+      tried (pairFits (length s) y z n) (added n (region s y n) (region s z n)) y n (pair-fits f) (length-added n (region s y n) (region s z n)) (f .yin)
+
+  pub gate-wrote : (y z n : ℕ) → PairFits (length s) y z n
+      → Tried (pairFits (length s) y z n) s t y n (gated n (region s y n) (region s z n)) ok r
+      → Wrote s t y (gated n (region s y n) (region s z n)) ok r
+  gate-wrote y z n f =
+      tried (pairFits (length s) y z n) (gated n (region s y n) (region s z n)) y n (pair-fits f) (length-gated n (region s y n) (region s z n)) (f .yin)
+
+  pub round-wrote : (y n : ℕ) → y + n ≤ length s
+      → Tried (inside (length s) y n) s t y n (rounded n (region s y n)) ok r
+      → Wrote s t y (rounded n (region s y n)) ok r
+  round-wrote y n f = tried (inside (length s) y n) (rounded n (region s y n)) y n (le-leb (y + n) (length s) f) (length-rounded n (region s y n)) f
+
+-- ---- what is left once the run is over
+
+pub went-of : (ok : Bool) (l : List Float) (r : Run) → answer ok l ≡ r → ok ≡ true → went l ≡ r
+went-of true l r e h = e
+went-of false l r e h = absurd (true≢false (sym h))
+
+pub stopped-of : (ok : Bool) (l : List Float) (r : Run) → answer ok l ≡ r → ok ≡ false → stopped ≡ r
+stopped-of false l r e h = e
+stopped-of true l r e h = absurd (true≢false h)
+
+-- ---- what a run that went hands on
+
+pub answer-went : (b : Bool) (d l : List Float) → answer b d ≡ went l → d ≡ l
+answer-went true d l e = cc
+answer-went false d l e = let z : _≡_ {A = ℕ} 0 1 = cc in cc
+
+pub then-went : (r : Run) (f : List Float → Run) (l : List Float) → thenRun r f ≡ went l → (h : List Float) × (f h ≡ went l)
+then-went (went h) f l e = (h, e)
+then-went stopped f l e = let z : _≡_ {A = ℕ} 0 1 = cc in (l, cc)

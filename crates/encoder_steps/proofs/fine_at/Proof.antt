@@ -1,0 +1,21 @@
+-- `steps::fine_at` meets its contract. Assumes nothing.
+use borrow.Author.Needs.{needs}
+use Rattle.encoder_steps.specs.Step.{fineAt}
+use Rattle.encoder_steps.proofs.fine_at.Statement.{statement}
+use Rattle.encoder_steps.proofs.fine_at.Tie as tie
+
+inside-requires : tie.Need-inside-requires
+inside-requires c κs = search needs
+
+part-requires : tie.Need-part-requires
+part-requires c κs = search needs
+
+finite-requires : tie.Need-finite-requires
+finite-requires c κs = search needs
+
+returns : tie.Need-returns
+unfolding fineAt
+returns c = cc (c .before .before .inside .ensures, c .finite .ensures, c .before .part .ensures)
+
+pub fine-at-spec : {M : Type 1} → statement M
+fine-at-spec = tie.close (tie.spec inside-requires part-requires finite-requires returns)

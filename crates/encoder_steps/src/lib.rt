@@ -1,0 +1,101 @@
+// The steps that are examined: each writes its result in the scratch where all fits, and says whether what then stands
+// there is finite, and all up to here.
+ghost use mathlib.Core.Path.{_≡_};
+ghost use Prim.Native.Nat.{_*_};
+ghost use lib.ListN.{length};
+ghost use Rattle.buffers.specs.Region.{region};
+ghost use Rattle.buffers.specs.Room as R;
+ghost use Rattle.encoder_linear.specs.Linear.{linearOf};
+ghost use Rattle.encoder_elements.specs.Element.{added, gated, rounded};
+ghost use Rattle.encoder_kernels.specs.Norm.{normOf};
+ghost use Rattle.encoder_kernels.specs.Room.{normFits};
+ghost use Rattle.encoder_elements.specs.Room.{pairFits};
+ghost use Rattle.encoder_steps.specs.Step.{fineAt, matrixFits, Tried};
+use buffers::part;
+use buffers::room::inside;
+use buffers::room::rows_inside;
+use encoder_elements::element::add_into;
+use encoder_elements::element::gate;
+use encoder_elements::element::truncate_to_bf16_inplace;
+use encoder_kernels::finite::finite;
+use encoder_kernels::norm::rms_norm;
+use encoder_linear::linear::linear_no_bias_forward;
+
+// Whether the n floats at y lie inside, and are finite.
+pub(crate) fn fine_at(s: &[f32], y: usize, n: usize) -> bool
+    ensures { λ r. ⌜ r ≡ fineAt (now (s .entry)) y n ⌝ }
+{
+    inside(s.len(), y, n) & finite(part(s, y, n))
+}
+
+// The same of n rows of d floats.
+pub(crate) fn fine_rows(s: &[f32], y: usize, n: usize, d: usize) -> bool
+    ensures { λ r. ⌜ r ≡ fineAt (now (s .entry)) y (n * d) ⌝ }
+{
+    if rows_inside(s.len(), y, n, d) {
+        return finite(part(s, y, n * d));
+    }
+    false
+}
+
+// A linear layer by the matrix at a place of the weights.
+pub fn matrix(
+    s: &mut [f32],
+    x: usize,
+    y: usize,
+    n: usize,
+    nin: usize,
+    nout: usize,
+    w: &[f32],
+    at: usize,
+    ok: bool,
+) -> bool
+    ensures { λ r. ⌜ Tried (matrixFits (length (now (s .entry))) (length (now (w .entry))) x y n nin nout at) (now (s .entry)) (now (s .exit)) y (n * nout)
+        (linearOf n nin nout (region (now (w .entry)) at (nout * nin)) (region (now (s .entry)) x (n * nin))) ok r ⌝ }
+{
+    if rows_inside(w.len(), at, nout, nin) {
+        linear_no_bias_forward(s, x, y, n, nin, nout, part(w, at, nout * nin));
+        return ok & fine_rows(s, y, n, nout);
+    }
+    ok & fine_rows(s, y, n, nout)
+}
+
+pub fn norm_fine(
+    s: &mut [f32],
+    x: usize,
+    y: usize,
+    n: usize,
+    dim: usize,
+    w: &[f32],
+    ok: bool,
+) -> bool
+    ensures { λ r. ⌜ Tried (normFits (length (now (s .entry))) (length (now (w .entry))) x y n dim) (now (s .entry)) (now (s .exit)) y (n * dim)
+        (normOf n dim (now (w .entry)) (region (now (s .entry)) x (n * dim))) ok r ⌝ }
+{
+    rms_norm(s, x, y, n, dim, w);
+    ok & fine_rows(s, y, n, dim)
+}
+
+pub fn add_fine(s: &mut [f32], y: usize, z: usize, n: usize, ok: bool) -> bool
+    ensures { λ r. ⌜ Tried (pairFits (length (now (s .entry))) y z n) (now (s .entry)) (now (s .exit)) y n
+        (added n (region (now (s .entry)) y n) (region (now (s .entry)) z n)) ok r ⌝ }
+{
+    add_into(s, y, z, n);
+    ok & fine_at(s, y, n)
+}
+
+// silu of the gate, times up.
+pub fn gate_fine(s: &mut [f32], y: usize, z: usize, n: usize, ok: bool) -> bool
+    ensures { λ r. ⌜ Tried (pairFits (length (now (s .entry))) y z n) (now (s .entry)) (now (s .exit)) y n
+        (gated n (region (now (s .entry)) y n) (region (now (s .entry)) z n)) ok r ⌝ }
+{
+    gate(s, y, z, n);
+    ok & fine_at(s, y, n)
+}
+
+pub fn round_fine(s: &mut [f32], y: usize, n: usize, ok: bool) -> bool
+    ensures { λ r. ⌜ Tried (R.inside (length (now (s .entry))) y n) (now (s .entry)) (now (s .exit)) y n (rounded n (region (now (s .entry)) y n)) ok r ⌝ }
+{
+    truncate_to_bf16_inplace(s, y, n);
+    ok & fine_at(s, y, n)
+}

@@ -1,0 +1,18 @@
+-- The numbers that a call can return. Assumes nothing.
+use Prim.Native.Nat.{ℕ}
+use Rattle.picture_limits.specs.declared.Refusal as D
+use Rattle.picture_limits.specs.declared.Refusal.the-variants.{Setting, Side, RgbLength, ImageSize, Output, Grid, PatchesLength, Sample, WeightsLength, TableLength, Scratch, NotFinite}
+
+abbrev pub number : D.Refusal → ℕ
+number Setting = 1
+number Side = 2
+number RgbLength = 3
+number ImageSize = 4
+number Output = 5
+number Grid = 6
+number PatchesLength = 7
+number Sample = 8
+number WeightsLength = 9
+number TableLength = 10
+number Scratch = 11
+number NotFinite = 12

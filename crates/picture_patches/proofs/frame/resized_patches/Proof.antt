@@ -1,0 +1,114 @@
+-- `patches::frame::resized_patches` meets its contract: what the loops write by the table are the samples. Assumes nothing.
+use mathlib.Core.Path.{_≡_, refl, sym, ap, _∙_}
+use mathlib.Core.Bool.{true, _&&_}
+use mathlib.Core.List.{List}
+use Prim.Native.Nat.{ℕ, _*_, _/_, _≤_, _<_}
+use native.Mathlib.Nat.{mul-assoc, div-mul-le-self}
+use native.Mathlib.Omega.{arith}
+use borrow.Author.Needs.{needs}
+use borrow.Author.Tests.{not-true, not-false, eqb-true}
+use lib.Dec.{eqb}
+use lib.ListN.{length}
+use lib.Ieee.{binary32, ofBits}
+use Rattle.buffers.specs.Region.{put}
+use Rattle.buffers.proofs.Lists.{and-left, and-right}
+use Rattle.buffers.proofs.Regions.{put-over}
+use Rattle.picture_limits.specs.Patches.{patchFloats}
+use Rattle.picture_limits.proofs.Sides.{sided-says, spans}
+use Rattle.picture_samples.specs.Samples.{sample, sampleTable, value, entry}
+use Rattle.picture_samples.proofs.Table.{entry-of, clean-of, value-is}
+use Rattle.picture_patches.specs.declared.frame.Frame.{Frame}
+use Rattle.picture_resize.specs.Resize.{resizedAt}
+use Rattle.picture_patches.specs.Patches.{patches}
+use Rattle.picture_patches.specs.Frame.{Framed}
+use Rattle.picture_patches.specs.Resized.{resizedPatches, patchesOver}
+use Rattle.picture_resize.proofs.Same.{byte-below}
+use Rattle.picture_patches.proofs.Patches.{length-patches, patches-ext}
+use Rattle.picture_patches.proofs.Fits.{Fits, fits-says, written}
+use Rattle.picture_patches.proofs.frame.resized_patches.Statement.{statement}
+use Rattle.picture_patches.proofs.frame.resized_patches.Tie as tie
+
+abbrev frame : ℕ → ℕ → ℕ → ℕ → ℕ → Frame
+frame h w th tw p = record { h = h; w = w; th = th; tw = tw; p = p; plain = eqb th h && eqb tw w }
+
+framed : (len h w th tw p room : ℕ) → Fits len h w th tw p room → Framed (frame h w th tw p) len
+framed len h w th tw p room f =
+    let t = sided-says h w (f .sides) in
+    record {
+      bytes = f .bytes;
+      tall = t .0;
+      wide = t .2;
+      tall-high = t .1;
+      wide-high = t .3;
+      target-tall = f .tall;
+      target-wide = f .wide;
+      patch-high = f .patch-high;
+      plain = λ q. (eqb-true _ _ (and-left (eqb th h) (eqb tw w) q), eqb-true _ _ (and-right (eqb th h) (eqb tw w) q));
+    }
+
+-- the table's values are the samples
+sampled : (t : List ℕ) → t ≡ sampleTable → (p gh gw : ℕ) (v : ℕ → ℕ → ℕ → ℕ) → ((y x c : ℕ) → v y x c < 256)
+    → patches p gh gw (λ y x c. value (entry t) c (v y x c)) ≡ patches p gh gw (λ y x c. sample c (v y x c))
+sampled t e p gh gw v h = patches-ext p gh gw _ _ (λ y x c hc. ap (ofBits binary32) (entry-of t e c (v y x c) hc (h y x c)) ∙ value-is c (v y x c))
+
+passed : (c : tie.Else1) → let a = c .before .before .before .before .args in Fits (length (a .rgb .now)) (a .h) (a .w) (a .th) (a .tw) (a .p) (length (a .out .now))
+passed c = fits-says _ _ _ _ _ _ _ (sym (c .before .patches-fit .ensures) ∙ not-false _ (c .if1 .left))
+
+patches-fit-requires : tie.Need-patches-fit-requires
+patches-fit-requires c κs = search needs
+
+returns : tie.Need-returns
+unfolding patchesOver
+returns c = rw (sym (c .before .patches-fit .ensures) ∙ not-true _ (c .if1 .taken))
+
+samples-requires : tie.Need-samples-requires
+samples-requires c κs = search needs
+
+div-framed-patches : tie.Need-div-framed-patches
+div-framed-patches c = omega (arith, passed (c .before) .patch-low)
+
+div-framed-patches-2 : tie.Need-div-framed-patches-2
+div-framed-patches-2 c = omega (arith, passed (c .before) .patch-low)
+
+framed-patches-requires : tie.Need-framed-patches-requires
+framed-patches-requires c κs =
+    let a = c .before .before .before .before .before .before .before .args in
+    let f = passed (c .before .before .before) in (
+      framed _ _ _ _ _ _ _ f,
+      clean-of _ (c .before .before .samples .ensures),
+      div-mul-le-self (a .th) (a .p),
+      div-mul-le-self (a .tw) (a .p),
+      spans (a .tw) (a .p) (f .patch-low) (f .wide) .low,
+      omega (arith, f .space, mul-assoc (a .th / a .p) (a .tw / a .p) (patchFloats (a .p))),
+    )
+
+same-length : tie.Need-same-length
+same-length c = search needs
+
+returns-2 : tie.Need-returns-2
+returns-2 c =
+    let e = c .before .before .before .before .before .before in
+    let a = e .before .before .before .before .args in
+    let t = c .before .before .before .before .before .samples in
+    let gh = a .th / a .p in
+    let gw = a .tw / a .p in
+    let v : ℕ → ℕ → ℕ → ℕ = resizedAt (a .rgb .now) (a .h) (a .w) (a .th) (a .tw) in
+    let ys = resizedPatches (a .rgb .now) (a .h) (a .w) (a .th) (a .tw) (a .p) in
+    let l : length ys ≤ length (a .out .now) = omega (arith, passed e .space, length-patches (a .p) (λ y x c. sample c (v y x c)) gh gw, mul-assoc gh gw (patchFloats (a .p))) in
+    c .before .before .framed-patches .ensures
+    ∙ ap (put (a .out .now) 0) (sampled (t .result) (t .ensures) (a .p) gh gw v (byte-below (a .rgb .now) (a .h) (a .w) (a .th) (a .tw)))
+    ∙ put-over (a .out .now) ys l
+    ∙ sym (written (a .rgb .now) (a .h) (a .w) (a .th) (a .tw) (a .p) (a .out .now) (sym (e .before .patches-fit .ensures) ∙ not-false _ (e .if1 .left)))
+
+pub resized-patches-spec : {M : Type 1} → statement M
+resized-patches-spec =
+    tie.close
+    (tie.spec
+    patches-fit-requires
+    returns
+    samples-requires
+    div-framed-patches
+    div-framed-patches-2
+    framed-patches-requires
+    same-length
+    returns-2)

@@ -1,0 +1,25 @@
+-- The patches of a picture resized, over the front of an output, where they fit. Assumes nothing.
+use mathlib.Core.Bool.{Bool, _&&_, cond}
+use mathlib.Core.List.{List}
+use Prim.Native.Nat.{ℕ, _*_, _/_}
+use lib.Dec.{leb, eqb}
+use lib.ListN.{length}
+use lib.Ieee.{Float}
+use Rattle.buffers.specs.Region.{over}
+use Rattle.picture_limits.specs.Settings.{within, sided}
+use Rattle.picture_limits.specs.Patches.{patchFloats}
+use Rattle.picture_samples.specs.Samples.{sample}
+use Rattle.picture_resize.specs.Resize.{resizedAt}
+use Rattle.picture_patches.specs.Patches.{patches}
+
+-- of rgb, h rows of w pixels, resized to th rows of tw
+abbrev pub resizedPatches : List ℕ → ℕ → ℕ → ℕ → ℕ → ℕ → List Float
+resizedPatches rgb h w th tw p = patches p (th / p) (tw / p) (λ y x c. sample c (resizedAt rgb h w th tw y x c))
+
+-- the sides, the target's sides and the patch size lie in the paper's ranges; len bytes are the picture, and the patches fit into room
+unfoldable pub fits : ℕ → ℕ → ℕ → ℕ → ℕ → ℕ → ℕ → Bool
+fits len h w th tw p room =
+    sided h w && (leb th 2048 && leb tw 2048 && within 1 32 p && (eqb len (h * w * 3) && leb (th / p * (tw / p) * patchFloats p) room))
+
+unfoldable pub patchesOver : List ℕ → ℕ → ℕ → ℕ → ℕ → ℕ → List Float → List Float
+patchesOver rgb h w th tw p old = cond (fits (length rgb) h w th tw p (length old)) (over (resizedPatches rgb h w th tw p) old) old

@@ -1,0 +1,17 @@
+-- `resize::clamp_of` meets its contract. Assumes nothing.
+use lib.Ieee.{ofBits, lt}
+use borrow.Author.Needs.{needs}
+use Rattle.picture_resize.proofs.clamp_of.Statement.{statement}
+use Rattle.picture_resize.proofs.clamp_of.Tie as tie
+
+returns : tie.Need-returns
+returns c = simp (c .if1 .taken)
+
+returns-2 : tie.Need-returns-2
+returns-2 c = simp (c .before .if1 .left, c .if2 .taken)
+
+returns-3 : tie.Need-returns-3
+returns-3 c = simp (c .before .if1 .left, c .if2 .left)
+
+pub clamp-of-spec : {M : Type 1} → statement M
+clamp-of-spec = tie.close (tie.spec returns returns-2 returns-3)

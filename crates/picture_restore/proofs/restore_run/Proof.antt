@@ -1,0 +1,81 @@
+-- `restore::restore_run` meets its contract. The invariant: the pixels passed are written. Assumes nothing.
+use mathlib.Core.Path.{_≡_, ap, _∙_}
+use Prim.Native.Nat.{ℕ, _+_, _*_, _-_, _≤_}
+use native.Mathlib.Omega.{arith}
+use borrow.Author.Needs.{needs}
+use lib.ListN.{length}
+use Rattle.buffers.specs.Rows.{rows}
+use Rattle.buffers.specs.Region.{put}
+use Rattle.buffers.proofs.Lists.{rows-step}
+use Rattle.picture_restore.specs.Guess.{guessedPixel}
+use Rattle.picture_limits.proofs.Places.{square}
+use Rattle.picture_restore.proofs.Guesses.{length-guessedPixel}
+use Rattle.picture_restore.proofs.restore_run.Statement.{statement}
+use Rattle.picture_restore.proofs.restore_run.Tie as tie
+
+abbrev Inv-loop : tie.InvT-loop
+Inv-loop patches p from at out₀ n j₀ o₀ out j o =
+    (j ≤ p) × (o ≡ at + j * 3) × (length out ≡ length out₀) × (out ≡ put out₀ at (rows j (λ i. guessedPixel (p * p) patches (from + i))))
+
+abbrev μ-loop : tie.MeasureT-loop
+μ-loop patches p from at out₀ n j₀ o₀ out j o = p - j
+
+mul-n : tie.Need-mul-n Inv-loop μ-loop
+mul-n c = let s = c .before .before in omega (arith, square (s .args .p) (s .pre .0))
+
+loop-holds : tie.Need-loop-holds Inv-loop μ-loop
+unfolding put rows
+loop-holds c = search needs
+
+add-restore-pixel : tie.Need-add-restore-pixel Inv-loop μ-loop
+add-restore-pixel c = search needs
+
+restore-pixel-requires : tie.Need-restore-pixel-requires Inv-loop μ-loop
+restore-pixel-requires c κs = omega arith
+
+add-o : tie.Need-add-o Inv-loop μ-loop
+add-o c = search needs
+
+add-j : tie.Need-add-j Inv-loop μ-loop
+add-j c = search needs
+
+loop-less : tie.Need-loop-less Inv-loop μ-loop
+loop-less c = search needs
+
+loop-again : tie.Need-loop-again Inv-loop μ-loop
+loop-again c =
+    let a = c .before .before .before .before .before .before .before .before .args in
+    let l = c .before .before .before .before .before .loop in
+    let n = a .p * a .p in (
+      omega arith,
+      omega arith,
+      c .before .before .restore-pixel .kept .1 .1 .1 .1 .0 ∙ l .inv .2,
+      rows-step _ 3 (λ i. length-guessedPixel n (a .patches .now) (a .from + i)) (a .out .now) (l .out) _ (a .at) (l .o) (l .j) (l .inv .3) (l .inv .1)
+          (c .before .before .restore-pixel .ensures),
+    )
+
+same-length : tie.Need-same-length Inv-loop μ-loop
+same-length c = c .before .loop .inv .2
+
+returns : tie.Need-returns Inv-loop μ-loop
+returns c =
+    let a = c .before .before .before .before .args in
+    let e : c .before .loop .j ≡ a .p = omega arith in
+    c .before .loop .inv .3 ∙ ap (λ (n : ℕ). put (a .out .now) (a .at) (rows n (λ i. guessedPixel (a .p * a .p) (a .patches .now) (a .from + i)))) e
+
+pub restore-run-spec : {M : Type 1} → statement M
+restore-run-spec =
+    tie.close
+    (tie.spec
+    Inv-loop
+    μ-loop
+    mul-n
+    loop-holds
+    add-restore-pixel
+    restore-pixel-requires
+    add-o
+    add-j
+    loop-less
+    loop-again
+    same-length
+    returns)

@@ -1,0 +1,206 @@
+// Patches back to the resized picture.
+mod byte;
+
+use byte::byte_for;
+use byte::guess;
+use picture_limits::PictureSettings;
+use picture_limits::Refusal;
+use picture_limits::Shape;
+use picture_limits::settings::shape;
+use picture_samples::samples;
+ghost use mathlib.Core.Path.{_≡_};
+ghost use Prim.Native.Nat.{ℕ, _+_, _*_, _≤_, _<_};
+ghost use lib.Dec.{ltb};
+ghost use lib.ListN.{length, getD};
+ghost use lib.Ieee as Ieee;
+ghost use lib.Ieee.{binary32, nan};
+ghost use Rattle.buffers.specs.Rows.{tab, rows, all};
+ghost use Rattle.buffers.specs.Region.{put};
+ghost use Rattle.picture_samples.specs.Samples.{byteOf, entry};
+ghost use Rattle.picture_restore.specs.Guess.{Guessed, guessedPixel, guessedRun, guessedLine, guessedBand, guessedBytes};
+ghost use Rattle.picture_limits.specs.Shape.{shaped};
+ghost use Rattle.picture_restore.specs.Restore.{knownRun, knownPatch, known, restored, bytesOf, bytesLeft};
+
+pub enum Restored {
+    Picture { height: usize, width: usize },
+    Refused(Refusal),
+}
+
+// Whether each of the n samples from `at` on has the bits of a byte in channel c.
+fn run_known(patches: &[f32], at: usize, n: usize, c: usize, t: &[u32; 768]) -> bool
+    requires { ⌜ (c < 3) × (at + n ≤ length (now patches)) × Guessed (now t) ⌝ }
+    ensures { λ r. ⌜ r ≡ knownRun (entry (now (t .entry))) n (now (patches .entry)) at c ⌝ }
+{
+    let mut k = 0usize;
+    while k < n {
+        if 256 <= byte_for(t, c, patches[at + k]) {
+            return false;
+        }
+        k += 1;
+    }
+    true
+}
+
+fn patch_known(patches: &[f32], at: usize, p: usize, t: &[u32; 768]) -> bool
+    requires { ⌜ (p ≤ 32) × (at + 3 * (p * p) ≤ length (now patches)) × Guessed (now t) ⌝ }
+    ensures { λ r. ⌜ r ≡ knownPatch (entry (now (t .entry))) p (now (patches .entry)) at ⌝ }
+{
+    let n = p * p;
+    let mut c = 0usize;
+    let mut o = at;
+    while c < 3 {
+        if !run_known(patches, o, n, c, t) {
+            return false;
+        }
+        o += n;
+        c += 1;
+    }
+    true
+}
+
+// Whether every sample of n patches has the bits of a byte in its channel.
+fn all_known(patches: &[f32], p: usize, n: usize, t: &[u32; 768]) -> bool
+    requires { ⌜ (p ≤ 32) × (n * (3 * (p * p)) ≤ length (now patches)) × Guessed (now t) ⌝ }
+    ensures { λ r. ⌜ r ≡ known (entry (now (t .entry))) p n (now (patches .entry)) ⌝ }
+{
+    let m = 3 * (p * p);
+    let mut q = 0usize;
+    let mut o = 0usize;
+    while q < n {
+        if !patch_known(patches, o, p, t) {
+            return false;
+        }
+        o += m;
+        q += 1;
+    }
+    true
+}
+
+// The three bytes of a pixel, whose samples lie n apart from `from` on.
+fn restore_pixel(patches: &[f32], n: usize, from: usize, at: usize, out: &mut [u8])
+    requires { ⌜ (from + 2 * n < length (now patches)) × (at + 3 ≤ length (now out)) ⌝ }
+    ensures { λ _. ⌜ now (out .exit) ≡ put (now (out .entry)) at (guessedPixel n (now (patches .entry)) from) ⌝ }
+{
+    out[at] = guess(0, patches[from]) as u8;
+    out[at + 1] = guess(1, patches[from + n]) as u8;
+    out[at + 2] = guess(2, patches[from + 2 * n]) as u8;
+}
+
+// A row of a patch: p pixels.
+fn restore_run(patches: &[f32], p: usize, from: usize, at: usize, out: &mut [u8])
+    requires { ⌜ (p ≤ 32) × (from + 2 * (p * p) + p ≤ length (now patches)) × (at + p * 3 ≤ length (now out)) ⌝ }
+    ensures { λ _. ⌜ now (out .exit) ≡ put (now (out .entry)) at (guessedRun p (now (patches .entry)) from) ⌝ }
+{
+    let n = p * p;
+    let mut j = 0usize;
+    let mut o = at;
+    while j < p {
+        restore_pixel(patches, n, from + j, o, out);
+        o += 3;
+        j += 1;
+    }
+}
+
+// A row of the picture: row i of each of the gw patches side by side, the first of which starts at `from`.
+fn restore_line(
+    patches: &[f32],
+    p: usize,
+    gw: usize,
+    i: usize,
+    from: usize,
+    at: usize,
+    out: &mut [u8],
+)
+    requires { ⌜ (p ≤ 32) × (i < p) × (from + gw * (3 * (p * p)) ≤ length (now patches)) × (at + gw * (p * 3) ≤ length (now out)) ⌝ }
+    ensures { λ _. ⌜ now (out .exit) ≡ put (now (out .entry)) at (guessedLine p gw (now (patches .entry)) from i) ⌝ }
+{
+    let m = 3 * (p * p);
+    let d = i * p;
+    let mut b = 0usize;
+    let mut o = at;
+    let mut k = from;
+    while b < gw {
+        restore_run(patches, p, k + d, o, out);
+        o += p * 3;
+        k += m;
+        b += 1;
+    }
+}
+
+// The p rows of the picture that gw patches side by side give.
+fn restore_band(patches: &[f32], p: usize, gw: usize, from: usize, at: usize, out: &mut [u8])
+    requires { ⌜ (p ≤ 32) × (gw ≤ 2048) × (from + gw * (3 * (p * p)) ≤ length (now patches)) × (at + p * (gw * (p * 3)) ≤ length (now out)) ⌝ }
+    ensures { λ _. ⌜ now (out .exit) ≡ put (now (out .entry)) at (guessedBand p gw (now (patches .entry)) from) ⌝ }
+{
+    let n = gw * (p * 3);
+    let mut i = 0usize;
+    let mut o = at;
+    while i < p {
+        restore_line(patches, p, gw, i, from, o, out);
+        o += n;
+        i += 1;
+    }
+}
+
+// All rows, over the front of `out`.
+fn restore_bands(patches: &[f32], p: usize, gh: usize, gw: usize, out: &mut [u8])
+    requires { ⌜ (p ≤ 32) × (gw ≤ 2048) × (gh * (gw * (3 * (p * p))) ≤ length (now patches)) × (gh * (p * (gw * (p * 3))) ≤ length (now out)) ⌝ }
+    ensures { λ _. ⌜ now (out .exit) ≡ put (now (out .entry)) 0 (guessedBytes p gh gw (now (patches .entry))) ⌝ }
+{
+    let m = gw * (3 * (p * p));
+    let n = p * (gw * (p * 3));
+    let mut a = 0usize;
+    let mut o = 0usize;
+    let mut k = 0usize;
+    while a < gh {
+        restore_band(patches, p, gw, k, o, out);
+        o += n;
+        k += m;
+        a += 1;
+    }
+}
+
+// The same where settings, grid and length are in order.
+fn restore_shaped(
+    s: PictureSettings,
+    patches: &[f32],
+    grid_h: usize,
+    grid_w: usize,
+    tokens: usize,
+    out: &mut [u8],
+) -> Restored
+    requires { ⌜ shaped s «grid_h» «grid_w» (length (now patches)) ≡ Shape.Shaped tokens ⌝ }
+    ensures { λ r. ⌜ (r ≡ restored s (now (patches .entry)) «grid_h» «grid_w» (length (now (out .entry)))) × (now (out .exit) ≡ bytesLeft (restored s (now (patches .entry)) «grid_h» «grid_w» (length (now (out .entry)))) (bytesOf s (now (patches .entry)) «grid_h» «grid_w») (now (out .entry))) ⌝ }
+{
+    let p = s.patch_size;
+    if out.len() < grid_h * p * (grid_w * p) * 3 {
+        return Restored::Refused(Refusal::Output);
+    }
+    let t = samples();
+    if !all_known(patches, p, tokens, &t) {
+        return Restored::Refused(Refusal::Sample);
+    }
+    restore_bands(patches, p, grid_h, grid_w, out);
+    Restored::Picture {
+        height: grid_h * p,
+        width: grid_w * p,
+    }
+}
+
+// The resized bytes that gave the patches, over the front of `out`. Every sample is tested before the first is written.
+pub fn restore(
+    s: PictureSettings,
+    patches: &[f32],
+    grid_h: usize,
+    grid_w: usize,
+    out: &mut [u8],
+) -> Restored
+    ensures answer { λ r. ⌜ r ≡ restored s (now (patches .entry)) «grid_h» «grid_w» (length (now (out .entry))) ⌝ }
+    ensures output { λ _. ⌜ now (out .exit) ≡ bytesLeft (restored s (now (patches .entry)) «grid_h» «grid_w» (length (now (out .entry)))) (bytesOf s (now (patches .entry)) «grid_h» «grid_w») (now (out .entry)) ⌝ }
+{
+    let found = shape(s, grid_h, grid_w, patches.len());
+    match found {
+        Shape::Unshaped(r) => Restored::Refused(r),
+        Shape::Shaped { tokens } => restore_shaped(s, patches, grid_h, grid_w, tokens, out),
+    }
+}
