@@ -10,8 +10,8 @@ ghost use Rattle.encoder_blocks.specs.Block.{blockRun, normed1, normed2,
 ghost use Rattle.encoder_blocks.specs.Live.{hAt, AttnIn, AttnTurn, AttnMix, FeedIn, FeedOut};
 ghost use Rattle.encoder_blocks.specs.Fits.{BlockFits, TurnFits, TurnAt, ScoreRow, SquareAt};
 use crate::Sizes;
-use encoder_attention::attention::attend;
 use buffers::part;
+use encoder_attention::attention::attend;
 use encoder_kernels::finite::finite;
 use encoder_kernels::rotate::rotate;
 use encoder_steps::add_fine;

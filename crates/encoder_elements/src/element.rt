@@ -11,9 +11,9 @@ ghost use Rattle.encoder_elements.specs.Fits.{PairFits};
 use crate::room::pair_fits;
 use crate::silus::gate_values;
 use buffers::room::inside;
+use number_bf16_half_root::bf16::bf16_f32;
 use number_exp_tanh::exp::exp_f32;
 use number_exp_tanh::tanh::tanh_f32;
-use number_bf16_half_root::bf16::bf16_f32;
 
 pub(crate) fn silu(x: f32) -> f32
     ensures { λ r. ⌜ r ≡ siluOf x ⌝ }

@@ -2,8 +2,8 @@
 ghost use mathlib.Core.Path.{_≡_};
 ghost use lib.ListN.{length};
 ghost use Rattle.encoder_replay.specs.Run.{answerOf, settingsOf, inputsFrom, callOf, runOf, Small, Room};
-use encoder_settings::EncoderSettings;
 use encoder::Encoded;
+use encoder_settings::EncoderSettings;
 use picture_limits::PictureSettings;
 use replay::damage::damage;
 use replay::hash::hash_floats;

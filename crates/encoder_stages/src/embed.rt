@@ -7,12 +7,12 @@ ghost use Rattle.encoder_steps.specs.Step.{Wrote};
 ghost use Rattle.encoder_stages.specs.Live.{Embedded};
 ghost use Rattle.encoder_stages.specs.Embed.{inputsFine};
 ghost use Rattle.encoder_stages.specs.Fits.{EmbedFits};
-use encoder_blocks::Sizes;
 use buffers::part;
+use encoder_blocks::Sizes;
 use encoder_kernels::finite::finite;
+use encoder_linear::linear::linear_from;
 use encoder_steps::norm_fine;
 use encoder_steps::round_fine;
-use encoder_linear::linear::linear_from;
 
 // Whether patches, weights and tables are finite.
 pub(crate) fn inputs_fine(x: &[f32], w: &[f32], cos: &[f32], sin: &[f32]) -> bool

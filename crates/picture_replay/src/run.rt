@@ -3,14 +3,14 @@ ghost use mathlib.Core.Path.{_≡_};
 ghost use Prim.Native.Nat.{_≤_};
 ghost use lib.ListN.{length};
 ghost use Rattle.picture_replay.specs.Run.{room, at, madeOf, left, backOf, settingsOf, firstOf, cellsLeft, secondOf};
-use picture_limits::PictureSettings;
 use picture::Preprocessed;
+use picture_limits::PictureSettings;
+use picture_restore::Restored;
 use replay::damage::damage;
 use replay::hash::hash_bytes;
 use replay::hash::hash_floats;
 use replay::marks::MARKS;
 use replay::marks::fill_bytes;
-use picture_restore::Restored;
 
 // The cells of each buffer.
 pub const ROOM: usize = 12352;

@@ -2,10 +2,10 @@
 use crate::print::put_grid;
 use crate::print::put_refused;
 use crate::print::put_rows;
-use picture_limits::PictureSettings;
-use picture_limits::settings::number;
 use picture::Preprocessed;
 use picture::preprocess::pixtral_preprocess;
+use picture_limits::PictureSettings;
+use picture_limits::settings::number;
 use picture_restore::Restored;
 use picture_restore::restore;
 ghost use mathlib.Core.Path.{_≡_};
