@@ -6,7 +6,8 @@ use native.Mathlib.Nat.{add-zero, zero-add, add-sub-of-le}
 use native.Mathlib.Omega.{arith}
 use lib.ListN.{length, getD, take, drop, set, length-set, length-drop, drop-of-length-le}
 use lib.Seq.{sets-eq, length-sets, sets, drop-at, take-at, take-all, take-nil, length-take-le, drop-set-lt, drop-set-add, take-set-le, take-take, drop-drop, getD-take, getD-drop, set-comm, set-set}
-use Rattle.buffers.specs.Region.{Apart, before, after, region, put, over}
+use Rattle.buffers.specs.Region.{region, put, over}
+use Rattle.buffers.specs.inner.Apart.{Apart, before, after}
 
 pub apart-sym : {x n at m : ℕ} → Apart x n at m → Apart at m x n
 apart-sym (before h) = after h

@@ -8,8 +8,9 @@ use borrow.Author.Tests.{leb-true, leb-false, le-leb}
 use lib.Dec.{leb}
 use lib.ListN.{length}
 use lib.Ieee.{Float}
-use Rattle.buffers.specs.Region.{Apart, before, after, put}
-use Rattle.buffers.specs.Room.{inside, aside, whereFits}
+use Rattle.buffers.specs.Region.{put}
+use Rattle.buffers.specs.inner.Apart.{Apart, before, after}
+use Rattle.buffers.specs.inner.Room.{inside, aside, whereFits}
 use Rattle.buffers.proofs.Lists.{and-left, and-right}
 
 pub both : (a b : Bool) → a && b ≡ true → (a ≡ true) × (b ≡ true)

@@ -8,7 +8,8 @@ use native.Mathlib.Omega.{arith}
 use lib.ListN.{length, set, getD, take, drop}
 use lib.Seq.{drop-drop}
 use Rattle.buffers.specs.Rows.{tab}
-use Rattle.buffers.specs.Region.{Apart, after, region, put}
+use Rattle.buffers.specs.Region.{region, put}
+use Rattle.buffers.specs.inner.Apart.{Apart, after}
 use Rattle.buffers.proofs.Regions.{apart-sub, put-append, put-put, put-comm, put-split, region-put, region-region, length-region, getD-put, getD-region}
 use Rattle.buffers.proofs.Lists.{fit, length-tab, tab-ext, tab-add, put-tab, length-rows, put-rows}
 use Rattle.buffers.specs.Each.{eachRow, blank}

@@ -1,4 +1,4 @@
 pub mod Rows
 pub mod Region
 pub mod Each
-pub mod Room
+pub mod inner

@@ -1,16 +1,11 @@
 -- What stands at a place of a buffer, and what is written over it. Assumes nothing.
 use mathlib.Core.Bool.{cond}
 use mathlib.Core.List.{List, [], _∷_, _++_}
-use Prim.Native.Nat.{ℕ, suc, _+_, _≤_}
+use Prim.Native.Nat.{ℕ, suc}
 use lib.Dec.{leb}
 use lib.ListN.{length, take, drop, set}
 use lib.Ieee.{Float, binary32, ofBits}
 use Rattle.buffers.specs.Rows.{tab}
-
--- the n elements from x and the m elements from at do not overlap
-pub data Apart (x n at m : ℕ) : Type 0 where
-  before : x + n ≤ at → Apart x n at m
-  after : at + m ≤ x → Apart x n at m
 
 module _ {A : Type 0} where
   -- the n elements from index at

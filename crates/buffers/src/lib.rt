@@ -4,7 +4,7 @@ ghost use mathlib.Core.Path.{_≡_};
 ghost use lib.ListN.{length};
 ghost use Rattle.buffers.specs.Rows.{tab};
 ghost use Rattle.buffers.specs.Region.{region, copied, cleared, zero32};
-ghost use Rattle.buffers.specs.Room as R;
+ghost use Rattle.buffers.specs.inner.Room as R;
 
 pub mod room;
 

@@ -1,7 +1,7 @@
 // Whether what a function is handed fits. No test forms a number that could wrap.
 ghost use mathlib.Core.Path.{_≡_};
 ghost use Prim.Native.Nat.{_*_};
-ghost use Rattle.buffers.specs.Room as R;
+ghost use Rattle.buffers.specs.inner.Room as R;
 
 // The n floats at at lie inside len.
 pub fn inside(len: usize, at: usize, n: usize) -> bool

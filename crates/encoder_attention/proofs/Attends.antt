@@ -10,16 +10,17 @@ use native.Mathlib.Numerals.{add-one}
 use lib.ListN.{length}
 use lib.Ieee.{Float}
 use Rattle.buffers.specs.Rows.{rows}
-use Rattle.buffers.specs.Region.{Apart, region, put, zero32}
+use Rattle.buffers.specs.Region.{region, put, zero32}
+use Rattle.buffers.specs.inner.Apart.{Apart}
 use Rattle.buffers.proofs.Regions.{put-put, region-put, region-put-same, region-region, length-region, apart-sub}
 use Rattle.buffers.proofs.Lists.{fit, length-tab, length-rows, put-rows}
 use Rattle.buffers.specs.Each.{blank}
 use Rattle.encoder_kernels.specs.Finite.{sound}
 use Rattle.encoder_attention.specs.Attention.{scoreRow, expLess, scaled, softened, softmaxOf, headScores, headSums, tokenScores, tokenSums, attentionOf}
 use Rattle.encoder_linear.specs.Weighed.{weighedRow}
-use Rattle.encoder_attention.specs.Keys.{keysOf}
+use Rattle.encoder_attention.specs.inner.Keys.{keysOf}
 use Rattle.encoder_attention.proofs.Keys.{turned-scores}
-use Rattle.encoder_attention.specs.Fits.{AttendFits, HeadAt, TokenAt}
+use Rattle.encoder_attention.specs.inner.Fits.{AttendFits, HeadAt, TokenAt}
 use Rattle.buffers.proofs.Steps.{blank-same, blank-put, blank-rest}
 use Rattle.encoder_kernels.proofs.Finites.{sound-append}
 use Rattle.encoder_linear.proofs.Sums.{length-weighed}

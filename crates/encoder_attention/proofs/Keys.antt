@@ -7,7 +7,8 @@ use native.Mathlib.Omega.{arith}
 use lib.ListN.{length, getD}
 use lib.Ieee.{Float, nan, binary32, mul}
 use Rattle.buffers.specs.Rows.{tab}
-use Rattle.buffers.specs.Region.{Apart, region, put, zero32}
+use Rattle.buffers.specs.Region.{region, put, zero32}
+use Rattle.buffers.specs.inner.Apart.{Apart}
 use Rattle.buffers.specs.Each.{blank}
 use Rattle.buffers.proofs.Regions.{getD-region, region-put, region-put-same, length-region}
 use Rattle.buffers.proofs.Lists.{fit, getD-tab, tab-ext, tab-mul, tab-self}
@@ -16,8 +17,8 @@ use Rattle.encoder_linear.specs.Weighed.{columnOf, weighedRow}
 use Rattle.encoder_linear.proofs.Sums.{sum-ext}
 use Rattle.encoder_linear.proofs.Pieces.{grid-ext, length-grid, getD-grid}
 use Rattle.encoder_attention.specs.Attention.{scoreRow, scaled, scoresOf, attentionOf}
-use Rattle.encoder_attention.specs.Fits.{KeysFit}
-use Rattle.encoder_attention.specs.Keys.{turnedKeys, keysOf}
+use Rattle.encoder_attention.specs.inner.Fits.{KeysFit}
+use Rattle.encoder_attention.specs.inner.Keys.{turnedKeys, keysOf}
 
 pub keys-back : (t dim : ℕ) (k : List Float) → length k ≡ t * dim → keysOf t dim (turnedKeys t dim k) ≡ k
 unfolding keysOf turnedKeys

@@ -5,10 +5,10 @@ use mathlib.Core.Path.{_≡_}
 use Prim.Native.Nat.{ℕ, _+_, _*_, _≤_}
 use native.Mathlib.Omega.{arith}
 use borrow.Author.Tests.{leb-true, le-leb}
-use Rattle.buffers.specs.Room.{inside, aside}
+use Rattle.buffers.specs.inner.Room.{inside, aside}
 use Rattle.buffers.proofs.Rooms.{both, two, aside-says, aside-is}
-use Rattle.encoder_attention.specs.Room.{threeAside, placesFit, attendFits}
-use Rattle.encoder_attention.specs.Fits.{KeysFit}
+use Rattle.encoder_attention.specs.inner.Room.{threeAside, placesFit, attendFits}
+use Rattle.encoder_attention.specs.inner.Fits.{KeysFit}
 
 module _ {len q k v kt row out t heads hd : ℕ} where
   pub attend-says : attendFits len q k v kt row out t heads hd ≡ true → KeysFit len q k v kt row out t heads hd

@@ -1,4 +1,2 @@
 pub mod Attention
-pub mod Keys
-pub mod Room
-pub mod Fits
+pub mod inner

@@ -1,6 +1,6 @@
 // Whether what the attention is handed fits. No test forms a number that could wrap.
 ghost use mathlib.Core.Path.{_≡_};
-ghost use Rattle.encoder_attention.specs.Room.{threeAside, placesFit, attendFits};
+ghost use Rattle.encoder_attention.specs.inner.Room.{threeAside, placesFit, attendFits};
 use buffers::room::aside;
 use buffers::room::inside;
 use buffers::room::rows_inside;

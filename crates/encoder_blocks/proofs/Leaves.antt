@@ -18,9 +18,9 @@ use Rattle.encoder_blocks.specs.Sizes.{nOf, mOf}
 use Rattle.encoder_blocks.specs.Weights.{layerOf}
 use Rattle.encoder_blocks.specs.Block.{normed2, gateOf, upOf, downOf, attnRun, feedRun, blockRun}
 use Rattle.encoder_blocks.specs.Layers.{layersRun}
-use Rattle.encoder_blocks.specs.Live.{hAt}
-use Rattle.encoder_blocks.specs.Room.{layersFit}
-use Rattle.encoder_blocks.specs.Fits.{LayersFits}
+use Rattle.encoder_blocks.specs.inner.Live.{hAt}
+use Rattle.encoder_blocks.specs.inner.Room.{layersFit}
+use Rattle.encoder_blocks.specs.inner.Fits.{LayersFits}
 use Rattle.encoder_blocks.proofs.Rooms.{layers-fit}
 
 block-long : (z : Sizes) (w cos sin h l : List Float) → blockRun z w cos sin h ≡ went l → length l ≡ nOf z

@@ -7,7 +7,8 @@ use native.Mathlib.Omega.{arith}
 use lib.ListN.{length}
 use lib.Ieee.{Float}
 use Rattle.buffers.specs.Rows.{tab}
-use Rattle.buffers.specs.Region.{Apart, before, after, region, put, zero32}
+use Rattle.buffers.specs.Region.{region, put, zero32}
+use Rattle.buffers.specs.inner.Apart.{Apart, before, after}
 use Rattle.buffers.proofs.Regions.{length-put, region-put, region-put-same}
 use Rattle.encoder_blocks.specs.declared.Sizes.{Sizes}
 use Rattle.encoder_blocks.specs.Sizes.{hdOf, dimOf, nOf, mOf}
@@ -16,13 +17,13 @@ use Rattle.buffers.specs.Each.{blank}
 use Rattle.encoder_kernels.specs.Finite.{sound}
 use Rattle.encoder_elements.specs.Element.{added, gated, rounded}
 use Rattle.encoder_steps.specs.Run.{fine, answer, thenRun}
-use Rattle.encoder_steps.specs.Step.{Wrote}
+use Rattle.encoder_steps.specs.inner.Step.{Wrote}
 use Rattle.encoder_steps.proofs.Writes.{answer-then, got, long, left}
 use Rattle.encoder_blocks.specs.Block.{squareOf, normed1, normed2, turnedAll, mixed, scored, gateOf, upOf, downOf, attnRun, feedRun, blockRun}
-use Rattle.encoder_blocks.specs.Live.{hAt, qAt, kAt, vAt, gAt, uAt, AttnIn, AttnTurn, AttnMix, FeedIn, FeedOut}
-use Rattle.encoder_blocks.specs.Fits.{BlockFits, ScoreRow, SquareAt}
-use Rattle.encoder_attention.specs.Fits.{KeysFit}
-use Rattle.encoder_attention.specs.Keys.{turnedKeys}
+use Rattle.encoder_blocks.specs.inner.Live.{hAt, qAt, kAt, vAt, gAt, uAt, AttnIn, AttnTurn, AttnMix, FeedIn, FeedOut}
+use Rattle.encoder_blocks.specs.inner.Fits.{BlockFits, ScoreRow, SquareAt}
+use Rattle.encoder_attention.specs.inner.Fits.{KeysFit}
+use Rattle.encoder_attention.specs.inner.Keys.{turnedKeys}
 use Rattle.encoder_attention.proofs.Keys.{length-turned}
 use Rattle.encoder_linear.proofs.Sums.{length-linear}
 use Rattle.encoder_kernels.proofs.Lengths.{length-norm}

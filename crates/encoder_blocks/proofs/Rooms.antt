@@ -7,13 +7,13 @@ use native.Mathlib.Nat.{mul-le-mul}
 use native.Mathlib.Omega.{arith}
 use borrow.Author.Tests.{ltb-true, leb-true, eqb-true, lt-ltb, le-leb, eq-eqb}
 use lib.Dec.{leb, ltb, eqb}
-use Rattle.buffers.specs.Room.{inside}
+use Rattle.buffers.specs.inner.Room.{inside}
 use Rattle.buffers.proofs.Rooms.{both, two}
 use Rattle.encoder_blocks.specs.declared.Sizes.{Sizes}
 use Rattle.encoder_blocks.specs.Sizes.{hdOf, dimOf, nOf, mOf}
 use Rattle.encoder_blocks.specs.Weights.{layerOf}
-use Rattle.encoder_blocks.specs.Room.{sizesFit, lengthsFit, layersFit}
-use Rattle.encoder_blocks.specs.Fits.{LayersFits, SizesFit}
+use Rattle.encoder_blocks.specs.inner.Room.{sizesFit, lengthsFit, layersFit}
+use Rattle.encoder_blocks.specs.inner.Fits.{LayersFits, SizesFit}
 
 -- the products of small sizes
 pub record Products (z : Sizes) : Type 0 where

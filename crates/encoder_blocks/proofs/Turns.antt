@@ -11,7 +11,7 @@ use Rattle.encoder_blocks.specs.Weights.{layerOf}
 use Rattle.encoder_steps.specs.Run.{answer}
 use Rattle.encoder_blocks.specs.Block.{blockRun}
 use Rattle.encoder_blocks.specs.Layers.{layersRun}
-use Rattle.encoder_blocks.specs.Fits.{BlockFits, TurnFits}
+use Rattle.encoder_blocks.specs.inner.Fits.{BlockFits, TurnFits}
 use Rattle.encoder_steps.proofs.Writes.{answer-then}
 
 pub layers-turn : (z : Sizes) (at : ℕ) (w cos sin h p hs hs′ : List Float) (l : ℕ) (ok r : Bool)

@@ -1,7 +1,7 @@
 // Whether what the layers are handed fits. No test forms a number that could wrap.
 ghost use mathlib.Core.Path.{_≡_};
-ghost use Rattle.encoder_blocks.specs.Room.{sizesFit, lengthsFit, layersFit};
-ghost use Rattle.encoder_blocks.specs.Fits.{SizesFit};
+ghost use Rattle.encoder_blocks.specs.inner.Room.{sizesFit, lengthsFit, layersFit};
+ghost use Rattle.encoder_blocks.specs.inner.Fits.{SizesFit};
 use crate::Sizes;
 use buffers::room::inside;
 use buffers::room::rows_inside;

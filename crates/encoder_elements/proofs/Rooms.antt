@@ -4,10 +4,10 @@ use mathlib.Core.Bool.{true, _&&_}
 use mathlib.Core.Path.{_≡_}
 use Prim.Native.Nat.{ℕ, _+_}
 use borrow.Author.Tests.{leb-true, le-leb}
-use Rattle.buffers.specs.Room.{inside, aside}
+use Rattle.buffers.specs.inner.Room.{inside, aside}
 use Rattle.buffers.proofs.Rooms.{both, two, aside-says, aside-is}
-use Rattle.encoder_elements.specs.Room.{pairFits}
-use Rattle.encoder_elements.specs.Fits.{PairFits}
+use Rattle.encoder_elements.specs.inner.Room.{pairFits}
+use Rattle.encoder_elements.specs.inner.Fits.{PairFits}
 
 module _ {lens y z n : ℕ} where
   pub pair-says : pairFits lens y z n ≡ true → PairFits lens y z n

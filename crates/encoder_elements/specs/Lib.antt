@@ -1,3 +1,2 @@
 pub mod Element
-pub mod Room
-pub mod Fits
+pub mod inner

@@ -1,6 +1,6 @@
 // Whether the places that are handed fit. The test forms no number that could wrap.
 ghost use mathlib.Core.Path.{_≡_};
-ghost use Rattle.encoder_elements.specs.Room.{pairFits};
+ghost use Rattle.encoder_elements.specs.inner.Room.{pairFits};
 use buffers::room::aside;
 use buffers::room::inside;
 

@@ -6,7 +6,7 @@ ghost use lib.Ieee.{nan, binary32, add, mul, div, neg};
 ghost use Rattle.buffers.specs.Region.{region, put, one32};
 ghost use Rattle.buffers.specs.Rows.{tab};
 ghost use Rattle.encoder_elements.specs.Element.{gated};
-ghost use Rattle.encoder_elements.specs.Fits.{PairFits};
+ghost use Rattle.encoder_elements.specs.inner.Fits.{PairFits};
 use crate::element::silu;
 use number_exp_tanh::lanes::exp_sixteen;
 

@@ -6,10 +6,10 @@ use Prim.Native.Nat.{ℕ, _+_, _*_, _≤_}
 use native.Mathlib.Omega.{arith}
 use borrow.Author.Tests.{ltb-true, leb-true, eqb-true, lt-ltb, le-leb, eq-eqb}
 use lib.Dec.{leb, ltb, eqb}
-use Rattle.buffers.specs.Room.{inside, aside}
+use Rattle.buffers.specs.inner.Room.{inside, aside}
 use Rattle.buffers.proofs.Rooms.{both, two, aside-says, aside-is}
-use Rattle.encoder_kernels.specs.Room.{normFits, rotateFits}
-use Rattle.encoder_kernels.specs.Fits.{NormFits, RotateFits}
+use Rattle.encoder_kernels.specs.inner.Room.{normFits, rotateFits}
+use Rattle.encoder_kernels.specs.inner.Fits.{NormFits, RotateFits}
 
 module _ {lens lenw x y n dim : ℕ} where
   pub norm-says : normFits lens lenw x y n dim ≡ true → NormFits lens lenw x y n dim

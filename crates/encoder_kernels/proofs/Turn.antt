@@ -7,7 +7,8 @@ use native.Mathlib.Omega.{arith}
 use lib.ListN.{length, getD, set, length-append}
 use lib.Ieee.{Float, nan, binary32, add, mul, neg}
 use Rattle.buffers.specs.Rows.{tab}
-use Rattle.buffers.specs.Region.{before, after, region, put}
+use Rattle.buffers.specs.Region.{region, put}
+use Rattle.buffers.specs.inner.Apart.{before, after}
 use Rattle.buffers.proofs.Regions.{put-set, put-append, getD-put, getD-region}
 use Rattle.buffers.proofs.Lists.{fit, length-tab, put-tab, length-rows}
 use Rattle.encoder_kernels.specs.Rotate.{lowOf, highOf, turned, turnedToken, position, rotateOf}

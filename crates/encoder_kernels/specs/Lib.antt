@@ -1,5 +1,4 @@
 pub mod Finite
 pub mod Norm
 pub mod Rotate
-pub mod Room
-pub mod Fits
+pub mod inner

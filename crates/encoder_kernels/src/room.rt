@@ -1,6 +1,6 @@
 // Whether what a kernel is handed fits. No test forms a number that could wrap.
 ghost use mathlib.Core.Path.{_≡_};
-ghost use Rattle.encoder_kernels.specs.Room.{normFits, rotateFits};
+ghost use Rattle.encoder_kernels.specs.inner.Room.{normFits, rotateFits};
 use buffers::room::aside;
 use buffers::room::rows_inside;
 

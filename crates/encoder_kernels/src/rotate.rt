@@ -4,9 +4,9 @@ ghost use Prim.Native.Nat.{_+_, _*_};
 ghost use lib.ListN.{length};
 ghost use Rattle.buffers.specs.Region.{region, put};
 ghost use Rattle.encoder_kernels.specs.Rotate.{turned, turnedToken, rotateOf};
-ghost use Rattle.buffers.specs.Room.{whereFits};
-ghost use Rattle.encoder_kernels.specs.Room.{rotateFits};
-ghost use Rattle.encoder_kernels.specs.Fits.{HeadFits, TokenFits, RotateFits};
+ghost use Rattle.buffers.specs.inner.Room.{whereFits};
+ghost use Rattle.encoder_kernels.specs.inner.Room.{rotateFits};
+ghost use Rattle.encoder_kernels.specs.inner.Fits.{HeadFits, TokenFits, RotateFits};
 use crate::room::rotate_fits;
 use buffers::part;
 

@@ -8,10 +8,11 @@ use native.Mathlib.Numerals.{add-one}
 use native.Mathlib.Omega.{arith}
 use lib.ListN.{length, length-set, getD}
 use Rattle.buffers.specs.Rows.{tab, rows, grid}
-use Rattle.buffers.specs.Region.{Apart, before, after, region, put}
+use Rattle.buffers.specs.Region.{region, put}
+use Rattle.buffers.specs.inner.Apart.{Apart, before, after}
 use Rattle.buffers.proofs.Regions.{region-set, apart-sub, put-set, length-put, getD-put, getD-put-same}
 use Rattle.buffers.proofs.Lists.{fit, length-tab, getD-tab, put-tab, put-rows}
-use Rattle.encoder_linear.specs.Lanes.{spread, filled}
+use Rattle.encoder_linear.specs.inner.Lanes.{spread, filled}
 
 module _ {A : Type 0} where
   pub spread-ext : (s : List A) (at m n : ℕ) (v u : ℕ → A) → ((i : ℕ) → i < n → v i ≡ u i) → spread s at m n v ≡ spread s at m n u

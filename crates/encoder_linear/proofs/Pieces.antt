@@ -9,13 +9,14 @@ use lib.Arith.{digits-div, digits-mod}
 use lib.ListN.{length, getD}
 use lib.Ieee.{Float, nan, binary32, add, mul}
 use Rattle.buffers.specs.Rows.{tab, rows, grid}
-use Rattle.buffers.specs.Region.{Apart, region, put, zero32}
+use Rattle.buffers.specs.Region.{region, put, zero32}
+use Rattle.buffers.specs.inner.Apart.{Apart}
 use Rattle.buffers.proofs.Regions.{getD-put-same, put-put, put-append, region-put, region-put-same, region-region, length-region, getD-region, apart-sub}
 use Rattle.buffers.proofs.Lists.{fit, length-tab, getD-tab, tab-ext, tab-mul, length-rows, getD-rows, rows-ext, rows-add}
 use Rattle.buffers.specs.Each.{blank}
 use Rattle.encoder_linear.specs.Linear.{sumOf, linearRow, linearOf}
-use Rattle.encoder_linear.specs.Lanes.{sumFrom, laneOf, cellOf, goneSum, spread, filled, product, begun, goneOn}
-use Rattle.encoder_linear.specs.Fits.{ColumnsFits, ColumnAt}
+use Rattle.encoder_linear.specs.inner.Lanes.{sumFrom, laneOf, cellOf, goneSum, spread, filled, product, begun, goneOn}
+use Rattle.encoder_linear.specs.inner.Fits.{ColumnsFits, ColumnAt}
 use Rattle.encoder_linear.proofs.Sums.{sum-ext, length-linear}
 use Rattle.encoder_linear.proofs.Fills.{spread-ext, spread-one, filled-ext, filled-in, filled-out, filled-add}
 

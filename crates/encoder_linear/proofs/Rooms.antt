@@ -5,10 +5,10 @@ use mathlib.Core.Path.{_≡_}
 use Prim.Native.Nat.{ℕ, _+_, _*_, _≤_}
 use native.Mathlib.Omega.{arith}
 use borrow.Author.Tests.{leb-true, le-leb}
-use Rattle.buffers.specs.Room.{inside, aside}
+use Rattle.buffers.specs.inner.Room.{inside, aside}
 use Rattle.buffers.proofs.Rooms.{both, two, aside-says, aside-is}
-use Rattle.encoder_linear.specs.Room.{linearFits, fromFits, weighFits}
-use Rattle.encoder_linear.specs.Fits.{LinearFits, FromFits, WeighFits}
+use Rattle.encoder_linear.specs.inner.Room.{linearFits, fromFits, weighFits}
+use Rattle.encoder_linear.specs.inner.Fits.{LinearFits, FromFits, WeighFits}
 
 module _ {lens lenw x y n nin nout : ℕ} where
   pub linear-says : linearFits lens lenw x y n nin nout ≡ true → LinearFits lens lenw x y n nin nout

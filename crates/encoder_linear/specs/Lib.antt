@@ -1,5 +1,3 @@
 pub mod Linear
-pub mod Lanes
 pub mod Weighed
-pub mod Room
-pub mod Fits
+pub mod inner

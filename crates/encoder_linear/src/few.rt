@@ -5,8 +5,8 @@ ghost use Prim.Native.Nat.{_+_, _*_, _/_, _%_};
 ghost use lib.ListN.{length, getD};
 ghost use lib.Ieee.{nan, binary32, add, mul};
 ghost use Rattle.buffers.specs.Rows.{tab};
-ghost use Rattle.encoder_linear.specs.Lanes.{cellOf, goneSum, filled};
-ghost use Rattle.encoder_linear.specs.Fits.{CellFits, CellsFit, UnpackFits, FourAt};
+ghost use Rattle.encoder_linear.specs.inner.Lanes.{cellOf, goneSum, filled};
+ghost use Rattle.encoder_linear.specs.inner.Fits.{CellFits, CellsFit, UnpackFits, FourAt};
 use crate::lanes::copy_spread;
 use crate::lanes::pack;
 

@@ -4,8 +4,8 @@ ghost use Prim.Native.Nat.{_+_, _*_, _≤_};
 ghost use lib.ListN.{length, getD};
 ghost use lib.Ieee.{nan, binary32, add, mul};
 ghost use Rattle.buffers.specs.Rows.{tab};
-ghost use Rattle.encoder_linear.specs.Lanes.{laneOf, goneSum, spread, filled};
-ghost use Rattle.encoder_linear.specs.Fits.{TwoFit, StrideFits, PackFits, ColumnAt};
+ghost use Rattle.encoder_linear.specs.inner.Lanes.{laneOf, goneSum, spread, filled};
+ghost use Rattle.encoder_linear.specs.inner.Fits.{TwoFit, StrideFits, PackFits, ColumnAt};
 use buffers::part;
 
 // Each lane and its product with t.

@@ -1,6 +1,6 @@
 // Whether what a sum is handed fits. No test forms a number that could wrap.
 ghost use mathlib.Core.Path.{_≡_};
-ghost use Rattle.encoder_linear.specs.Room.{linearFits, fromFits, weighFits};
+ghost use Rattle.encoder_linear.specs.inner.Room.{linearFits, fromFits, weighFits};
 use buffers::room::aside;
 use buffers::room::inside;
 use buffers::room::rows_inside;

@@ -1,7 +1,8 @@
 // A record's call. v holds its 25 numbers, in the order that main.rt lists.
 ghost use mathlib.Core.Path.{_≡_};
 ghost use lib.ListN.{length};
-ghost use Rattle.encoder_replay.specs.Run.{answerOf, settingsOf, inputsFrom, callOf, runOf, Small, Room};
+ghost use Rattle.encoder_replay.specs.Run.{answerOf, settingsOf, inputsFrom, callOf, runOf};
+ghost use Rattle.encoder_replay.specs.inner.Room.{Small, Room};
 use encoder::Encoded;
 use encoder_settings::EncoderSettings;
 use picture_limits::PictureSettings;

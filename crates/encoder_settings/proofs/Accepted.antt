@@ -18,7 +18,8 @@ use Rattle.picture_limits.proofs.Shapes.{shaped-says}
 use Rattle.encoder_settings.specs.declared.EncoderSettings.{EncoderSettings}
 use Rattle.encoder_settings.specs.declared.Checked.{Checked}
 use Rattle.encoder_settings.specs.declared.Checked.the-variants.{Accepted}
-use Rattle.encoder_settings.specs.Settings.{mergeArea, allowed, weightFloats, tableFloats, scratchFloats, unless, onward, lengths, checkedOf, Bounded, Counted}
+use Rattle.encoder_settings.specs.Settings.{mergeArea, allowed, weightFloats, tableFloats, scratchFloats, unless, onward, lengths, checkedOf}
+use Rattle.encoder_settings.specs.inner.Bounds.{Bounded, Counted}
 use Rattle.encoder_settings.proofs.Bounds.{Allowed, allowed-says, bounded, counted}
 
 passed : (b : Bool) (r : Refusal) (a : Checked) (t o : ℕ) → unless b r a ≡ Accepted t o → (b ≡ true) × (a ≡ Accepted t o)

@@ -16,7 +16,8 @@ use Rattle.picture_limits.proofs.Sides as Sides
 use Rattle.picture_limits.proofs.Sides.{within-says}
 use Rattle.encoder_settings.specs.declared.EncoderSettings.{EncoderSettings}
 use Rattle.encoder_settings.specs.Weights.{layerFloats}
-use Rattle.encoder_settings.specs.Settings.{ranged, scalingAllowed, allowed, Bounded, Counted}
+use Rattle.encoder_settings.specs.Settings.{ranged, scalingAllowed, allowed}
+use Rattle.encoder_settings.specs.inner.Bounds.{Bounded, Counted}
 
 both : (a b : Bool) → a && b ≡ true → (a ≡ true) × (b ≡ true)
 both a b e = (and-left a b e, and-right a b e)

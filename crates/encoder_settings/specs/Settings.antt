@@ -1,6 +1,6 @@
 -- Allowed settings, how long each buffer has to be, and the answer of the refusals 1, 6, 7, 9, 10, 5, 11. Assumes nothing.
 use mathlib.Core.Bool.{Bool, true, false, _&&_}
-use Prim.Native.Nat.{ℕ, _+_, _*_, _/_, _%_, _≤_}
+use Prim.Native.Nat.{ℕ, _+_, _*_, _/_, _%_}
 use lib.Dec.{leb, eqb}
 use lib.Ieee.{lt, inf}
 use Rattle.buffers.specs.Region.{zero32}
@@ -71,32 +71,3 @@ unfoldable pub checkedOf : EncoderSettings → ℕ → ℕ → ℕ → ℕ → �
 checkedOf s gh gw patches weights cos sin out scratch =
     unless (allowed s) Setting
     (onward (shaped (s .picture) gh gw patches) (λ t. lengths s t (t / mergeArea (s .picture)) weights cos sin out scratch))
-
--- what allowed settings say of the sizes and their products
-pub record Bounded (s : EncoderSettings) : Type 0 where
-  pub patch-low : 1 ≤ s .picture .«patch_size»
-  pub merge-low : 1 ≤ s .picture .«spatial_merge_size»
-  pub merge-area : mergeArea (s .picture) ≤ 16
-  pub most-high : most (s .picture) ≤ 2048
-  pub patch-area : s .picture .«patch_size» * s .picture .«patch_size» ≤ 1024
-  pub hidden-high : s .«hidden_size» ≤ 2048
-  pub inner-high : s .«intermediate_size» ≤ 8192
-  pub text-high : s .«text_hidden_size» ≤ 8192
-  pub squares : s .«hidden_size» * s .«hidden_size» ≤ 4194304
-  pub outer : s .«hidden_size» * s .«intermediate_size» ≤ 16777216
-  pub inner : s .«intermediate_size» * s .«hidden_size» ≤ 16777216
-  pub projection : s .«hidden_size» * patchFloats (s .picture .«patch_size») ≤ 6291456
-  pub layers : s .«num_layers» * layerFloats (s .«hidden_size») (s .«intermediate_size») ≤ 4294967296
-  pub merged : s .«hidden_size» * mergeArea (s .picture) ≤ 32768
-  pub merging : s .«hidden_size» * (s .«hidden_size» * mergeArea (s .picture)) ≤ 67108864
-  pub linear-1 : s .«text_hidden_size» * s .«hidden_size» ≤ 16777216
-  pub linear-2 : s .«text_hidden_size» * s .«text_hidden_size» ≤ 67108864
-  pub positions : most (s .picture) * most (s .picture) ≤ 4194304
-  pub table : most (s .picture) * most (s .picture) * s .«head_dim» ≤ 1073741824
-
--- the same of t tokens of which o are left
-pub record Counted (s : EncoderSettings) (t o : ℕ) : Type 0 where
-  pub tokens : t ≤ 4194304
-  pub hiddens : t * s .«hidden_size» ≤ 8589934592
-  pub inners : t * s .«intermediate_size» ≤ 34359738368
-  pub texts : o * s .«text_hidden_size» ≤ 34359738368

@@ -1,7 +1,8 @@
 // What a call's settings and lengths say before anything is read or written.
 ghost use mathlib.Core.Path.{_≡_};
 ghost use Rattle.encoder_settings.specs.Settings as S;
-ghost use Rattle.encoder_settings.specs.Settings.{ranged, scalingAllowed, allowed, weightFloats, tableFloats, scratchFloats, checkedOf, Bounded, Counted};
+ghost use Rattle.encoder_settings.specs.Settings.{ranged, scalingAllowed, allowed, weightFloats, tableFloats, scratchFloats, checkedOf};
+ghost use Rattle.encoder_settings.specs.inner.Bounds.{Bounded, Counted};
 use crate::Checked;
 use crate::EncoderSettings;
 use picture_limits::Refusal;

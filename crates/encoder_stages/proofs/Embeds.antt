@@ -11,10 +11,11 @@ use Rattle.encoder_blocks.specs.declared.Sizes.{Sizes}
 use Rattle.encoder_blocks.specs.Sizes.{dimOf, nOf}
 use Rattle.encoder_elements.specs.Element.{rounded}
 use Rattle.encoder_steps.specs.Run.{Run, fine, answer, thenRun}
-use Rattle.encoder_stages.specs.Embed.{patchConv, lnPre, inputsFine, embedRun}
-use Rattle.encoder_steps.specs.Step.{Wrote}
-use Rattle.encoder_blocks.specs.Live.{hAt}
-use Rattle.encoder_stages.specs.Live.{Embedded}
+use Rattle.encoder_stages.specs.Embed.{patchConv, lnPre, embedRun}
+use Rattle.encoder_stages.specs.inner.Inputs.{inputsFine}
+use Rattle.encoder_steps.specs.inner.Step.{Wrote}
+use Rattle.encoder_blocks.specs.inner.Live.{hAt}
+use Rattle.encoder_stages.specs.inner.Live.{Embedded}
 use Rattle.encoder_linear.proofs.Sums.{length-linear}
 use Rattle.encoder_kernels.proofs.Lengths.{length-norm}
 use Rattle.encoder_elements.proofs.Lengths.{length-rounded}

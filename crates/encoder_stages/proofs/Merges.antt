@@ -11,8 +11,9 @@ use Rattle.buffers.specs.Rows.{tab, rows}
 use Rattle.buffers.specs.Region.{region, put}
 use Rattle.buffers.proofs.Regions.{getD-put, getD-region, apart-sub}
 use Rattle.buffers.proofs.Lists.{fit, length-tab, put-tab, tab-ext, rows-ext, tab-mul, rows-mul}
-use Rattle.encoder_stages.specs.Merge.{placeOf, mergedToken, mergeOf, sourceOf, mergedFirst}
-use Rattle.encoder_stages.specs.Fits.{SourceFits, MergeFits}
+use Rattle.encoder_stages.specs.Merge.{placeOf, mergedToken, mergeOf}
+use Rattle.encoder_stages.specs.inner.Source.{sourceOf, mergedFirst}
+use Rattle.encoder_stages.specs.inner.Fits.{SourceFits, MergeFits}
 
 pack : {i j m n : ℕ} → i < m → j < n → i * n + j < m * n
 pack {i} {j} {m} {n} a b = let f = fit n a in omega arith

@@ -16,8 +16,8 @@ use Rattle.encoder_elements.specs.Element.{gelued}
 use Rattle.encoder_stages.specs.Merge.{placeOf, mergedToken, mergeOf}
 use Rattle.encoder_steps.specs.Run.{fine, answer}
 use Rattle.encoder_stages.specs.Project.{projNorm, mergingLayer, linear1, linear2, projectRun}
-use Rattle.encoder_steps.specs.Step.{Wrote}
-use Rattle.encoder_stages.specs.Fits.{ProjFits}
+use Rattle.encoder_steps.specs.inner.Step.{Wrote}
+use Rattle.encoder_stages.specs.inner.Fits.{ProjFits}
 use Rattle.encoder_linear.proofs.Sums.{length-linear}
 use Rattle.encoder_kernels.proofs.Lengths.{length-norm}
 use Rattle.encoder_elements.proofs.Lengths.{length-gelued}

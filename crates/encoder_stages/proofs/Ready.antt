@@ -5,7 +5,7 @@ use Prim.Native.Nat.{ℕ, zero, suc, _+_, _*_, _/_, _%_, _≤_, _<_}
 use native.Mathlib.Nat.{suc-mul, mul-le-mul-right, mul-comm, mul-left-comm, mul-mul-mul-comm, mul-pos, mul-div-cancel, div-le-self, div-mul-cancel, dvd-of-mod-eq-zero, le-div-iff-mul-le}
 use native.Mathlib.Omega.{arith}
 use lib.Ieee.{Float}
-use Rattle.buffers.specs.Region.{before}
+use Rattle.buffers.specs.inner.Apart.{before}
 use Rattle.picture_limits.specs.Patches.{patchFloats}
 use Rattle.picture_limits.specs.Shape.{most}
 use Rattle.encoder_settings.specs.declared.EncoderSettings.{EncoderSettings}
@@ -13,10 +13,10 @@ use Rattle.encoder_settings.specs.Settings.{mergeArea}
 use Rattle.encoder_settings.proofs.Accepted.{Lengths, Ready}
 use Rattle.encoder_blocks.specs.declared.Sizes.{Sizes}
 use Rattle.encoder_blocks.specs.Sizes.{hdOf, dimOf}
-use Rattle.encoder_stages.specs.Live.{regionsOf}
+use Rattle.encoder_stages.specs.inner.Live.{regionsOf}
 use Rattle.encoder_stages.specs.Forward.{sizesOf, placesOf, runOf, forwardRun}
-use Rattle.encoder_blocks.specs.Fits.{TurnFits, LayersFits}
-use Rattle.encoder_stages.specs.Fits.{PlacesFit, RegionsFit, EmbedFits, SourceFits, MergeFits, ProjFits, RunFits}
+use Rattle.encoder_blocks.specs.inner.Fits.{TurnFits, LayersFits}
+use Rattle.encoder_stages.specs.inner.Fits.{PlacesFit, RegionsFit, EmbedFits, SourceFits, MergeFits, ProjFits, RunFits}
 
 -- the two halves of a head
 halves : (d : ℕ) → d % 4 ≡ 0 → d / 2 + d / 2 ≡ d

@@ -15,12 +15,13 @@ use Rattle.encoder_linear.proofs.Sums.{length-linear}
 use Rattle.encoder_elements.specs.Element.{gelued}
 use Rattle.encoder_steps.specs.Run.{went, fine, answer, thenRun}
 use Rattle.encoder_steps.proofs.Writes.{answer-went, then-went}
-use Rattle.encoder_stages.specs.Embed.{inputsFine, embedRun}
+use Rattle.encoder_stages.specs.Embed.{embedRun}
+use Rattle.encoder_stages.specs.inner.Inputs.{inputsFine}
 use Rattle.encoder_blocks.specs.Layers.{layersRun}
 use Rattle.encoder_stages.specs.Merge.{mergeOf}
 use Rattle.encoder_stages.specs.Project.{projNorm, mergingLayer, linear1, linear2, projectRun}
-use Rattle.encoder_blocks.specs.Live.{hAt}
-use Rattle.encoder_stages.specs.Live.{regionsOf, Embedded}
+use Rattle.encoder_blocks.specs.inner.Live.{hAt}
+use Rattle.encoder_stages.specs.inner.Live.{regionsOf, Embedded}
 use Rattle.encoder_stages.specs.Forward.{sizesOf, placesOf, runOf}
 use Rattle.encoder_stages.proofs.Embeds.{embed-run, three}
 

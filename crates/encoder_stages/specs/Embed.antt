@@ -1,5 +1,4 @@
 -- Patch projection and ln_pre, each rounded to bf16; f floats a patch. Assumes nothing.
-use mathlib.Core.Bool.{Bool, _&&_}
 use mathlib.Core.List.{List, [], _∷_}
 use Prim.Native.Nat.{ℕ, _*_}
 use lib.Ieee.{Float}
@@ -7,7 +6,6 @@ use Rattle.buffers.specs.Region.{region}
 use Rattle.encoder_blocks.specs.declared.Sizes.{Sizes}
 use Rattle.encoder_blocks.specs.Sizes.{dimOf, nOf}
 use Rattle.encoder_linear.specs.Linear.{linearOf}
-use Rattle.encoder_kernels.specs.Finite.{sound}
 use Rattle.encoder_elements.specs.Element.{rounded}
 use Rattle.encoder_kernels.specs.Norm.{normOf}
 use Rattle.encoder_steps.specs.Run.{Run, checked}
@@ -17,10 +15,6 @@ patchConv z f w x = linearOf (z .tokens) f (dimOf z) (region w 0 (dimOf z * f)) 
 
 unfoldable pub lnPre : Sizes → ℕ → List Float → List Float → List Float
 lnPre z f w h = normOf (z .tokens) (dimOf z) (region w (dimOf z * f) (dimOf z)) h
-
--- patches, weights and tables are examined first
-abbrev pub inputsFine : List Float → List Float → List Float → List Float → Bool
-inputsFine x w cos sin = ((sound x && sound w) && sound cos) && sound sin
 
 unfoldable pub embedRun : Sizes → ℕ → List Float → List Float → List Float → List Float → Run
 embedRun z f w cos sin x =

@@ -1,7 +1,6 @@
 pub mod Embed
-pub mod Live
 pub mod Merge
 pub mod Project
 pub mod Forward
 pub mod Vectors
-pub mod Fits
+pub mod inner

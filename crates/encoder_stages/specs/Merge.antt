@@ -1,7 +1,7 @@
 -- The spatial merge: output token (bh, bw) takes, at c * merge² + mh * merge + mw, channel c of token
 -- (bh * merge + mh, bw * merge + mw). Assumes nothing.
 use mathlib.Core.List.{List}
-use Prim.Native.Nat.{ℕ, _+_, _*_, _/_, _%_}
+use Prim.Native.Nat.{ℕ, _+_, _*_, _/_}
 use lib.ListN.{getD}
 use lib.Ieee.{Float, nan}
 use Rattle.buffers.specs.Rows.{tab, rows}
@@ -17,15 +17,3 @@ mergedToken merge gw dim x bh bw =
 
 unfoldable pub mergeOf : ℕ → ℕ → ℕ → ℕ → List Float → List Float
 mergeOf merge gh gw dim x = rows (gh / merge) (λ bh. rows (gw / merge) (λ bw. mergedToken merge gw dim x bh bw))
-
--- where place p of the merged rows takes its value from, by its output token, its channel and its place in the square
-unfoldable pub sourceOf : ℕ → ℕ → ℕ → ℕ → ℕ
-sourceOf merge gw dim p =
-    let o = p / (dim * (merge * merge)) in
-    let r = p % (dim * (merge * merge)) in
-    let k = r % (merge * merge) in
-    placeOf gw dim (o / (gw / merge) * merge + k / merge) (o % (gw / merge) * merge + k % merge) (r / (merge * merge))
-
--- the first n of the merged values
-unfoldable pub mergedFirst : ℕ → ℕ → ℕ → ℕ → List Float → List Float
-mergedFirst n merge gw dim x = tab n (λ p. getD x (sourceOf merge gw dim p) nan)

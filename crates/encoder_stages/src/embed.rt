@@ -2,11 +2,11 @@
 ghost use mathlib.Core.Path.{_≡_};
 ghost use lib.ListN.{length};
 ghost use Rattle.encoder_linear.specs.Linear.{linearOf};
-ghost use Rattle.encoder_linear.specs.Fits.{FromFits};
-ghost use Rattle.encoder_steps.specs.Step.{Wrote};
-ghost use Rattle.encoder_stages.specs.Live.{Embedded};
-ghost use Rattle.encoder_stages.specs.Embed.{inputsFine};
-ghost use Rattle.encoder_stages.specs.Fits.{EmbedFits};
+ghost use Rattle.encoder_linear.specs.inner.Fits.{FromFits};
+ghost use Rattle.encoder_steps.specs.inner.Step.{Wrote};
+ghost use Rattle.encoder_stages.specs.inner.Live.{Embedded};
+ghost use Rattle.encoder_stages.specs.inner.Inputs.{inputsFine};
+ghost use Rattle.encoder_stages.specs.inner.Fits.{EmbedFits};
 use buffers::part;
 use encoder_blocks::Sizes;
 use encoder_kernels::finite::finite;

@@ -1,9 +1,9 @@
 // The sizes of a call, and the places in weights and scratch that follow from them.
 ghost use mathlib.Core.Path.{_≡_};
 ghost use Prim.Native.Nat.{_≤_};
-ghost use Rattle.encoder_stages.specs.Live.{regionsOf};
+ghost use Rattle.encoder_stages.specs.inner.Live.{regionsOf};
 ghost use Rattle.encoder_stages.specs.Forward.{sizesOf, placesOf};
-ghost use Rattle.encoder_stages.specs.Fits.{PlacesFit, RegionsFit};
+ghost use Rattle.encoder_stages.specs.inner.Fits.{PlacesFit, RegionsFit};
 use crate::Places;
 use crate::Regions;
 use encoder_blocks::Sizes;

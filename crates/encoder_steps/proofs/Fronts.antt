@@ -7,8 +7,9 @@ use lib.ListN.{length, getD, set, drop, length-append, take-append-drop}
 use lib.Seq.{drop-append-seam}
 use lib.Ieee.{Float, nan}
 use Rattle.buffers.specs.Rows.{tab}
-use Rattle.buffers.specs.Region.{after, region, put, over, zero32, cleared}
-use Rattle.buffers.specs.Room.{inside, whereFits}
+use Rattle.buffers.specs.Region.{region, put, over, zero32, cleared}
+use Rattle.buffers.specs.inner.Apart.{after}
+use Rattle.buffers.specs.inner.Room.{inside, whereFits}
 use Rattle.buffers.proofs.Lists.{length-tab, tab-add, tab-self, tab-step-0}
 use Rattle.buffers.proofs.Regions.{length-put, length-region, region-put-same, getD-put, getD-region, put-append, put-all, put-over, put-put}
 use Rattle.buffers.proofs.Rooms.{written}

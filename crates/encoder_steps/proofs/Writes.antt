@@ -7,8 +7,9 @@ use native.Mathlib.Nat.{le-refl}
 use borrow.Author.Tests.{le-leb}
 use lib.ListN.{length}
 use lib.Ieee.{Float}
-use Rattle.buffers.specs.Region.{Apart, region, put}
-use Rattle.buffers.specs.Room.{inside, whereFits}
+use Rattle.buffers.specs.Region.{region, put}
+use Rattle.buffers.specs.inner.Apart.{Apart}
+use Rattle.buffers.specs.inner.Room.{inside, whereFits}
 use Rattle.buffers.proofs.Regions.{length-put, region-put, region-put-same}
 use Rattle.buffers.proofs.Rooms.{two}
 use Rattle.encoder_linear.specs.Linear.{linearOf}
@@ -16,17 +17,17 @@ use Rattle.encoder_linear.proofs.Sums.{length-linear}
 use Rattle.encoder_linear.proofs.Rooms.{linear-fits}
 use Rattle.encoder_elements.specs.Element.{added, gated, rounded}
 use Rattle.encoder_kernels.specs.Finite.{sound}
-use Rattle.encoder_kernels.specs.Fits.{NormFits}
-use Rattle.encoder_elements.specs.Fits.{PairFits}
+use Rattle.encoder_kernels.specs.inner.Fits.{NormFits}
+use Rattle.encoder_elements.specs.inner.Fits.{PairFits}
 use Rattle.encoder_kernels.specs.Norm.{normOf}
-use Rattle.encoder_kernels.specs.Room.{normFits}
-use Rattle.encoder_elements.specs.Room.{pairFits}
+use Rattle.encoder_kernels.specs.inner.Room.{normFits}
+use Rattle.encoder_elements.specs.inner.Room.{pairFits}
 use Rattle.encoder_kernels.proofs.Lengths.{length-norm}
 use Rattle.encoder_elements.proofs.Lengths.{length-added, length-gated, length-rounded}
 use Rattle.encoder_kernels.proofs.Rooms.{norm-fits}
 use Rattle.encoder_elements.proofs.Rooms.{pair-fits}
 use Rattle.encoder_steps.specs.Run.{Run, stopped, went, answer, thenRun}
-use Rattle.encoder_steps.specs.Step.{fineAt, matrixFits, MatrixAt, Tried, Wrote}
+use Rattle.encoder_steps.specs.inner.Step.{fineAt, matrixFits, MatrixAt, Tried, Wrote}
 
 pub answer-then : (a b : Bool) (l m : List Float) (f : List Float → Run) → f l ≡ answer b m → answer (a && b) m ≡ thenRun (answer a l) f
 answer-then true b l m f e = sym e

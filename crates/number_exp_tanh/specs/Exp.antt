@@ -1,7 +1,7 @@
 -- E: each operation is an f64's, rounded once, in the rule's order. Assumes nothing.
 use Prim.Native.Nat.{ℕ, zero, suc}
 use lib.IntN.{pos}
-use mathlib.Core.Bool.{Bool, false, not, cond, _&&_}
+use mathlib.Core.Bool.{false, cond}
 use lib.Ieee.{Float, nan, inf, fin, binary32, binary64, minus, neg, add, sub, mul, div, le, ne, ofInt, ofBits, toBits, toUnsigned}
 use Rattle.number_floats.specs.Whole.{oneHalf, floor}
 use Rattle.number_floats.specs.Narrow.{narrow}
@@ -44,10 +44,6 @@ top = ofBits binary32 0x42B2_0000
 
 abbrev pub bottom : Float
 bottom = neg (ofBits binary32 0x42D0_0000)
-
--- x is a number between them
-abbrev pub between : Float → Bool
-between x = not (ne x x) && (not (le top x) && not (le x bottom))
 
 unfoldable pub E : Float → Float
 E x =

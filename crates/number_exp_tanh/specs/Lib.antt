@@ -1,2 +1,3 @@
 pub mod Exp
 pub mod Tanh
+pub mod inner

@@ -1,6 +1,6 @@
 // E, the exponential of the rules, and F, its f64 before narrowing.
 ghost use mathlib.Core.Path.{_≡_};
-ghost use Rattle.number_floats.specs.Whole.{AtMost};
+ghost use Rattle.number_floats.specs.inner.Bounds.{AtMost};
 ghost use Rattle.number_exp_tanh.specs.Exp.{one, series, twoTo, kOf, rWith, F, E, expBits};
 
 // 2^k for a whole number k.

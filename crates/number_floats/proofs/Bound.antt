@@ -13,7 +13,8 @@ use lib.Ieee.Fits.{round-is, down-pos, up-pos}
 use lib.Ieee.Exact.{HasValue}
 use lib.Ieee.Back.{round-whole}
 use lib.Ieee.Order.{round-mono}
-use Rattle.number_floats.specs.Whole.{AtMost, floor}
+use Rattle.number_floats.specs.Whole.{floor}
+use Rattle.number_floats.specs.inner.Bounds.{AtMost}
 
 -- ---- the sign does not change the size
 neg-odd : (d : ℕ) (q k l : ℕ) → odd d true q k l ≡ neg (odd d false q k l)

@@ -1,3 +1,4 @@
 pub mod Size
 pub mod Narrow
 pub mod Whole
+pub mod inner

@@ -1,5 +1,5 @@
 -- Whole numbers near an f64. Assumes nothing.
-use Prim.Native.Nat.{ℕ, _+_, _-_, _*_, _/_, _^_, _≤_, _<_}
+use Prim.Native.Nat.{ℕ, _+_, _-_, _*_, _/_}
 use mathlib.Core.Bool.{Bool, true, false}
 use lib.Ieee.{Float, nan, inf, fin, binary64, ofBits, up, down, round}
 
@@ -26,18 +26,3 @@ abbrev pub away : Float → Float
 away nan = nan
 away (inf s) = inf s
 away (fin s m e) = round binary64 s (awaySize (m * up e) (down e)) 1
-
--- ---- bounds that inner functions ask for
-
--- z is a number from 0 to below 2 ^ 52
-abbrev pub Small : Float → Type 0
-Small nan = ⊥
-Small (inf s) = ⊥
-Small (fin true m e) = ⊥
-Small (fin false m e) = m * up e < 2 ^ 52 * down e
-
--- x is at most n in size
-abbrev pub AtMost : ℕ → Float → Type 0
-AtMost n nan = ⊥
-AtMost n (inf s) = ⊥
-AtMost n (fin s m e) = m * up e ≤ n * down e

@@ -1,7 +1,8 @@
 // Whole numbers near an f64, and Rust's `as` from an f64.
 ghost use mathlib.Core.Path.{_≡_};
 ghost use lib.Ieee as Ieee;
-ghost use Rattle.number_floats.specs.Whole.{floor, away, Small};
+ghost use Rattle.number_floats.specs.Whole.{floor, away};
+ghost use Rattle.number_floats.specs.inner.Bounds.{Small};
 
 // The largest whole number not above y. A zero keeps its sign, as in Rust's `floor`.
 pub fn floor_f64(y: f64) -> f64

@@ -3,3 +3,4 @@ pub mod Settings
 pub mod Sides
 pub mod Patches
 pub mod Shape
+pub mod inner

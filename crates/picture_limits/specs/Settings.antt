@@ -1,6 +1,6 @@
 -- Allowed settings and sides. Assumes nothing.
 use mathlib.Core.Bool.{Bool, _&&_}
-use Prim.Native.Nat.{ℕ, _*_, _≤_}
+use Prim.Native.Nat.{ℕ, _*_}
 use lib.Dec.{leb}
 use Rattle.picture_limits.specs.declared.PictureSettings.{PictureSettings}
 
@@ -18,8 +18,3 @@ sided h w = within 1 8192 h && within 1 8192 w
 -- A = patch × merge
 abbrev pub align : PictureSettings → ℕ
 align s = s .«patch_size» * s .«spatial_merge_size»
-
--- what the test of a grid's side asks
-pub record Divides (s : PictureSettings) : Type 0 where
-  pub patch-low : 1 ≤ s .«patch_size»
-  pub merge-low : 1 ≤ s .«spatial_merge_size»

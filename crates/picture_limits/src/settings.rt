@@ -4,7 +4,8 @@ use crate::Refusal;
 use crate::Shape;
 ghost use mathlib.Core.Path.{_≡_};
 ghost use Rattle.picture_limits.specs.Refusal as S;
-ghost use Rattle.picture_limits.specs.Settings.{allowed, sided, Divides};
+ghost use Rattle.picture_limits.specs.Settings.{allowed, sided};
+ghost use Rattle.picture_limits.specs.inner.Divides.{Divides};
 ghost use Rattle.picture_limits.specs.Shape.{gridAllowed, shaped};
 
 // The paper's number of a refusal.

@@ -11,7 +11,7 @@ use Rattle.picture_patches.specs.declared.frame.Frame.{Frame}
 use Rattle.picture_resize.specs.Resize.{pixel, resizedAt}
 use Rattle.picture_samples.specs.Samples.{value}
 use Rattle.picture_patches.specs.Patches.{patchRow}
-use Rattle.picture_patches.specs.Frame.{Framed, seen}
+use Rattle.picture_patches.specs.inner.Frame.{Framed, seen}
 use Rattle.picture_resize.proofs.Same.{Bytes, pixel-same}
 
 module _ (f : Frame) (rgb : List ℕ) (F : Framed f (length rgb)) (b : Bytes rgb) (e : f .plain ≡ true) where

@@ -6,11 +6,12 @@ use native.Mathlib.Omega.{arith}
 use lib.ListN.{length, getD}
 use lib.Ieee.{Float, nan}
 use Rattle.buffers.specs.Rows.{tab}
-use Rattle.buffers.specs.Region.{put, before}
+use Rattle.buffers.specs.Region.{put}
+use Rattle.buffers.specs.inner.Apart.{before}
 use Rattle.buffers.proofs.Regions.{length-put, getD-put, getD-put-same}
 use Rattle.buffers.proofs.Lists.{length-tab, getD-tab}
 use Rattle.picture_resize.specs.Resize.{near}
-use Rattle.picture_patches.specs.Frame.{Placed}
+use Rattle.picture_patches.specs.inner.Frame.{Placed}
 
 module _ {A : Type 0} (d : A) (s t u : List A) (f g : ℕ → A) (m n : ℕ) (e : t ≡ put s 0 (tab m f)) (i : u ≡ put t 2048 (tab n g)) (M : m ≤ 2048) (N : n ≤ 2048) (L : 4096 ≤ length s) where
   long : length t ≡ length s

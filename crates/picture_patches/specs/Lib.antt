@@ -1,3 +1,3 @@
 pub mod Patches
-pub mod Frame
 pub mod Resized
+pub mod inner

@@ -5,14 +5,15 @@ use picture_resize::Near;
 use picture_resize::near_of;
 use picture_samples::samples;
 ghost use mathlib.Core.Path.{_≡_};
-ghost use Prim.Native.Nat.{ℕ, _+_, _*_, _≤_, _<_};
+ghost use Prim.Native.Nat.{_+_, _*_, _≤_, _<_};
 ghost use lib.ListN.{length};
 ghost use Rattle.buffers.specs.Rows.{tab};
 ghost use Rattle.buffers.specs.Region.{put};
-ghost use Rattle.picture_samples.specs.Samples.{value, entry, Clean};
+ghost use Rattle.picture_samples.specs.Samples.{value, entry};
+ghost use Rattle.picture_samples.specs.inner.Clean.{Clean};
 ghost use Rattle.picture_resize.specs.Resize.{near, pixel};
 ghost use Rattle.picture_patches.specs.Patches.{patchRow, patchChannel, patchAt, patchLine, patches};
-ghost use Rattle.picture_patches.specs.Frame.{Framed, Placed, Ready, seen};
+ghost use Rattle.picture_patches.specs.inner.Frame.{Framed, Placed, Ready, seen};
 ghost use Rattle.picture_patches.specs.Resized.{fits, patchesOver};
 
 // The sides of a picture, of its target and of a patch; `plain` where the target is the picture.

@@ -12,7 +12,8 @@ use lib.Dec.{lit≤, lit<}
 use lib.ListN.{length, getD}
 use lib.Ieee.{Float, nan, inf, fin, up, down, binary64, add, sub, mul, div, lt, ofInt, ofBits, toUnsigned}
 use Rattle.number_floats.specs.Whole.{floor}
-use Rattle.number_floats.specs.Whole.{away, Small}
+use Rattle.number_floats.specs.Whole.{away}
+use Rattle.number_floats.specs.inner.Bounds.{Small}
 use Rattle.picture_resize.specs.declared.Near.{Near}
 use Rattle.buffers.specs.Rows.{tab, rows}
 use Rattle.picture_resize.specs.Resize.{whole, one, place, lowOf, nearTo, near, blend, clamp, toByte, pixel, mix, resizedAt}

@@ -11,8 +11,9 @@ use lib.Ieee.{Float, nan, binary32, add, mul, fits, ofBits, toBits, nanBits}
 use lib.Ieee.Bits.{ofBits-toBits}
 use Rattle.buffers.specs.Rows.{tab, rows}
 use Rattle.buffers.proofs.Lists.{fit, length-tab, length-rows, rows-ext, rows-mul, tab-ext}
-use Rattle.picture_samples.specs.Samples.{sampleBits, sampleTable, value, byteOf, entry, Clean}
-use Rattle.picture_restore.specs.Guess.{guessed, Guessed, guessedPixel, guessedRun, guessedLine, guessedBand, guessedBytes}
+use Rattle.picture_samples.specs.Samples.{sampleBits, sampleTable, value, byteOf, entry}
+use Rattle.picture_samples.specs.inner.Clean.{Clean}
+use Rattle.picture_restore.specs.inner.Guess.{guessed, Guessed, guessedPixel, guessedRun, guessedLine, guessedBand, guessedBytes}
 use Rattle.picture_limits.specs.Patches.{patchFloats, samplePlace}
 use Rattle.picture_restore.specs.Restore.{known, bytesFrom}
 use Rattle.picture_limits.proofs.Places.{place-of, at-in}

@@ -1,2 +1,2 @@
-pub mod Guess
 pub mod Restore
+pub mod inner

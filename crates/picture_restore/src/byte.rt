@@ -4,7 +4,7 @@ ghost use Prim.Native.Nat.{_<_};
 ghost use lib.Ieee as Ieee;
 ghost use lib.Ieee.{binary32};
 ghost use Rattle.picture_samples.specs.Samples.{byteOf, entry};
-ghost use Rattle.picture_restore.specs.Guess.{slope, shift, guessed, Guessed};
+ghost use Rattle.picture_restore.specs.inner.Guess.{slope, shift, guessed, Guessed};
 
 // 255 times the deviation, and 255 times the mean.
 fn slope_of(c: usize) -> f32

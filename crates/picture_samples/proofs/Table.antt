@@ -12,7 +12,8 @@ use lib.Ieee.{binary32, sub, div, lt, ofInt, ofBits, toBits, nanBits}
 use lib.Ieee.Bits.{ofBits-toBits}
 use lib.Ieee.Fits.{div-fits, and-l, and-r}
 use Rattle.buffers.proofs.Lists.{rows-ext, tab-ext, tab-mul, tab-self}
-use Rattle.picture_samples.specs.Samples.{sample, sampleBits, value, entry, sampleTable, Clean}
+use Rattle.picture_samples.specs.Samples.{sample, sampleBits, value, entry, sampleTable}
+use Rattle.picture_samples.specs.inner.Clean.{Clean}
 
 -- ---- a test of the pattern of each byte in each channel of a table
 abbrev every : (ℕ → ℕ → ℕ → Bool) → ℕ → List ℕ → Bool

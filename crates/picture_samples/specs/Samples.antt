@@ -1,11 +1,10 @@
 -- The sample value of a byte in a channel, (byte / 255 − mean) / std in f32, and the byte of a sample by its bits. Assumes nothing.
-use mathlib.Core.Bool.{not}
 use mathlib.Core.List.{List}
-use Prim.Native.Nat.{ℕ, zero, suc, _+_, _*_, _<_}
+use Prim.Native.Nat.{ℕ, zero, suc, _+_, _*_}
 use lib.IntN.{pos}
-use lib.Dec.{T, eqb}
+use lib.Dec.{eqb}
 use lib.ListN.{getD}
-use lib.Ieee.{Float, binary32, sub, div, ofInt, ofBits, toBits, nanBits}
+use lib.Ieee.{Float, binary32, sub, div, ofInt, ofBits, toBits}
 use Rattle.buffers.specs.Rows.{grid, first}
 
 -- 0.48145466, 0.4578275, 0.40821073
@@ -43,7 +42,3 @@ entry t c b = getD t (c * 256 + b) 0
 -- the samples' own
 unfoldable pub sampleTable : List ℕ
 sampleTable = grid 3 256 sampleBits
-
--- no pattern in it is a NaN's
-pub record Clean (t : List ℕ) : Type 0 where
-  pub clean : (c b : ℕ) → c < 3 → b < 256 → T (not (nanBits binary32 (entry t c b)))

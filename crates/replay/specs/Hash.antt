@@ -1,5 +1,5 @@
 -- A hash of 64 bits: two remainders side by side. Assumes nothing.
-use Prim.Native.Nat.{ℕ, _+_, _*_, _%_, _<_}
+use Prim.Native.Nat.{ℕ, _+_, _*_, _%_}
 use mathlib.Core.List.{List, [], _∷_}
 use lib.Ieee.{Float, binary32, toBits}
 use Rattle.replay.specs.declared.hash.Lanes.{Lanes}
@@ -25,7 +25,3 @@ byteHash s = summed (lanes (λ x. x) start s)
 
 abbrev pub floatHash : List Float → ℕ
 floatHash s = summed (lanes (toBits binary32) start s)
-
-pub record Reduced (h : Lanes) : Type 0 where
-  pub first-low : h .first < 4294967291
-  pub second-low : h .second < 4294967279

@@ -5,3 +5,4 @@ pub mod Hash
 pub mod Marks
 pub mod Damage
 pub mod Counts
+pub mod inner

@@ -1,7 +1,8 @@
 // A hash of 64 bits: two remainders, each of a power sum of the words.
 ghost use mathlib.Core.Path.{_≡_};
 ghost use Prim.Native.Nat.{_<_};
-ghost use Rattle.replay.specs.Hash.{added, summed, Reduced, byteHash, floatHash};
+ghost use Rattle.replay.specs.Hash.{added, summed, byteHash, floatHash};
+ghost use Rattle.replay.specs.inner.Reduced.{Reduced};
 
 pub(crate) struct Lanes {
     pub first: u64,

@@ -11,7 +11,8 @@ use lib.Dec.{leb}
 use lib.ListN.{length, getD, drop}
 use lib.Seq.{drop-cons}
 use Rattle.unpatch_form.specs.Words.{_>>=_}
-use Rattle.unpatch_form.specs.Decimal.{isDigit, digitsFrom, decimal, upTo, limitedFrom}
+use Rattle.unpatch_form.specs.Decimal.{isDigit, digitsFrom, decimal, upTo}
+use Rattle.unpatch_form.specs.inner.Limited.{limitedFrom}
 
 -- the next byte is a digit
 pub digit-next : (s : List ℕ) (n i : ℕ) → i < length s → 48 ≤ getD s i 0 → getD s i 0 ≤ 57 → digitsFrom n (drop i s) ≡ digitsFrom (n * 10 + (getD s i 0 - 48)) (drop (i + 1) s)

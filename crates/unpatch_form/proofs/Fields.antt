@@ -16,7 +16,7 @@ use Rattle.unpatch_form.specs.Words.{onto, pieces, same, _>>=_, first, e
 use Rattle.unpatch_form.specs.Decimal.{isDigit, digitsFrom, decimal, upTo, limited}
 use Rattle.unpatch_form.specs.Hex.{nibble, pair, hexPairs, hexBytes}
 use Rattle.unpatch_form.specs.Form.{fields, small, both, withTwo, two, three, rowFields}
-use Rattle.unpatch_form.specs.Steps.{until}
+use Rattle.unpatch_form.specs.inner.Steps.{until}
 use Rattle.unpatch_form.proofs.Pieces.{until-le, pieces-cut, pieces-one}
 
 -- what is left from `at` on, as `&s[at..]` has it

@@ -12,7 +12,7 @@ use lib.Dec.{eqb}
 use lib.ListN.{length, getD, take, drop}
 use lib.Seq.{drop-cons}
 use Rattle.unpatch_form.specs.Words.{onto, pieces, same, joined}
-use Rattle.unpatch_form.specs.Steps.{until}
+use Rattle.unpatch_form.specs.inner.Steps.{until}
 
 -- ---- where a byte stands
 pub until-le : (s : ℕ) (l : List ℕ) → until s l ≤ length l

@@ -25,10 +25,6 @@ decimal (b ∷ (d ∷ bs)) = cond (eqb b 48) none (digitsFrom 0 (b ∷ (d ∷ bs
 abbrev pub upTo : ℕ → ℕ → Option ℕ
 upTo most n = cond (leb n most) (some n) none
 
--- digits that follow ones for n, and the number is at most `most`
-abbrev pub limitedFrom : ℕ → ℕ → List ℕ → Option ℕ
-limitedFrom most n s = digitsFrom n s >>= upTo most
-
 -- a decimal of at most `most`
 abbrev pub limited : ℕ → List ℕ → Option ℕ
 limited most s = decimal s >>= upTo most

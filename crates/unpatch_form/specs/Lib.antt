@@ -2,4 +2,4 @@ pub mod Words
 pub mod Decimal
 pub mod Hex
 pub mod Form
-pub mod Steps
+pub mod inner

@@ -1,7 +1,8 @@
 // Decimals without leading zeros.
 ghost use mathlib.Core.Path.{_≡_};
-ghost use Rattle.unpatch_form.specs.Decimal.{limitedFrom, limited};
-ghost use Rattle.unpatch_form.specs.Steps.{found};
+ghost use Rattle.unpatch_form.specs.Decimal.{limited};
+ghost use Rattle.unpatch_form.specs.inner.Limited.{limitedFrom};
+ghost use Rattle.unpatch_form.specs.inner.Steps.{found};
 
 pub enum Number {
     Value(usize),

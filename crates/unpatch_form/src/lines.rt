@@ -5,7 +5,7 @@ ghost use lib.ListN.{length};
 ghost use Rattle.unpatch_form.specs.Words.{behind as Words·behind};
 ghost use Rattle.unpatch_form.specs.Form as Form;
 ghost use Rattle.unpatch_form.specs.Form.{fields};
-ghost use Rattle.unpatch_form.specs.Steps.{count, fieldsFrom, foundPair, foundTriple};
+ghost use Rattle.unpatch_form.specs.inner.Steps.{count, fieldsFrom, foundPair, foundTriple};
 use crate::decimal::Number;
 use crate::decimal::decimal;
 use crate::scan::find;

@@ -3,7 +3,7 @@ ghost use mathlib.Core.Path.{_≡_};
 ghost use Prim.Native.Nat.{_≤_};
 ghost use lib.ListN.{length};
 ghost use Rattle.unpatch_form.specs.Words.{same};
-ghost use Rattle.unpatch_form.specs.Steps.{until};
+ghost use Rattle.unpatch_form.specs.inner.Steps.{until};
 
 // The index of the first b, or the length where there is none.
 pub fn find(s: &[u8], b: u8) -> usize

@@ -13,7 +13,7 @@ use Rattle.buffers.proofs.Lists.{length-tab, tab-step}
 use Rattle.buffers.proofs.Regions.{put-split}
 use Rattle.unpatch_form.specs.Form.{Request, form}
 use Rattle.unpatch_read.specs.Read.{reading, rowsOf, filled}
-use Rattle.unpatch_read.specs.Steps.{below, Written, asked, bytesRead}
+use Rattle.unpatch_read.specs.inner.Steps.{below, Written, asked, bytesRead}
 use Rattle.unpatch_form.specs.declared.decimal.Number.{Number}
 use Rattle.unpatch_read.specs.declared.read.Reading.{Reading}
 use Rattle.unpatch_read.specs.declared.read.Reading.the-variants as R

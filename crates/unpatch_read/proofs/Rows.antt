@@ -10,7 +10,7 @@ use lib.Seq.{take-add, drop-drop}
 use Rattle.buffers.specs.Region.{region}
 use Rattle.unpatch_form.specs.Words.{pieces, _>>=_, joined}
 use Rattle.unpatch_form.specs.Form.{lines, row, rows}
-use Rattle.unpatch_form.specs.Steps.{until}
+use Rattle.unpatch_form.specs.inner.Steps.{until}
 use Rattle.unpatch_form.proofs.Pieces.{pieces-cut, pieces-one, joined-joined}
 use Rattle.unpatch_form.proofs.Fields.{some-piece}
 

@@ -3,7 +3,7 @@ ghost use mathlib.Core.Path.{_≡_};
 ghost use Prim.Native.Nat.{_+_, _*_, _≤_};
 ghost use lib.ListN.{length};
 ghost use Rattle.unpatch_form.specs.Hex.{hexBytes, nibble as Hex·nibble, pair as Hex·pair};
-ghost use Rattle.unpatch_read.specs.Steps.{below, Written};
+ghost use Rattle.unpatch_read.specs.inner.Steps.{below, Written};
 use unpatch_form::decimal::Number;
 
 // 16 for a byte that is no digit.

@@ -3,7 +3,7 @@ ghost use Prim.Native.Nat.{_+_, _*_, _≤_};
 ghost use lib.ListN.{length};
 ghost use Rattle.unpatch_form.specs.Form as Form;
 ghost use Rattle.unpatch_form.specs.Form.{fields};
-ghost use Rattle.unpatch_read.specs.Steps.{Written};
+ghost use Rattle.unpatch_read.specs.inner.Steps.{Written};
 use crate::hex::hex_bytes;
 use unpatch_form::decimal::Number;
 use unpatch_form::decimal::decimal;

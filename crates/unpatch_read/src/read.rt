@@ -4,7 +4,7 @@ ghost use Prim.Native.Nat.{_*_, _≤_};
 ghost use lib.ListN.{length};
 ghost use Rattle.unpatch_form.specs.Form as Form;
 ghost use Rattle.unpatch_read.specs.Read.{reading, rowsOf, filled};
-ghost use Rattle.unpatch_read.specs.Steps.{asked, bytesRead};
+ghost use Rattle.unpatch_read.specs.inner.Steps.{asked, bytesRead};
 use crate::lines::rows;
 use unpatch_form::decimal::Number;
 use unpatch_form::lines::Pair;

@@ -12,7 +12,7 @@ use lib.ListN.{length}
 use Rattle.buffers.proofs.Regions.{put-over}
 use Rattle.unpatch_form.specs.Form.{Request, form}
 use Rattle.unpatch_text.specs.Answer.{settings, answered, answer, room, lengthLeft, textLeft}
-use Rattle.unpatch_text.specs.Steps.{Wrote}
+use Rattle.unpatch_text.specs.inner.Steps.{Wrote}
 use Rattle.unpatch_form.proofs.Limits.{form-limits}
 use Rattle.unpatch_text.proofs.Rooms.{ran-short}
 

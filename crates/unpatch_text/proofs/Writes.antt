@@ -15,7 +15,7 @@ use Rattle.buffers.specs.Region.{put}
 use Rattle.buffers.proofs.Regions.{put-one, put-append}
 use Rattle.unpatch_form.specs.Words.{word}
 use Rattle.unpatch_text.specs.Print.{lastDigits, decimalText, glyph, hexText, line, refusedLine, gridLine, rowLine}
-use Rattle.unpatch_text.specs.Steps.{Wrote}
+use Rattle.unpatch_text.specs.inner.Steps.{Wrote}
 
 -- ---- one text behind another
 pub wrote-then : {s t u : List ℕ} {at m r : ℕ} {xs ys : List ℕ} → Wrote s t at xs m → Wrote t u m ys r → Wrote s u at (xs ++ ys) r

@@ -1,3 +1,3 @@
 pub mod Print
 pub mod Answer
-pub mod Steps
+pub mod inner

@@ -5,7 +5,7 @@ ghost use Prim.Native.Nat.{_+_, _*_, _≤_, _<_};
 ghost use lib.ListN.{length};
 ghost use Rattle.unpatch_text.specs.Print as Print;
 ghost use Rattle.unpatch_text.specs.Print.{decimalText, hexText, refusedLine, gridLine, rowLine, rowLines};
-ghost use Rattle.unpatch_text.specs.Steps.{Wrote};
+ghost use Rattle.unpatch_text.specs.inner.Steps.{Wrote};
 
 pub(crate) fn put_bytes(s: &[u8], at: usize, out: &mut [u8]) -> usize
     requires { ⌜ at + length (now s) ≤ length (now out) ⌝ }

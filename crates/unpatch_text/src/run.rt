@@ -8,14 +8,12 @@ use picture_limits::PictureSettings;
 use picture_limits::settings::number;
 use picture_restore::Restored;
 use picture_restore::restore;
-ghost use mathlib.Core.Path.{_≡_};
 ghost use mathlib.Core.List.{_++_};
 ghost use Prim.Native.Nat.{_*_, _/_, _≤_};
 ghost use lib.ListN.{length};
-ghost use Rattle.picture_restore.specs.Restore.{restored, bytesOf};
 ghost use Rattle.unpatch_text.specs.Print.{gridLine, rowLines};
-ghost use Rattle.unpatch_text.specs.Answer.{restoredText, ran, room};
-ghost use Rattle.unpatch_text.specs.Steps.{Wrote, Shown};
+ghost use Rattle.unpatch_text.specs.Answer.{ran, room};
+ghost use Rattle.unpatch_text.specs.inner.Steps.{Wrote, Shown};
 
 // The grid with merge m, and h rows of n bytes each.
 fn show(

@@ -7,7 +7,8 @@ use lib.ListN.{getD}
 use lib.Ieee.{Float, nan, binary32, sub}
 use Rattle.number_exp_tanh.specs.Exp.{E}
 use Rattle.buffers.specs.Rows.{tab}
-use Rattle.buffers.specs.Region.{after, region, put}
+use Rattle.buffers.specs.Region.{region, put}
+use Rattle.buffers.specs.inner.Apart.{after}
 use Rattle.buffers.proofs.Steps.{elems-step}
 use Rattle.encoder_attention.specs.Attention.{expLess}
 

@@ -6,11 +6,12 @@ use native.Mathlib.Omega.{arith}
 use lib.ListN.{getD}
 use lib.Ieee.{Float, nan, binary32, mul}
 use Rattle.buffers.specs.Rows.{tab}
-use Rattle.buffers.specs.Region.{Apart, region, put}
+use Rattle.buffers.specs.Region.{region, put}
+use Rattle.buffers.specs.inner.Apart.{Apart}
 use Rattle.buffers.proofs.Regions.{apart-sub}
 use Rattle.buffers.proofs.Steps.{elems-step}
 use Rattle.encoder_elements.specs.Element.{siluOf, gated}
-use Rattle.encoder_elements.specs.Fits.{PairFits}
+use Rattle.encoder_elements.specs.inner.Fits.{PairFits}
 
 -- k of the pairs, past the first i
 pub part-fits : {lens y z n : ℕ} (i k : ℕ) → PairFits lens y z n → i + k ≤ n → PairFits lens (y + i) (z + i) k

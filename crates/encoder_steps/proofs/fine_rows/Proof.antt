@@ -6,7 +6,7 @@ use borrow.Author.Needs.{needs}
 use borrow.Author.Tests.{leb-true}
 use lib.ListN.{length}
 use Rattle.encoder_kernels.specs.Finite.{sound}
-use Rattle.encoder_steps.specs.Step.{fineAt}
+use Rattle.encoder_steps.specs.inner.Step.{fineAt}
 use Rattle.encoder_steps.proofs.fine_rows.Statement.{statement}
 use Rattle.encoder_steps.proofs.fine_rows.Tie as tie
 

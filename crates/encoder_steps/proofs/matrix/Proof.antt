@@ -7,7 +7,7 @@ use borrow.Author.Needs.{needs}
 use borrow.Author.Tests.{leb-true}
 use lib.ListN.{length}
 use Rattle.buffers.proofs.Regions.{length-region}
-use Rattle.encoder_steps.specs.Step.{matrixFits}
+use Rattle.encoder_steps.specs.inner.Step.{matrixFits}
 use Rattle.encoder_steps.proofs.matrix.Statement.{statement}
 use Rattle.encoder_steps.proofs.matrix.Tie as tie
 

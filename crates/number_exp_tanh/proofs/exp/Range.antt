@@ -8,10 +8,12 @@ use lib.IntN.{pos, negsuc}
 use lib.Dec.{T, ltb, nltb→le, lit<, lit≤}
 use lib.Ieee.{Float, nan, inf, fin, binary32, binary64, up, down, neg, add, div, ne, le, isNan, ofBits}
 use lib.Ieee.Compare.{nan-differs}
-use Rattle.number_floats.specs.Whole.{oneHalf, AtMost}
+use Rattle.number_floats.specs.Whole.{oneHalf}
+use Rattle.number_floats.specs.inner.Bounds.{AtMost}
 use borrow.Author.Tests.{not-true}
 use Rattle.number_floats.specs.Narrow.{narrow}
-use Rattle.number_exp_tanh.specs.Exp.{L, kOf, F, top, bottom, between, E}
+use Rattle.number_exp_tanh.specs.Exp.{L, kOf, F, top, bottom, E}
+use Rattle.number_exp_tanh.specs.inner.Between.{between}
 use Rattle.buffers.proofs.Lists.{and-left, and-right}
 use Rattle.number_floats.proofs.Bound.{at-most-add, at-most-div, at-most-floor}
 

@@ -13,7 +13,7 @@ use lib.Ieee.{Float, nan, inf, fin, binary64, up, down, minus, neg, lt, odd, ofF
 use lib.Ieee.Bits.{nanBits-is}
 use lib.Ieee.Fits.{down-pos}
 use Rattle.number_floats.proofs.Ways.{lt-or-ge}
-use Rattle.number_floats.specs.Whole.{AtMost}
+use Rattle.number_floats.specs.inner.Bounds.{AtMost}
 use Rattle.number_floats.proofs.whole.Cuts.{Cuttable, Zero, cuttable, cuttable-zero, cut-le, cut-zero, below-zero, not-below}
 
 -- ---- a difference

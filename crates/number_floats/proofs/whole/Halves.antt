@@ -16,7 +16,8 @@ use lib.Ieee.Back.{round-whole}
 use Rattle.number_floats.proofs.Bound.{neg-round}
 use Rattle.number_floats.proofs.whole.Cuts.{Zero, Cuttable, cuttable, below-zero, not-below}
 use Rattle.number_floats.proofs.whole.Floors.{Big, whole-same, large, cut-is}
-use Rattle.number_floats.specs.Whole.{oneHalf, awaySize, away, Small}
+use Rattle.number_floats.specs.Whole.{oneHalf, awaySize, away}
+use Rattle.number_floats.specs.inner.Bounds.{Small}
 
 -- ---- half of a whole number is exact
 twice : (x w d p q : ℕ) → q ≡ p * 2 → x ≡ w * d → x * 1 * q ≡ w * p * (d * 2)

@@ -11,7 +11,8 @@ use lib.IntN.{pos}
 use mir.Val.{boolByte}
 use lib.Ieee.{Float, binary64, lt, mul, ofInt, ofBits, toUnsigned}
 use Rattle.number_floats.specs.Whole.{oneHalf}
-use Rattle.number_floats.specs.Whole.{away, Small}
+use Rattle.number_floats.specs.Whole.{away}
+use Rattle.number_floats.specs.inner.Bounds.{Small}
 use Rattle.number_floats.proofs.whole.Halves.{Cut, cut}
 use Rattle.picture_resize.specs.Resize.{whole, toByte}
 use Rattle.picture_resize.proofs.Same.{small, byte-at}

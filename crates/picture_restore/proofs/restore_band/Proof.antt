@@ -7,7 +7,7 @@ use lib.ListN.{length}
 use Rattle.buffers.specs.Rows.{rows}
 use Rattle.buffers.specs.Region.{put}
 use Rattle.buffers.proofs.Lists.{fit, rows-step}
-use Rattle.picture_restore.specs.Guess.{guessedLine}
+use Rattle.picture_restore.specs.inner.Guess.{guessedLine}
 use Rattle.picture_limits.proofs.Places.{turn, times}
 use Rattle.picture_restore.proofs.Guesses.{length-guessedLine}
 use Rattle.picture_restore.proofs.restore_band.Statement.{statement}

@@ -8,7 +8,7 @@ use lib.ListN.{set, getD, length-set}
 use lib.Ieee.{nan}
 use Rattle.buffers.specs.Rows.{tab}
 use Rattle.buffers.specs.Region.{put}
-use Rattle.picture_restore.specs.Guess.{guessed}
+use Rattle.picture_restore.specs.inner.Guess.{guessed}
 use Rattle.picture_restore.proofs.Guesses.{guess-lt}
 use Rattle.picture_restore.proofs.restore_pixel.Statement.{statement}
 use Rattle.picture_restore.proofs.restore_pixel.Tie as tie

@@ -7,7 +7,7 @@ use lib.ListN.{length}
 use Rattle.buffers.specs.Rows.{rows}
 use Rattle.buffers.specs.Region.{put}
 use Rattle.buffers.proofs.Lists.{rows-step}
-use Rattle.picture_restore.specs.Guess.{guessedPixel}
+use Rattle.picture_restore.specs.inner.Guess.{guessedPixel}
 use Rattle.picture_limits.proofs.Places.{square}
 use Rattle.picture_restore.proofs.Guesses.{length-guessedPixel}
 use Rattle.picture_restore.proofs.restore_run.Statement.{statement}

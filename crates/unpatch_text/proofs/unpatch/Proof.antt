@@ -9,7 +9,7 @@ use lib.ListN.{length, take, replicate, length-replicate}
 use lib.Seq.{length-take-le}
 use Rattle.unpatch_form.specs.Form.{Request, form}
 use Rattle.unpatch_text.specs.Answer.{answered, answer}
-use Rattle.unpatch_read.specs.Steps.{asked}
+use Rattle.unpatch_read.specs.inner.Steps.{asked}
 use Rattle.unpatch_text.proofs.Writes.{wrote-as}
 use Rattle.unpatch_read.proofs.Answers.{asked-reading, bytes-inside}
 use Rattle.unpatch_form.proofs.Limits.{form-limits}

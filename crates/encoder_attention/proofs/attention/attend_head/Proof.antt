@@ -8,9 +8,9 @@ use Rattle.buffers.proofs.Lists.{fit}
 use Rattle.buffers.proofs.Regions.{apart-sub, apart-sym}
 use Rattle.encoder_kernels.specs.Finite.{sound}
 use Rattle.encoder_attention.proofs.Attends.{head-run, head-rows}
-use Rattle.encoder_linear.specs.Fits.{WeighFits}
+use Rattle.encoder_linear.specs.inner.Fits.{WeighFits}
 use Rattle.encoder_linear.proofs.Rooms.{weigh-fits}
-use Rattle.encoder_attention.specs.Fits.{HeadAt}
+use Rattle.encoder_attention.specs.inner.Fits.{HeadAt}
 use Rattle.encoder_attention.proofs.attention.attend_head.Statement.{statement}
 use Rattle.encoder_attention.proofs.attention.attend_head.Tie as tie
 

@@ -11,9 +11,9 @@ use lib.Ieee.{Float, nan}
 use Rattle.buffers.specs.Region.{region}
 use Rattle.buffers.proofs.Lists.{fit}
 use Rattle.buffers.proofs.Regions.{getD-region, apart-sub}
-use Rattle.encoder_linear.specs.Lanes.{spread}
+use Rattle.encoder_linear.specs.inner.Lanes.{spread}
 use Rattle.encoder_linear.proofs.Fills.{spread-apart}
-use Rattle.encoder_attention.specs.Fits.{KeyAt}
+use Rattle.encoder_attention.specs.inner.Fits.{KeyAt}
 use Rattle.encoder_attention.proofs.attention.turn_key.Statement.{statement}
 use Rattle.encoder_attention.proofs.attention.turn_key.Tie as tie
 

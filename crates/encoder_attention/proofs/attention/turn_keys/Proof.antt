@@ -9,10 +9,10 @@ use borrow.Author.Needs.{needs}
 use lib.ListN.{length, getD}
 use lib.Ieee.{Float, nan}
 use Rattle.buffers.specs.Region.{region}
-use Rattle.encoder_linear.specs.Lanes.{spread, filled}
+use Rattle.encoder_linear.specs.inner.Lanes.{spread, filled}
 use Rattle.encoder_linear.proofs.Fills.{filled-all, filled-apart}
-use Rattle.encoder_attention.specs.Keys.{turnedKeys}
-use Rattle.encoder_attention.specs.Fits.{TurnFits}
+use Rattle.encoder_attention.specs.inner.Keys.{turnedKeys}
+use Rattle.encoder_attention.specs.inner.Fits.{TurnFits}
 use Rattle.encoder_attention.proofs.attention.turn_keys.Statement.{statement}
 use Rattle.encoder_attention.proofs.attention.turn_keys.Tie as tie
 

@@ -2,7 +2,7 @@
 use mathlib.Core.Path.{sym, _∙_}
 use Prim.Native.Nat.{_+_, _*_}
 use native.Mathlib.Omega.{arith}
-use Rattle.encoder_attention.specs.Room.{attendFits}
+use Rattle.encoder_attention.specs.inner.Room.{attendFits}
 use borrow.Author.Needs.{needs}
 use borrow.Author.Tests.{leb-true}
 use Rattle.encoder_attention.proofs.room.attend_fits.Statement.{statement}

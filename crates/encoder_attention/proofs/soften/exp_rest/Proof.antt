@@ -6,7 +6,8 @@ use borrow.Author.Needs.{needs}
 use lib.ListN.{length, length-set}
 use lib.Ieee.{nan, binary32, sub}
 use Rattle.number_exp_tanh.specs.Exp.{E}
-use Rattle.buffers.specs.Region.{after, region, put}
+use Rattle.buffers.specs.Region.{region, put}
+use Rattle.buffers.specs.inner.Apart.{after}
 use Rattle.buffers.specs.Rows.{tab}
 use Rattle.buffers.specs.Each.{both}
 use Rattle.encoder_attention.specs.Attention.{expLess}

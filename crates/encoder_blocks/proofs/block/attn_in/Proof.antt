@@ -3,7 +3,7 @@ use mathlib.Core.Path.{_∙_}
 use Prim.Native.Nat.{_*_}
 use native.Mathlib.Omega.{arith}
 use borrow.Author.Needs.{needs}
-use Rattle.buffers.specs.Region.{before}
+use Rattle.buffers.specs.inner.Apart.{before}
 use Rattle.encoder_blocks.specs.Sizes.{nOf}
 use Rattle.encoder_blocks.proofs.Lives.{attn-in, square-at}
 use Rattle.encoder_blocks.proofs.block.attn_in.Statement.{statement}

@@ -3,7 +3,7 @@ use mathlib.Core.Path.{ap, _∙_}
 use Prim.Native.Nat.{_*_}
 use native.Mathlib.Omega.{arith}
 use borrow.Author.Needs.{needs}
-use Rattle.buffers.specs.Region.{before, after}
+use Rattle.buffers.specs.inner.Apart.{before, after}
 use Rattle.encoder_blocks.specs.Block.{mixed, scored}
 use Rattle.encoder_blocks.specs.Sizes.{nOf}
 use Rattle.encoder_kernels.specs.Finite.{sound}

@@ -3,7 +3,7 @@ use mathlib.Core.Path.{_∙_}
 use Prim.Native.Nat.{_+_, _*_}
 use native.Mathlib.Omega.{arith}
 use borrow.Author.Needs.{needs}
-use Rattle.buffers.specs.Region.{before}
+use Rattle.buffers.specs.inner.Apart.{before}
 use Rattle.encoder_steps.proofs.Writes.{matrix-wrote}
 use Rattle.encoder_blocks.specs.Block.{gateOf, upOf}
 use Rattle.encoder_blocks.specs.Sizes.{dimOf, nOf, mOf}

@@ -3,7 +3,7 @@ use mathlib.Core.Path.{_∙_}
 use Prim.Native.Nat.{_+_, _*_}
 use native.Mathlib.Omega.{arith}
 use borrow.Author.Needs.{needs}
-use Rattle.buffers.specs.Region.{after}
+use Rattle.buffers.specs.inner.Apart.{after}
 use Rattle.encoder_steps.proofs.Writes.{matrix-wrote, gate-wrote, add-wrote, round-wrote}
 use Rattle.encoder_blocks.specs.Block.{downOf}
 use Rattle.encoder_blocks.specs.Sizes.{dimOf, nOf, mOf}

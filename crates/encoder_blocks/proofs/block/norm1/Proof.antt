@@ -4,7 +4,7 @@ use native.Mathlib.Omega.{arith}
 use borrow.Author.Needs.{needs}
 use lib.ListN.{length}
 use Rattle.buffers.proofs.Regions.{length-region}
-use Rattle.buffers.specs.Region.{before}
+use Rattle.buffers.specs.inner.Apart.{before}
 use Rattle.encoder_blocks.specs.Block.{normed1}
 use Rattle.encoder_blocks.specs.Sizes.{dimOf, nOf}
 use Rattle.encoder_steps.proofs.Writes.{norm-wrote}

@@ -2,11 +2,11 @@
 use Prim.Native.Nat.{ℕ}
 use borrow.Author.Needs.{needs}
 use Rattle.buffers.specs.Region.{region}
-use Rattle.encoder_kernels.specs.Fits.{RotateFits}
+use Rattle.encoder_kernels.specs.inner.Fits.{RotateFits}
 use Rattle.encoder_kernels.proofs.Rooms.{rotate-fits}
 use Rattle.encoder_blocks.specs.declared.Sizes.{Sizes}
 use Rattle.encoder_blocks.specs.Sizes.{nOf}
-use Rattle.encoder_blocks.specs.Fits.{TurnAt}
+use Rattle.encoder_blocks.specs.inner.Fits.{TurnAt}
 use Rattle.encoder_blocks.specs.Block.{turnedAll}
 use Rattle.encoder_steps.proofs.Writes.{wrote}
 use Rattle.encoder_blocks.proofs.Lives.{length-turned-all}

@@ -12,7 +12,7 @@ use Rattle.buffers.specs.Region.{region}
 use Rattle.encoder_blocks.specs.Weights.{layerOf}
 use Rattle.encoder_steps.specs.Run.{answer}
 use Rattle.encoder_blocks.specs.Layers.{layersRun}
-use Rattle.encoder_blocks.specs.Live.{hAt}
+use Rattle.encoder_blocks.specs.inner.Live.{hAt}
 use Rattle.encoder_blocks.proofs.Turns.{layers-turn, block-at}
 use Rattle.encoder_blocks.proofs.layers.each_layer.Statement.{statement}
 use Rattle.encoder_blocks.proofs.layers.each_layer.Tie as tie

@@ -1,7 +1,7 @@
 -- `blocks::room::layers_fit` meets its contract. Assumes nothing.
 use mathlib.Core.Path.{sym, _∙_}
 use borrow.Author.Needs.{needs}
-use Rattle.encoder_blocks.specs.Room.{layersFit}
+use Rattle.encoder_blocks.specs.inner.Room.{layersFit}
 use Rattle.encoder_blocks.proofs.Rooms.{sizes-say}
 use Rattle.encoder_blocks.proofs.room.layers_fit.Statement.{statement}
 use Rattle.encoder_blocks.proofs.room.layers_fit.Tie as tie

@@ -1,7 +1,7 @@
 -- `blocks::room::lengths_fit` meets its contract. Assumes nothing.
 use native.Mathlib.Omega.{arith}
 use borrow.Author.Needs.{needs}
-use Rattle.encoder_blocks.specs.Room.{lengthsFit}
+use Rattle.encoder_blocks.specs.inner.Room.{lengthsFit}
 use Rattle.encoder_blocks.proofs.Rooms.{products}
 use Rattle.encoder_blocks.proofs.room.lengths_fit.Statement.{statement}
 use Rattle.encoder_blocks.proofs.room.lengths_fit.Tie as tie

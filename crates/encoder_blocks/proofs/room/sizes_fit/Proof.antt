@@ -4,7 +4,7 @@ use native.Mathlib.Nat.{mul-le-mul}
 use native.Mathlib.Omega.{arith}
 use borrow.Author.Needs.{needs}
 use borrow.Author.Tests.{le-leb, lt-leb}
-use Rattle.encoder_blocks.specs.Room.{sizesFit}
+use Rattle.encoder_blocks.specs.inner.Room.{sizesFit}
 use Rattle.encoder_blocks.proofs.room.sizes_fit.Statement.{statement}
 use Rattle.encoder_blocks.proofs.room.sizes_fit.Tie as tie
 

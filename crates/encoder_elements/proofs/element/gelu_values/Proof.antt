@@ -5,7 +5,8 @@ use native.Mathlib.Omega.{arith}
 use borrow.Author.Needs.{needs}
 use lib.ListN.{length, length-set}
 use lib.Ieee.{nan}
-use Rattle.buffers.specs.Region.{after, region, put}
+use Rattle.buffers.specs.Region.{region, put}
+use Rattle.buffers.specs.inner.Apart.{after}
 use Rattle.buffers.specs.Rows.{tab}
 use Rattle.encoder_elements.specs.Element.{geluOf, gelued}
 use Rattle.buffers.specs.Each.{both}

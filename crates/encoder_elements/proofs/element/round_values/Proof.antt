@@ -6,7 +6,8 @@ use borrow.Author.Needs.{needs}
 use lib.ListN.{length, length-set}
 use lib.Ieee.{nan}
 use Rattle.number_bf16_half_root.specs.Bf16.{bf16Of}
-use Rattle.buffers.specs.Region.{after, region, put}
+use Rattle.buffers.specs.Region.{region, put}
+use Rattle.buffers.specs.inner.Apart.{after}
 use Rattle.buffers.specs.Rows.{tab}
 use Rattle.encoder_elements.specs.Element.{rounded}
 use Rattle.buffers.specs.Each.{both}

@@ -1,6 +1,6 @@
 -- `elements::room::pair_fits` meets its contract. Assumes nothing.
 use borrow.Author.Needs.{needs}
-use Rattle.encoder_elements.specs.Room.{pairFits}
+use Rattle.encoder_elements.specs.inner.Room.{pairFits}
 use Rattle.encoder_elements.proofs.room.pair_fits.Statement.{statement}
 use Rattle.encoder_elements.proofs.room.pair_fits.Tie as tie
 

@@ -7,7 +7,8 @@ use borrow.Author.Needs.{needs}
 use lib.ListN.{getD}
 use lib.Ieee.{Float, nan, binary32, mul}
 use Rattle.buffers.specs.Rows.{tab}
-use Rattle.buffers.specs.Region.{Apart, region, put}
+use Rattle.buffers.specs.Region.{region, put}
+use Rattle.buffers.specs.inner.Apart.{Apart}
 use Rattle.buffers.proofs.Lists.{tab-ext}
 use Rattle.buffers.proofs.Regions.{getD-region}
 use Rattle.encoder_elements.specs.Element.{siluOf, gated}

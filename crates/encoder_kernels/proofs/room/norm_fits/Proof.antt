@@ -3,7 +3,7 @@ use mathlib.Core.Path.{sym, _∙_}
 use Prim.Native.Nat.{_+_, _*_, _≤_}
 use native.Mathlib.Omega.{arith}
 use Rattle.buffers.proofs.Lists.{and-left, and-right}
-use Rattle.encoder_kernels.specs.Room.{normFits}
+use Rattle.encoder_kernels.specs.inner.Room.{normFits}
 use borrow.Author.Needs.{needs}
 use borrow.Author.Tests.{leb-true}
 use Rattle.encoder_kernels.proofs.room.norm_fits.Statement.{statement}

@@ -3,7 +3,7 @@ use mathlib.Core.Path.{sym, _∙_}
 use Prim.Native.Nat.{_+_, _*_, _≤_}
 use native.Mathlib.Nat.{mul-le-mul}
 use native.Mathlib.Omega.{arith}
-use Rattle.encoder_kernels.specs.Room.{rotateFits}
+use Rattle.encoder_kernels.specs.inner.Room.{rotateFits}
 use borrow.Author.Needs.{needs}
 use borrow.Author.Tests.{leb-true, le-leb, lt-leb}
 use Rattle.encoder_kernels.proofs.room.rotate_fits.Statement.{statement}

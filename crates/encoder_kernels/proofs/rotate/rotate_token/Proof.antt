@@ -7,7 +7,8 @@ use native.Mathlib.Numerals.{add-one}
 use borrow.Author.Needs.{needs}
 use lib.ListN.{length}
 use Rattle.buffers.proofs.Lists.{fit}
-use Rattle.buffers.specs.Region.{after, region, put}
+use Rattle.buffers.specs.Region.{region, put}
+use Rattle.buffers.specs.inner.Apart.{after}
 use Rattle.buffers.specs.Rows.{rows}
 use Rattle.buffers.specs.Each.{eachRow}
 use Rattle.encoder_kernels.specs.Rotate.{turned, turnedToken}

@@ -8,7 +8,8 @@ use borrow.Author.Needs.{needs}
 use lib.ListN.{length, getD, set, length-set}
 use lib.Ieee.{Float, nan, binary32, add, mul}
 use Rattle.buffers.specs.Rows.{tab}
-use Rattle.buffers.specs.Region.{after, put}
+use Rattle.buffers.specs.Region.{put}
+use Rattle.buffers.specs.inner.Apart.{after}
 use Rattle.buffers.proofs.Lists.{length-tab, tab-step-0}
 use Rattle.buffers.proofs.Regions.{getD-put, put-all}
 use Rattle.encoder_linear.proofs.few.add_cells.Statement.{statement}

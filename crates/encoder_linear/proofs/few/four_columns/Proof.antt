@@ -7,8 +7,8 @@ use lib.ListN.{length, getD, replicate, length-replicate}
 use lib.Ieee.{nan}
 use Rattle.buffers.specs.Region.{zero32}
 use Rattle.buffers.proofs.Lists.{fit, length-tab}
-use Rattle.encoder_linear.specs.Lanes.{goneSum, filled}
-use Rattle.encoder_linear.specs.Fits.{FourAt}
+use Rattle.encoder_linear.specs.inner.Lanes.{goneSum, filled}
+use Rattle.encoder_linear.specs.inner.Fits.{FourAt}
 use Rattle.encoder_linear.proofs.Fills.{filled-ext}
 use Rattle.encoder_linear.proofs.Pieces.{fit-more, four-cells}
 use Rattle.encoder_linear.proofs.few.four_columns.Statement.{statement}

@@ -9,7 +9,7 @@ use lib.ListN.{length, getD}
 use lib.Ieee.{Float, nan}
 use Rattle.buffers.specs.Region.{put}
 use Rattle.buffers.specs.Rows.{tab}
-use Rattle.encoder_linear.specs.Lanes.{spread, filled}
+use Rattle.encoder_linear.specs.inner.Lanes.{spread, filled}
 use Rattle.encoder_linear.proofs.Fills.{none, spread-one, filled-row}
 use Rattle.encoder_linear.proofs.few.unpack.Statement.{statement}
 use Rattle.encoder_linear.proofs.few.unpack.Tie as tie

@@ -6,7 +6,7 @@ use native.Mathlib.Numerals.{add-one}
 use borrow.Author.Needs.{needs}
 use lib.ListN.{length, getD, length-set}
 use lib.Ieee.{nan}
-use Rattle.encoder_linear.specs.Lanes.{spread}
+use Rattle.encoder_linear.specs.inner.Lanes.{spread}
 use Rattle.encoder_linear.proofs.lanes.copy_spread.Statement.{statement}
 use Rattle.encoder_linear.proofs.lanes.copy_spread.Tie as tie
 

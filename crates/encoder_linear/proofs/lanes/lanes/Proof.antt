@@ -7,7 +7,7 @@ use lib.ListN.{length}
 use lib.Ieee.{nan}
 use Rattle.buffers.specs.Rows.{tab}
 use Rattle.buffers.proofs.Lists.{length-tab, tab-self}
-use Rattle.encoder_linear.specs.Lanes.{sumFrom, laneOf}
+use Rattle.encoder_linear.specs.inner.Lanes.{sumFrom, laneOf}
 use Rattle.encoder_linear.proofs.Pieces.{lane-step}
 use Rattle.encoder_linear.proofs.lanes.lanes.Statement.{statement}
 use Rattle.encoder_linear.proofs.lanes.lanes.Tie as tie

@@ -9,7 +9,7 @@ use borrow.Author.Needs.{needs}
 use lib.ListN.{length, getD}
 use lib.Ieee.{nan, Float}
 use Rattle.buffers.proofs.Lists.{fit}
-use Rattle.encoder_linear.specs.Lanes.{spread, filled}
+use Rattle.encoder_linear.specs.inner.Lanes.{spread, filled}
 use Rattle.encoder_linear.proofs.Fills.{spread-ext}
 use Rattle.encoder_linear.proofs.lanes.pack.Statement.{statement}
 use Rattle.encoder_linear.proofs.lanes.pack.Tie as tie

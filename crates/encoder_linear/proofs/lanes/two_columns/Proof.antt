@@ -10,7 +10,7 @@ use Rattle.buffers.specs.Region.{zero32}
 use Rattle.buffers.specs.Rows.{tab}
 use Rattle.buffers.proofs.Lists.{length-tab}
 use Rattle.buffers.proofs.Regions.{length-region}
-use Rattle.encoder_linear.specs.Lanes.{laneOf, goneSum, spread}
+use Rattle.encoder_linear.specs.inner.Lanes.{laneOf, goneSum, spread}
 use Rattle.encoder_linear.proofs.Fills.{spread-ext, length-spread}
 use Rattle.encoder_linear.proofs.Pieces.{cell, room, before-it, column-lane}
 use Rattle.encoder_linear.proofs.lanes.two_columns.Statement.{statement}

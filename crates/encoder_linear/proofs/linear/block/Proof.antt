@@ -8,7 +8,7 @@ use Rattle.buffers.specs.Region.{region, put, zero32}
 use Rattle.buffers.proofs.Regions.{length-region}
 use Rattle.buffers.proofs.Rooms.{written}
 use Rattle.encoder_linear.specs.Linear.{linearOf}
-use Rattle.encoder_linear.specs.Lanes.{begun}
+use Rattle.encoder_linear.specs.inner.Lanes.{begun}
 use Rattle.buffers.proofs.Steps.{blank-region}
 use Rattle.encoder_linear.proofs.Pieces.{block-turn-in, cleared-start, block-done}
 use Rattle.encoder_linear.proofs.linear.block.Statement.{statement}

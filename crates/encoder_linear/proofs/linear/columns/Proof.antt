@@ -4,7 +4,7 @@ use Prim.Native.Nat.{_+_, _-_, _≤_}
 use native.Mathlib.Omega.{arith}
 use borrow.Author.Needs.{needs}
 use lib.ListN.{length}
-use Rattle.encoder_linear.specs.Lanes.{goneSum, filled}
+use Rattle.encoder_linear.specs.inner.Lanes.{goneSum, filled}
 use Rattle.encoder_linear.proofs.Fills.{filled-all}
 use Rattle.encoder_linear.proofs.Pieces.{column-turn, pair-turn, four-turn}
 use Rattle.encoder_linear.proofs.linear.columns.Statement.{statement}

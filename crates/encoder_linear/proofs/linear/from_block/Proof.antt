@@ -7,7 +7,7 @@ use lib.ListN.{length}
 use Rattle.buffers.specs.Region.{region, put}
 use Rattle.buffers.proofs.Regions.{length-region}
 use Rattle.buffers.proofs.Rooms.{written}
-use Rattle.encoder_linear.specs.Lanes.{begun}
+use Rattle.encoder_linear.specs.inner.Lanes.{begun}
 use Rattle.encoder_linear.proofs.Pieces.{block-turn, cleared-start, block-done}
 use Rattle.encoder_linear.proofs.linear.from_block.Statement.{statement}
 use Rattle.encoder_linear.proofs.linear.from_block.Tie as tie

@@ -5,7 +5,7 @@ use native.Mathlib.Omega.{arith}
 use borrow.Author.Needs.{needs}
 use borrow.Author.Tests.{leb-true}
 use Rattle.buffers.proofs.Lists.{and-right}
-use Rattle.encoder_linear.specs.Room.{weighFits}
+use Rattle.encoder_linear.specs.inner.Room.{weighFits}
 use Rattle.encoder_linear.proofs.room.weigh_fits.Statement.{statement}
 use Rattle.encoder_linear.proofs.room.weigh_fits.Tie as tie
 

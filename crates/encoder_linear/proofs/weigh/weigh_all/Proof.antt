@@ -11,7 +11,7 @@ use Rattle.buffers.specs.Rows.{tab}
 use Rattle.buffers.specs.Region.{region, put}
 use Rattle.buffers.proofs.Lists.{length-tab, tab-ext, tab-add}
 use Rattle.buffers.proofs.Regions.{put-append, region-put, apart-sub}
-use Rattle.encoder_linear.specs.Fits.{WeighFits}
+use Rattle.encoder_linear.specs.inner.Fits.{WeighFits}
 use Rattle.encoder_linear.specs.Weighed.{columnOf, weighedRow}
 use Rattle.encoder_linear.proofs.weigh.weigh_all.Statement.{statement}
 use Rattle.encoder_linear.proofs.weigh.weigh_all.Tie as tie

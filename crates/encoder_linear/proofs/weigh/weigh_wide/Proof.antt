@@ -10,8 +10,8 @@ use Rattle.buffers.specs.Rows.{tab}
 use Rattle.buffers.specs.Region.{region, put}
 use Rattle.buffers.proofs.Lists.{length-tab, getD-tab, tab-ext, tab-add}
 use Rattle.buffers.proofs.Regions.{put-append, length-put, region-put, apart-sub, length-region}
-use Rattle.encoder_linear.specs.Lanes.{spread}
-use Rattle.encoder_linear.specs.Fits.{WeighFits}
+use Rattle.encoder_linear.specs.inner.Lanes.{spread}
+use Rattle.encoder_linear.specs.inner.Fits.{WeighFits}
 use Rattle.encoder_linear.specs.Weighed.{columnOf, weighedRow}
 use Rattle.encoder_linear.proofs.Fills.{spread-one}
 use lib.ListN.{length, getD}

@@ -13,7 +13,8 @@ use Rattle.buffers.proofs.Lists.{and-left, and-right}
 use Rattle.replay.specs.Line.{readOf}
 use Rattle.replay.proofs.Lines.{read-whole}
 use Rattle.encoder_replay.specs.declared.run.Answer.{Answer}
-use Rattle.encoder_replay.specs.Run.{at, scratchRoom, outRoom, runOf, Small}
+use Rattle.encoder_replay.specs.Run.{at, scratchRoom, outRoom, runOf}
+use Rattle.encoder_replay.specs.inner.Room.{Small}
 use Rattle.encoder_replay.specs.Record.{differs, place, smallOf, placeFrom, placeOf}
 use Rattle.encoder_replay.proofs.record.judge.Statement.{statement}
 use Rattle.encoder_replay.proofs.record.judge.Tie as tie

@@ -8,7 +8,8 @@ use native.Mathlib.Omega.{arith}
 use borrow.Author.Needs.{needs}
 use Rattle.picture_limits.proofs.Places.{times}
 use Rattle.picture_limits.proofs.Shapes.{shaped-says}
-use Rattle.encoder_settings.specs.Settings.{allowed, checkedOf, Bounded}
+use Rattle.encoder_settings.specs.Settings.{allowed, checkedOf}
+use Rattle.encoder_settings.specs.inner.Bounds.{Bounded}
 use Rattle.encoder_settings.proofs.Bounds.{allowed-says, bounded, counted}
 use Rattle.encoder_settings.proofs.settings.checked.Statement.{statement}
 use Rattle.encoder_settings.proofs.settings.checked.Tie as tie

@@ -5,7 +5,7 @@ use native.Mathlib.Omega.{arith}
 use borrow.Author.Needs.{needs}
 use lib.ListN.{length}
 use Rattle.buffers.proofs.Regions.{length-region}
-use Rattle.buffers.specs.Region.{after}
+use Rattle.buffers.specs.inner.Apart.{after}
 use Rattle.encoder_blocks.specs.Sizes.{dimOf, nOf}
 use Rattle.encoder_stages.specs.Embed.{patchConv, lnPre}
 use Rattle.encoder_steps.proofs.Writes.{norm-wrote, round-wrote}

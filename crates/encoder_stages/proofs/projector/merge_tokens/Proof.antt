@@ -6,7 +6,7 @@ use borrow.Author.Needs.{needs}
 use lib.ListN.{length, length-set}
 use Rattle.buffers.specs.Region.{region, put}
 use Rattle.buffers.specs.Rows.{tab}
-use Rattle.encoder_stages.specs.Merge.{mergedFirst}
+use Rattle.encoder_stages.specs.inner.Source.{mergedFirst}
 use Rattle.encoder_stages.proofs.Merges.{source-lt, merge-turn, merge-flat}
 use Rattle.encoder_stages.proofs.projector.merge_tokens.Statement.{statement}
 use Rattle.encoder_stages.proofs.projector.merge_tokens.Tie as tie

@@ -5,7 +5,7 @@ use native.Mathlib.Omega.{arith}
 use borrow.Author.Needs.{needs}
 use lib.ListN.{length}
 use Rattle.buffers.proofs.Regions.{length-region}
-use Rattle.buffers.specs.Region.{before}
+use Rattle.buffers.specs.inner.Apart.{before}
 use Rattle.encoder_stages.specs.Project.{projNorm, mergingLayer, linear1, linear2}
 use Rattle.encoder_steps.proofs.Writes.{norm-wrote, matrix-wrote}
 use Rattle.encoder_stages.proofs.Projects.{project-run}

@@ -2,7 +2,7 @@
 use mathlib.Core.Path.{refl}
 use native.Mathlib.Omega.{arith}
 use borrow.Author.Needs.{needs}
-use Rattle.encoder_stages.specs.Merge.{sourceOf}
+use Rattle.encoder_stages.specs.inner.Source.{sourceOf}
 use Rattle.encoder_stages.proofs.Merges.{row-lt, col-lt, token-lt, source-lt}
 use Rattle.encoder_stages.proofs.projector.source.Statement.{statement}
 use Rattle.encoder_stages.proofs.projector.source.Tie as tie

@@ -7,10 +7,10 @@ use Rattle.buffers.specs.Region.{region, over, zero32, cleared}
 use Rattle.buffers.specs.Rows.{tab}
 use Rattle.encoder_settings.specs.declared.EncoderSettings.{EncoderSettings}
 use Rattle.encoder_settings.specs.declared.Checked.the-variants.{Accepted}
-use Rattle.encoder_stages.specs.Live.{regionsOf}
+use Rattle.encoder_stages.specs.inner.Live.{regionsOf}
 use Rattle.encoder_stages.specs.Forward.{sizesOf, runOf}
 use Rattle.encoder_stages.specs.Vectors.{ranBy, leftBy}
-use Rattle.encoder_stages.specs.Fits.{RunFits}
+use Rattle.encoder_stages.specs.inner.Fits.{RunFits}
 use Rattle.encoder_steps.proofs.Writes.{went-of, stopped-of}
 use Rattle.encoder_stages.proofs.run.run.Statement.{statement}
 use Rattle.encoder_stages.proofs.run.run.Tie as tie

@@ -3,7 +3,7 @@ use mathlib.Core.Path.{_≡_, sym, ap, _∙_, subst}
 use borrow.Author.Needs.{needs}
 use lib.Dec.{lit≤}
 use lib.Ieee.{Float, le, neg, div, ofBits}
-use Rattle.number_floats.specs.Whole.{AtMost}
+use Rattle.number_floats.specs.inner.Bounds.{AtMost}
 use Rattle.number_floats.specs.Narrow.{narrow}
 use Rattle.number_exp_tanh.specs.Exp.{E, F}
 use Rattle.number_floats.proofs.Patterns.{is-nan}

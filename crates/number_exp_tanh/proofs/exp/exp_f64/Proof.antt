@@ -2,7 +2,7 @@
 use mathlib.Core.Path.{_≡_, sym, ap, ap₂, _∙_, subst}
 use borrow.Author.Needs.{needs}
 use lib.Ieee.{Float, binary64, mul}
-use Rattle.number_floats.specs.Whole.{AtMost}
+use Rattle.number_floats.specs.inner.Bounds.{AtMost}
 use Rattle.number_exp_tanh.specs.Exp.{one, series, twoTo, rWith}
 use Rattle.number_exp_tanh.proofs.exp.Range.{k-fits}
 use Rattle.number_exp_tanh.proofs.exp.exp_f64.Statement.{statement}

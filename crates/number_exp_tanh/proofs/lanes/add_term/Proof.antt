@@ -8,7 +8,8 @@ use lib.ListN.{length, getD, length-set, length-replicate}
 use lib.Ieee.{Float, nan}
 use Rattle.number_exp_tanh.specs.Exp.{term}
 use Rattle.buffers.specs.Rows.{tab}
-use Rattle.buffers.specs.Region.{after, put}
+use Rattle.buffers.specs.Region.{put}
+use Rattle.buffers.specs.inner.Apart.{after}
 use Rattle.buffers.proofs.Lists.{length-tab, tab-step-0, tab-all}
 use Rattle.buffers.proofs.Regions.{getD-put}
 use Rattle.number_exp_tanh.proofs.lanes.add_term.Statement.{statement}

@@ -3,9 +3,10 @@ use mathlib.Core.Path.{_≡_, sym, ap, ap₂, _∙_, subst}
 use mathlib.Core.Bool.{true}
 use borrow.Author.Needs.{needs}
 use lib.Ieee.{binary64, mul}
-use Rattle.number_floats.specs.Whole.{AtMost}
+use Rattle.number_floats.specs.inner.Bounds.{AtMost}
 use Rattle.number_floats.specs.Narrow.{narrow}
-use Rattle.number_exp_tanh.specs.Exp.{twoTo, between}
+use Rattle.number_exp_tanh.specs.Exp.{twoTo}
+use Rattle.number_exp_tanh.specs.inner.Between.{between}
 use Rattle.number_exp_tanh.proofs.exp.Range.{k-fits, between-says}
 use Rattle.number_exp_tanh.proofs.lanes.end_of.Statement.{statement}
 use Rattle.number_exp_tanh.proofs.lanes.end_of.Tie as tie

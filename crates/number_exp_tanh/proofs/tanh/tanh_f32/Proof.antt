@@ -3,7 +3,7 @@ use mathlib.Core.Path.{_≡_, sym, ap, _∙_, subst}
 use borrow.Author.Needs.{needs}
 use lib.Dec.{lit≤}
 use lib.Ieee.{Float, binary64, mul, le, neg, ofBits}
-use Rattle.number_floats.specs.Whole.{AtMost}
+use Rattle.number_floats.specs.inner.Bounds.{AtMost}
 use Rattle.number_floats.specs.Narrow.{narrow}
 use Rattle.number_exp_tanh.specs.Exp.{F}
 use Rattle.number_exp_tanh.specs.Tanh as S

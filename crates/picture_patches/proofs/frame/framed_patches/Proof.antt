@@ -4,7 +4,7 @@ use Prim.Native.Nat.{_+_, _≤_}
 use native.Mathlib.Omega.{arith}
 use borrow.Author.Needs.{needs}
 use lib.ListN.{length, length-replicate}
-use Rattle.picture_patches.specs.Frame.{Placed, Ready}
+use Rattle.picture_patches.specs.inner.Frame.{Placed, Ready}
 use Rattle.picture_patches.proofs.Stored.{stored}
 use Rattle.picture_patches.proofs.frame.framed_patches.Statement.{statement}
 use Rattle.picture_patches.proofs.frame.framed_patches.Tie as tie

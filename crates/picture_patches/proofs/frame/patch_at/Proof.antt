@@ -10,7 +10,7 @@ use Rattle.buffers.specs.Region.{put}
 use Rattle.buffers.proofs.Lists.{fit, length-tab, rows-step}
 use Rattle.picture_samples.specs.Samples.{entry}
 use Rattle.picture_patches.specs.Patches.{patchRow, patchChannel, patchAt, patchLine}
-use Rattle.picture_patches.specs.Frame.{seen}
+use Rattle.picture_patches.specs.inner.Frame.{seen}
 use Rattle.picture_limits.proofs.Places.{turn, square}
 use Rattle.picture_patches.proofs.Patches.{length-channel, length-patch, length-line}
 use Rattle.picture_patches.proofs.frame.patch_at.Statement.{statement}

@@ -20,7 +20,7 @@ use Rattle.picture_samples.proofs.Table.{entry-of, clean-of, value-is}
 use Rattle.picture_patches.specs.declared.frame.Frame.{Frame}
 use Rattle.picture_resize.specs.Resize.{resizedAt}
 use Rattle.picture_patches.specs.Patches.{patches}
-use Rattle.picture_patches.specs.Frame.{Framed}
+use Rattle.picture_patches.specs.inner.Frame.{Framed}
 use Rattle.picture_patches.specs.Resized.{resizedPatches, patchesOver}
 use Rattle.picture_resize.proofs.Same.{byte-below}
 use Rattle.picture_patches.proofs.Patches.{length-patches, patches-ext}

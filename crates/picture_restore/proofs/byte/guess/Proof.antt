@@ -1,6 +1,6 @@
 -- `restore::byte::guess` meets its contract: its sums are the definition's. Assumes nothing.
 use borrow.Author.Needs.{needs}
-use Rattle.picture_restore.specs.Guess.{guessed}
+use Rattle.picture_restore.specs.inner.Guess.{guessed}
 use Rattle.picture_restore.proofs.byte.guess.Statement.{statement}
 use Rattle.picture_restore.proofs.byte.guess.Tie as tie
 

@@ -2,7 +2,7 @@
 use mathlib.Core.Path.{_≡_, sym, ap}
 use Prim.Native.Nat.{suc, _-_}
 use native.Mathlib.Omega.{arith}
-use Rattle.picture_restore.specs.Guess.{shift}
+use Rattle.picture_restore.specs.inner.Guess.{shift}
 use Rattle.picture_restore.proofs.byte.shift_of.Statement.{statement}
 use Rattle.picture_restore.proofs.byte.shift_of.Tie as tie
 

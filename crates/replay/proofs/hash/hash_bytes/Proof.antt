@@ -5,7 +5,8 @@ use native.Mathlib.Omega.{arith}
 use mathlib.Core.Path.{_≡_, sym, ap, _∙_}
 use lib.ListN.{length, getD, drop}
 use Rattle.replay.specs.declared.hash.Lanes.{Lanes}
-use Rattle.replay.specs.Hash.{Reduced, added, lanes, start, summed}
+use Rattle.replay.specs.Hash.{added, lanes, start, summed}
+use Rattle.replay.specs.inner.Reduced.{Reduced}
 use Rattle.replay.proofs.Turns.{lanes-turn, lanes-done}
 use Rattle.replay.proofs.hash.hash_bytes.Statement.{statement}
 use Rattle.replay.proofs.hash.hash_bytes.Tie as tie

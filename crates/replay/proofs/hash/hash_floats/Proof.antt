@@ -6,7 +6,8 @@ use mathlib.Core.Path.{_≡_, sym, ap, _∙_}
 use lib.Ieee.{nan, binary32, toBits}
 use lib.ListN.{length, drop}
 use Rattle.replay.specs.declared.hash.Lanes.{Lanes}
-use Rattle.replay.specs.Hash.{Reduced, added, lanes, start, summed}
+use Rattle.replay.specs.Hash.{added, lanes, start, summed}
+use Rattle.replay.specs.inner.Reduced.{Reduced}
 use Rattle.replay.proofs.Turns.{lanes-turn, lanes-done}
 use Rattle.replay.proofs.hash.hash_floats.Statement.{statement}
 use Rattle.replay.proofs.hash.hash_floats.Tie as tie

@@ -9,7 +9,7 @@ use mathlib.Core.Bool.{Bool, true, false}
 use lib.ListN.{length, take, drop}
 use lib.Seq.{length-take-le}
 use Rattle.unpatch_form.specs.Words.{same}
-use Rattle.unpatch_form.specs.Steps.{until}
+use Rattle.unpatch_form.specs.inner.Steps.{until}
 use Rattle.unpatch_form.proofs.Fields.{behind-cut, behind-alone}
 use Rattle.unpatch_form.proofs.lines.behind.Statement.{statement}
 use Rattle.unpatch_form.proofs.lines.behind.Tie as tie

@@ -8,7 +8,7 @@ use lib.ListN.{length, drop}
 use Rattle.unpatch_form.specs.Words.{word, behind}
 use Rattle.unpatch_form.specs.Form as Form
 use Rattle.unpatch_form.specs.Form.{fields}
-use Rattle.unpatch_form.specs.Steps.{count, fieldsFrom, foundPair}
+use Rattle.unpatch_form.specs.inner.Steps.{count, fieldsFrom, foundPair}
 use Rattle.unpatch_form.proofs.Fields.{rest}
 use Rattle.unpatch_form.proofs.lines.picture.Statement.{statement}
 use Rattle.unpatch_form.proofs.lines.picture.Tie as tie

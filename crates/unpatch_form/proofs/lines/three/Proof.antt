@@ -8,7 +8,7 @@ use lib.ListN.{length, take, drop}
 use lib.Seq.{length-take-le}
 use Rattle.unpatch_form.specs.Form as Form
 use Rattle.unpatch_form.specs.Form.{fields, small}
-use Rattle.unpatch_form.specs.Steps.{found, foundPair}
+use Rattle.unpatch_form.specs.inner.Steps.{found, foundPair}
 use Rattle.unpatch_form.proofs.Fields.{rest, three-alone, three-cut}
 use Rattle.unpatch_form.proofs.lines.three.Statement.{statement}
 use Rattle.unpatch_form.proofs.lines.three.Tie as tie

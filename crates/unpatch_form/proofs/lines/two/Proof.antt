@@ -7,7 +7,7 @@ use mathlib.Core.Option.{Option, none, some}
 use lib.ListN.{length, take, drop}
 use lib.Seq.{length-take-le}
 use Rattle.unpatch_form.specs.Form.{small}
-use Rattle.unpatch_form.specs.Steps.{found}
+use Rattle.unpatch_form.specs.inner.Steps.{found}
 use Rattle.unpatch_form.proofs.Fields.{rest, two-alone, two-cut}
 use Rattle.unpatch_form.proofs.lines.two.Statement.{statement}
 use Rattle.unpatch_form.proofs.lines.two.Tie as tie

@@ -9,7 +9,7 @@ use lib.ListN.{length, drop}
 use Rattle.unpatch_form.specs.Words.{word, behind}
 use Rattle.unpatch_form.specs.Form as Form
 use Rattle.unpatch_form.specs.Form.{fields}
-use Rattle.unpatch_form.specs.Steps.{count, fieldsFrom, foundTriple}
+use Rattle.unpatch_form.specs.inner.Steps.{count, fieldsFrom, foundTriple}
 use Rattle.unpatch_form.proofs.Fields.{rest}
 use Rattle.unpatch_form.proofs.Limits.{three-small, product-small}
 use Rattle.unpatch_form.proofs.lines.vision.Statement.{statement}

@@ -6,7 +6,7 @@ use native.Mathlib.Omega.{arith}
 use mathlib.Core.Path.{_≡_, sym}
 use mathlib.Core.List.{[]}
 use lib.ListN.{length, drop, drop-of-length-le}
-use Rattle.unpatch_form.specs.Steps.{until}
+use Rattle.unpatch_form.specs.inner.Steps.{until}
 use Rattle.unpatch_form.proofs.Pieces.{until-here, until-later}
 use Rattle.unpatch_form.proofs.scan.find.Statement.{statement}
 use Rattle.unpatch_form.proofs.scan.find.Tie as tie

@@ -8,7 +8,7 @@ use lib.ListN.{length, drop, length-drop}
 use Rattle.unpatch_form.specs.Words.{word, behind}
 use Rattle.unpatch_form.specs.Form as Form
 use Rattle.unpatch_form.specs.Form.{fields}
-use Rattle.unpatch_form.specs.Steps.{count, fieldsFrom}
+use Rattle.unpatch_form.specs.inner.Steps.{count, fieldsFrom}
 use Rattle.unpatch_read.proofs.Answers.{written-of}
 use Rattle.unpatch_form.proofs.Fields.{rest}
 use Rattle.unpatch_read.proofs.lines.row.Statement.{statement}

@@ -13,8 +13,8 @@ use lib.Seq.{length-take-le}
 use Rattle.unpatch_form.specs.Words.{_>>=_}
 use Rattle.unpatch_form.specs.Decimal.{decimal, limited}
 use Rattle.unpatch_form.specs.Hex.{hexBytes}
-use Rattle.unpatch_form.specs.Steps.{found}
-use Rattle.unpatch_read.specs.Steps.{Written}
+use Rattle.unpatch_form.specs.inner.Steps.{found}
+use Rattle.unpatch_read.specs.inner.Steps.{Written}
 use Rattle.unpatch_form.specs.declared.decimal.Number.{Number}
 use Rattle.unpatch_read.proofs.Answers.{written-of}
 use Rattle.unpatch_form.proofs.Fields.{rest, row-alone, row-cut, limit-none, limit-some}

@@ -11,8 +11,8 @@ use lib.Seq.{length-take-le}
 use Rattle.buffers.specs.Region.{region}
 use Rattle.unpatch_form.specs.Words.{joined}
 use Rattle.unpatch_form.specs.Form.{lines, row, rows}
-use Rattle.unpatch_form.specs.Steps.{until, count}
-use Rattle.unpatch_read.specs.Steps.{bytesAt}
+use Rattle.unpatch_form.specs.inner.Steps.{until, count}
+use Rattle.unpatch_read.specs.inner.Steps.{bytesAt}
 use Rattle.unpatch_form.proofs.Pieces.{joined-nil}
 use Rattle.unpatch_form.proofs.Fields.{rest}
 use Rattle.unpatch_read.proofs.Rows.{rows-open, rows-bad, rows-turn, rows-end}

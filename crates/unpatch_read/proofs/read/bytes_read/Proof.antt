@@ -1,7 +1,7 @@
 -- `read::bytes_read` meets its contract. Assumes nothing.
 use borrow.Author.Needs.{needs}
 use mathlib.Core.Path.{sym, ap}
-use Rattle.unpatch_read.specs.Steps.{bytesRead}
+use Rattle.unpatch_read.specs.inner.Steps.{bytesRead}
 use Rattle.unpatch_read.proofs.read.bytes_read.Statement.{statement}
 use Rattle.unpatch_read.proofs.read.bytes_read.Tie as tie
 use Rattle.unpatch_read.proofs.read.bytes_read.Reads as reads

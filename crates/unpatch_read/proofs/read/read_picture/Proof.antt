@@ -9,8 +9,8 @@ use lib.Seq.{length-take-le}
 use Rattle.buffers.specs.Region.{region}
 use Rattle.unpatch_form.specs.Words.{_>>=_}
 use Rattle.unpatch_form.specs.Form.{lines, picture, rows, requestOf}
-use Rattle.unpatch_form.specs.Steps.{count, foundPair}
-use Rattle.unpatch_read.specs.Steps.{bytesAt}
+use Rattle.unpatch_form.specs.inner.Steps.{count, foundPair}
+use Rattle.unpatch_read.specs.inner.Steps.{bytesAt}
 use Rattle.unpatch_form.proofs.Fields.{rest, first-alone, first-cut}
 use Rattle.unpatch_read.proofs.Rows.{rows-none}
 use Rattle.unpatch_read.proofs.read.read_picture.Statement.{statement}

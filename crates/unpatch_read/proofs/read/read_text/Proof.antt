@@ -8,7 +8,7 @@ use mathlib.Core.Option.{none, some}
 use lib.ListN.{length, take, drop, length-drop}
 use lib.Seq.{length-take-le}
 use Rattle.unpatch_form.specs.Form.{lines, vision, pictured, form}
-use Rattle.unpatch_form.specs.Steps.{foundTriple}
+use Rattle.unpatch_form.specs.inner.Steps.{foundTriple}
 use Rattle.unpatch_form.proofs.Fields.{rest, first-alone, first-cut}
 use Rattle.unpatch_read.proofs.read.read_text.Statement.{statement}
 use Rattle.unpatch_read.proofs.read.read_text.Tie as tie

@@ -10,7 +10,7 @@ use lib.ListN.{length, take, drop}
 use Rattle.buffers.specs.Region.{region}
 use Rattle.buffers.proofs.Lists.{fit}
 use Rattle.unpatch_text.specs.Print.{rowLine, rowLines}
-use Rattle.unpatch_text.specs.Steps.{Wrote}
+use Rattle.unpatch_text.specs.inner.Steps.{Wrote}
 use Rattle.unpatch_text.proofs.Writes.{row-room, wrote-row, wrote-none}
 use Rattle.unpatch_text.proofs.print.put_rows.Statement.{statement}
 use Rattle.unpatch_text.proofs.print.put_rows.Tie as tie

@@ -19,7 +19,7 @@ use Rattle.picture_limits.proofs.Places.{times}
 use Rattle.picture.proofs.Accepts.{Accepted, acceptance}
 use Rattle.unpatch_text.specs.Print.{refusedLine, gridLine, rowLines}
 use Rattle.unpatch_text.specs.Answer.{restoredText, preprocessedText, ran}
-use Rattle.unpatch_text.specs.Steps.{Shown}
+use Rattle.unpatch_text.specs.inner.Steps.{Shown}
 use Rattle.unpatch_text.proofs.Writes.{wrote-as}
 use Rattle.unpatch_text.proofs.Short.{refused-short}
 use Rattle.unpatch_text.proofs.Rooms.{preprocess-room, grid-span, floats-le, patches-front, Back, Small, bytes-fit, restore-room, back-says, back-small, bytes-back}

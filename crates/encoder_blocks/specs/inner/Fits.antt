@@ -1,0 +1,64 @@
+-- What the inner functions ask of the places and lengths that they are handed. Assumes nothing.
+use mathlib.Core.Path.{_≡_}
+use Prim.Native.Nat.{ℕ, _+_, _*_, _≤_, _<_}
+use Rattle.buffers.specs.inner.Apart.{Apart}
+use Rattle.encoder_blocks.specs.declared.Sizes.{Sizes}
+use Rattle.encoder_blocks.specs.Sizes.{hdOf, dimOf, nOf, mOf}
+use Rattle.encoder_blocks.specs.Weights.{layerOf}
+
+-- what a block asks of its shape and of the lengths of scratch and weights
+pub record BlockFits (z : Sizes) (lens lenw : ℕ) : Type 0 where
+  pub scratch : 7 * nOf z + 2 * mOf z ≤ lens
+  pub weights : lenw ≡ layerOf z
+  pub small : dimOf z ≤ 2048
+  pub narrow : hdOf z ≤ 256
+  pub dimIn : dimOf z ≤ lens
+
+-- the score row lies behind the block's regions
+pub record ScoreRow (z : Sizes) (lens row : ℕ) : Type 0 where
+  pub behind : 7 * nOf z + 2 * mOf z ≤ row
+  pub inside : row + z .tokens ≤ lens
+
+-- what the rotation asks of the tables
+pub record TurnFits (z : Sizes) (lens lenc lenn : ℕ) : Type 0 where
+  pub scratch : 7 * nOf z + 2 * mOf z ≤ lens
+  pub small : dimOf z ≤ 2048
+  pub narrow : hdOf z ≤ 256
+  pub dimIn : dimOf z ≤ lens
+  pub tables : z .side ≤ 2048
+  pub some : 0 < z .«grid_w»
+  pub wide : z .«grid_w» ≤ z .side
+  pub high : z .tokens ≤ z .side * z .«grid_w»
+  pub cosines : lenc ≡ z .side * z .side * hdOf z
+  pub sines : lenn ≡ z .side * z .side * hdOf z
+
+-- a linear layer by matrix i of q, k, v, o, from x to y
+pub record SquareAt (z : Sizes) (lens lenw i x y : ℕ) : Type 0 where
+  pub fits : BlockFits z lens lenw
+  pub which : i < 4
+  pub xIn : x + nOf z ≤ lens
+  pub yIn : y + nOf z ≤ lens
+  pub apart : Apart x (nOf z) y (nOf z)
+
+-- rotation at x
+pub record TurnAt (z : Sizes) (lens lenc lenn x : ℕ) : Type 0 where
+  pub fits : TurnFits z lens lenc lenn
+  pub xIn : x + nOf z ≤ lens
+
+-- count layers, whose weights start at place at
+pub record LayersFits (z : Sizes) (lens lenw lenc lenn row at count : ℕ) : Type 0 where
+  pub weights : at + count * layerOf z ≤ lenw
+  pub one : layerOf z ≤ 67112960
+  pub inner : z .inter ≤ 8192
+  pub turn : TurnFits z lens lenc lenn
+  pub scores : ScoreRow z lens row
+
+-- what the first of the tests of `Room.antt` says
+pub record SizesFit (z : Sizes) : Type 0 where
+  pub narrow : hdOf z ≤ 256
+  pub small : dimOf z ≤ 2048
+  pub tables : z .side ≤ 2048
+  pub some : 0 < z .«grid_w»
+  pub wide : z .«grid_w» ≤ z .side
+  pub high : z .tokens ≤ z .side * z .«grid_w»
+  pub inner : z .inter ≤ 8192

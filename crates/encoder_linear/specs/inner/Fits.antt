@@ -1,0 +1,115 @@
+-- What the inner functions ask of the places and lengths that they are handed. Assumes nothing.
+use mathlib.Core.Path.{_≡_}
+use mathlib.Core.List.{List}
+use Prim.Native.Nat.{ℕ, _+_, _*_, _≤_, _<_}
+use lib.ListN.{length}
+use lib.Ieee.{Float}
+use Rattle.buffers.specs.inner.Apart.{Apart}
+
+-- lanes of a and of b, by two rows of as many weights
+pub record TwoFit (a b : List Float) (lent lenw lenv : ℕ) : Type 0 where
+  pub first : length a ≡ 16
+  pub second : length b ≡ 16
+  pub tin : lenw * 16 ≤ lent
+  pub same : lenv ≡ lenw
+
+-- n floats of v, from o on with step q, to at with step m
+pub record StrideFits (lend at m lenv o q n : ℕ) : Type 0 where
+  pub to : (i : ℕ) → i < n → at + i * m < lend
+  pub from : (i : ℕ) → i < n → o + i * q < lenv
+
+-- n floats of each of r rows, to m lanes
+pub record PackFits (lent m lenx at r nin n : ℕ) : Type 0 where
+  pub rows : r ≤ m
+  pub tin : n * m ≤ lent
+  pub xin : (l : ℕ) → l < r → at + l * nin + n ≤ lenx
+
+-- r rows of sums at y, by n of the floats of each row of the weights
+pub record ColumnsFits (lens lenw lent y r nin nout k n : ℕ) : Type 0 where
+  pub some : 0 < r
+  pub rows : r ≤ 16
+  pub yin : y + r * nout ≤ lens
+  pub win : nout * nin ≤ lenw
+  pub tin : n * 16 ≤ lent
+  pub kin : k + n ≤ nin
+
+-- and column c of them
+pub record ColumnAt (lens lenw lent y r nin nout k n c : ℕ) : Type 0 where
+  pub fits : ColumnsFits lens lenw lent y r nin nout k n
+  pub column : c < nout
+
+-- sixteen cells, by four lanes at j and a weight of each of four rows of nin
+pub record CellFits (lena lent lenw j at nin : ℕ) : Type 0 where
+  pub cells : lena ≡ 16
+  pub tin : j + 4 ≤ lent
+  pub win : at + 3 * nin < lenw
+
+-- by n of each
+pub record CellsFit (lena lent lenw at nin n : ℕ) : Type 0 where
+  pub cells : lena ≡ 16
+  pub tin : n * 16 ≤ lent
+  pub win : at + 3 * nin + n ≤ lenw
+
+-- sixteen cells to four columns of r rows
+pub record UnpackFits (lens lenb at nout r : ℕ) : Type 0 where
+  pub rows : r ≤ 4
+  pub wide : 4 ≤ nout
+  pub cells : 16 ≤ lenb
+  pub to : (l : ℕ) → l < r → at + l * nout + 4 ≤ lens
+
+-- up to four rows of sums, and columns c to c + 3 of them
+pub record FourAt (lens lenw lent y r nin nout k n c : ℕ) : Type 0 where
+  pub few : r ≤ 4
+  pub fits : ColumnsFits lens lenw lent y r nin nout k n
+  pub columns : c + 4 ≤ nout
+
+-- r is at most a and at most b, and not 0 where neither is
+pub record UpTo (a b r : ℕ) : Type 0 where
+  pub first : r ≤ a
+  pub second : r ≤ b
+  pub some : 0 < a → 0 < b → 0 < r
+
+-- n rows at x, by the nout rows of the weights, to y
+pub record LinearFits (lens lenw x y n nin nout : ℕ) : Type 0 where
+  pub xin : x + n * nin ≤ lens
+  pub yin : y + n * nout ≤ lens
+  pub win : nout * nin ≤ lenw
+  pub apart : Apart x (n * nin) y (n * nout)
+
+-- up to sixteen of them, and n of the products of each sum
+pub record BlockFits (lens lenw x y r nin nout : ℕ) : Type 0 where
+  pub some : 0 < r
+  pub lanes : r ≤ 16
+  pub all : LinearFits lens lenw x y r nin nout
+
+pub record PieceFits (lens lenw x y r nin nout k n : ℕ) : Type 0 where
+  pub block : BlockFits lens lenw x y r nin nout
+  pub kin : k + n ≤ nin
+  pub short : n ≤ 1024
+
+-- the same with rows of another slice
+pub record FromFits (lenx lens lenw y n nin nout : ℕ) : Type 0 where
+  pub xin : n * nin ≤ lenx
+  pub yin : y + n * nout ≤ lens
+  pub win : nout * nin ≤ lenw
+
+pub record FromBlockFits (lenx lens lenw x y r nin nout : ℕ) : Type 0 where
+  pub some : 0 < r
+  pub lanes : r ≤ 16
+  pub xin : x + r * nin ≤ lenx
+  pub yin : y + r * nout ≤ lens
+  pub win : nout * nin ≤ lenw
+
+pub record FromPieceFits (lenx lens lenw x y r nin nout k n : ℕ) : Type 0 where
+  pub block : FromBlockFits lenx lens lenw x y r nin nout
+  pub kin : k + n ≤ nin
+  pub short : n ≤ 1024
+
+-- where the weights, the rows and the sums stand
+pub record WeighFits (len : ℕ) (row v out t dim hd o : ℕ) : Type 0 where
+  pub vIn : v + t * dim ≤ len
+  pub rowIn : row + t ≤ len
+  pub outIn : out + hd ≤ len
+  pub oIn : o + hd ≤ dim
+  pub rowout : Apart row t out hd
+  pub vout : Apart v (t * dim) out hd

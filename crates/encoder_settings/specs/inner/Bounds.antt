@@ -1,0 +1,35 @@
+-- What allowed settings say of the sizes and their products, so that no product wraps. Assumes nothing.
+use Prim.Native.Nat.{ℕ, _*_, _≤_}
+use Rattle.picture_limits.specs.Patches.{patchFloats}
+use Rattle.picture_limits.specs.Shape.{most}
+use Rattle.encoder_settings.specs.declared.EncoderSettings.{EncoderSettings}
+use Rattle.encoder_settings.specs.Weights.{layerFloats}
+use Rattle.encoder_settings.specs.Settings.{mergeArea}
+
+pub record Bounded (s : EncoderSettings) : Type 0 where
+  pub patch-low : 1 ≤ s .picture .«patch_size»
+  pub merge-low : 1 ≤ s .picture .«spatial_merge_size»
+  pub merge-area : mergeArea (s .picture) ≤ 16
+  pub most-high : most (s .picture) ≤ 2048
+  pub patch-area : s .picture .«patch_size» * s .picture .«patch_size» ≤ 1024
+  pub hidden-high : s .«hidden_size» ≤ 2048
+  pub inner-high : s .«intermediate_size» ≤ 8192
+  pub text-high : s .«text_hidden_size» ≤ 8192
+  pub squares : s .«hidden_size» * s .«hidden_size» ≤ 4194304
+  pub outer : s .«hidden_size» * s .«intermediate_size» ≤ 16777216
+  pub inner : s .«intermediate_size» * s .«hidden_size» ≤ 16777216
+  pub projection : s .«hidden_size» * patchFloats (s .picture .«patch_size») ≤ 6291456
+  pub layers : s .«num_layers» * layerFloats (s .«hidden_size») (s .«intermediate_size») ≤ 4294967296
+  pub merged : s .«hidden_size» * mergeArea (s .picture) ≤ 32768
+  pub merging : s .«hidden_size» * (s .«hidden_size» * mergeArea (s .picture)) ≤ 67108864
+  pub linear-1 : s .«text_hidden_size» * s .«hidden_size» ≤ 16777216
+  pub linear-2 : s .«text_hidden_size» * s .«text_hidden_size» ≤ 67108864
+  pub positions : most (s .picture) * most (s .picture) ≤ 4194304
+  pub table : most (s .picture) * most (s .picture) * s .«head_dim» ≤ 1073741824
+
+-- the same of t tokens of which o are left
+pub record Counted (s : EncoderSettings) (t o : ℕ) : Type 0 where
+  pub tokens : t ≤ 4194304
+  pub hiddens : t * s .«hidden_size» ≤ 8589934592
+  pub inners : t * s .«intermediate_size» ≤ 34359738368
+  pub texts : o * s .«text_hidden_size» ≤ 34359738368

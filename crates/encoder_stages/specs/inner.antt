@@ -1,0 +1,4 @@
+pub mod Fits
+pub mod Live
+pub mod Source
+pub mod Inputs

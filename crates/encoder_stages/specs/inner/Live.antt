@@ -1,0 +1,22 @@
+-- What stands behind a block's regions in the scratch, and what the embedding leaves. Assumes nothing.
+use mathlib.Core.Bool.{Bool}
+use mathlib.Core.Path.{_≡_}
+use mathlib.Core.List.{List, [], _∷_}
+use Prim.Native.Nat.{ℕ, _+_, _*_}
+use lib.Ieee.{Float}
+use Rattle.encoder_elements.specs.Element.{rounded}
+use Rattle.encoder_steps.specs.Run.{fine}
+use Rattle.encoder_blocks.specs.declared.Sizes.{Sizes}
+use Rattle.encoder_blocks.specs.Sizes.{nOf, mOf}
+use Rattle.encoder_blocks.specs.inner.Live.{hAt}
+use Rattle.encoder_stages.specs.declared.Regions.{Regions}
+use Rattle.encoder_stages.specs.Embed.{patchConv, lnPre}
+
+-- linear_1's result, linear_2's, of e floats each, and the score row
+abbrev pub regionsOf : Sizes → ℕ → Regions
+regionsOf z e = record { linear = 7 * nOf z + 2 * mOf z; row = 7 * nOf z + 2 * mOf z + 2 * e }
+
+-- patch projection, its bf16, ln_pre, its bf16
+pub record Embedded (z : Sizes) (f : ℕ) (w x t : List Float) (ok r : Bool) : Type 0 where
+  pub h-is : hAt z t ≡ rounded (nOf z) (lnPre z f w (rounded (nOf z) (patchConv z f w x)))
+  pub fine-is : r ≡ (let a = patchConv z f w x in let b = rounded (nOf z) a in let c = lnPre z f w b in fine ok (a ∷ b ∷ c ∷ rounded (nOf z) c ∷ []))
