@@ -2,3 +2,4 @@ pub mod Regions
 pub mod Lists
 pub mod Steps
 pub mod Rooms
+pub mod Bytes

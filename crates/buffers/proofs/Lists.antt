@@ -131,6 +131,14 @@ pub and-both : (a b : Bool) → a ≡ true → b ≡ true → a && b ≡ true
 and-both true b e g = g
 and-both false b e g = absurd (true≢false (sym e))
 
+and-true : (a : Bool) → (a && true) ≡ a
+and-true true = refl
+and-true false = refl
+
+and-assoc : (a b c : Bool) → (a && b && c) ≡ (a && (b && c))
+and-assoc true b c = refl
+and-assoc false b c = refl
+
 pub all-at : (n : ℕ) (f : ℕ → Bool) → all n f ≡ true → (i : ℕ) → i < n → f i ≡ true
 unfolding all
 all-at zero f t i h = absurd (omega arith)
@@ -157,6 +165,18 @@ all-fails n f i h e = go (all n f) refl
     go : (b : Bool) → all n f ≡ b → b ≡ false
     go true t = absurd (true≢false (sym (all-at n f t i h) ∙ e))
     go false t = refl
+
+pub all-add : (n m : ℕ) (f : ℕ → Bool) → all (n + m) f ≡ (all n f && all m (λ j. f (n + j)))
+unfolding all
+all-add n zero f = ap (λ (k : ℕ). all k f) (add-zero n) ∙ sym (and-true (all n f))
+all-add n (suc m) f =
+    ap (λ (k : ℕ). all k f) (add-suc n m) ∙ ap (λ (b : Bool). b && f (n + m)) (all-add n m f) ∙ and-assoc (all n f) (all m (λ j. f (n + j))) (f (n + m))
+
+-- tests in groups of b
+pub all-mul : (a b : ℕ) (f : ℕ → Bool) → all (a * b) f ≡ all a (λ i. all b (λ j. f (i * b + j)))
+unfolding all
+all-mul zero b f = ap (λ (k : ℕ). all k f) (zero-mul b)
+all-mul (suc a) b f = ap (λ (k : ℕ). all k f) (suc-mul a b) ∙ all-add (a * b) b f ∙ ap (λ (c : Bool). c && all b (λ j. f (a * b + j))) (all-mul a b f)
 
 pub all-ext : (n : ℕ) (f g : ℕ → Bool) → ((i : ℕ) → i < n → f i ≡ g i) → all n f ≡ all n g
 unfolding all

@@ -13,8 +13,8 @@ use Rattle.buffers.specs.inner.Apart.{Apart, before, after}
 use Rattle.buffers.specs.inner.Room.{inside, aside, whereFits}
 use Rattle.buffers.proofs.Lists.{and-left, and-right}
 
-pub both : (a b : Bool) → a && b ≡ true → (a ≡ true) × (b ≡ true)
-both a b h = (and-left a b h, and-right a b h)
+pub and-parts : (a b : Bool) → a && b ≡ true → (a ≡ true) × (b ≡ true)
+and-parts a b h = (and-left a b h, and-right a b h)
 
 pub two : {a b : Bool} → a ≡ true → b ≡ true → a && b ≡ true
 two p q = rw (p, q)

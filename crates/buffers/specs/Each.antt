@@ -10,7 +10,11 @@ module _ {A : Type 0} where
   abbrev pub eachRow : ℕ → ℕ → (ℕ → List A → List A) → List A → List A
   eachRow n m F l = rows n (λ i. F i (region l (i * m) m))
 
-  -- F of the first n elements of a and of b, one by one; d where there is none
+  -- F of each of the first n elements of a; d where there is none
+  abbrev pub each : A → ℕ → (A → A) → List A → List A
+  each d n F a = tab n (λ i. F (getD a i d))
+
+  -- F of the first n elements of a and of b, one by one
   abbrev pub both : A → ℕ → (A → A → A) → List A → List A → List A
   both d n F a b = tab n (λ i. F (getD a i d) (getD b i d))
 

@@ -1,4 +1,5 @@
 pub mod Rows
 pub mod Region
 pub mod Each
+pub mod Lent
 pub mod inner

@@ -4,7 +4,8 @@ use mathlib.Core.List.{List, [], _∷_, _++_}
 use Prim.Native.Nat.{ℕ, suc}
 use lib.Dec.{leb}
 use lib.ListN.{length, take, drop, set}
-use lib.Ieee.{Float, binary32, ofBits}
+use lib.Ieee.{Float}
+use Rattle.number_floats.specs.Constants.{zero32}
 use Rattle.buffers.specs.Rows.{tab}
 
 module _ {A : Type 0} where
@@ -24,13 +25,6 @@ module _ {A : Type 0} where
   -- ys over the front of old, where they fit
   unfoldable pub copied : List A → List A → List A
   copied ys old = cond (leb (length ys) (length old)) (over ys old) old
-
--- +0 and one, as f32
-abbrev pub zero32 : Float
-zero32 = ofBits binary32 0
-
-abbrev pub one32 : Float
-one32 = ofBits binary32 0x3F800000
 
 -- as many +0 as s has elements
 abbrev pub cleared : List Float → List Float

@@ -10,7 +10,8 @@ use native.Mathlib.Numerals.{add-one}
 use lib.ListN.{length}
 use lib.Ieee.{Float}
 use Rattle.buffers.specs.Rows.{rows}
-use Rattle.buffers.specs.Region.{region, put, zero32}
+use Rattle.buffers.specs.Region.{region, put}
+use Rattle.number_floats.specs.Constants.{zero32}
 use Rattle.buffers.specs.inner.Apart.{Apart}
 use Rattle.buffers.proofs.Regions.{put-put, region-put, region-put-same, region-region, length-region, apart-sub}
 use Rattle.buffers.proofs.Lists.{fit, length-tab, length-rows, put-rows}

@@ -6,7 +6,7 @@ use Prim.Native.Nat.{ℕ, _+_, _*_, _≤_}
 use native.Mathlib.Omega.{arith}
 use borrow.Author.Tests.{leb-true, le-leb}
 use Rattle.buffers.specs.inner.Room.{inside, aside}
-use Rattle.buffers.proofs.Rooms.{both, two, aside-says, aside-is}
+use Rattle.buffers.proofs.Rooms.{and-parts, two, aside-says, aside-is}
 use Rattle.encoder_attention.specs.inner.Room.{threeAside, placesFit, attendFits}
 use Rattle.encoder_attention.specs.inner.Fits.{KeysFit}
 
@@ -19,22 +19,22 @@ module _ {len q k v kt row out t heads hd : ℕ} where
       let rows = threeAside q kt v n row t in
       let outs = threeAside q kt v n out n in
       let keys = inside len k n && threeAside q k v n kt n in
-      let a = both (inside len 0 (heads * hd)) (inside len q n && (placesFit len q kt v row out t n && keys)) h in
-      let b = both (inside len q n) (placesFit len q kt v row out t n && keys) (a .1) in
-      let p = both (placesFit len q kt v row out t n) keys (b .1) in
-      let c = both held ((rows && outs) && aside out n row t) (p .0) in
-      let d = both (inside len kt n && inside len v n) (inside len out n && inside len row t) (c .0) in
-      let kv = both (inside len kt n) (inside len v n) (d .0) in
-      let or = both (inside len out n) (inside len row t) (d .1) in
-      let e = both (rows && outs) (aside out n row t) (c .1) in
-      let f = both rows outs (e .0) in
-      let r = both (aside q n row t && aside kt n row t) (aside v n row t) (f .0) in
-      let r′ = both (aside q n row t) (aside kt n row t) (r .0) in
-      let o = both (aside q n out n && aside kt n out n) (aside v n out n) (f .1) in
-      let o′ = both (aside q n out n) (aside kt n out n) (o .0) in
-      let g = both (inside len k n) (threeAside q k v n kt n) (p .1) in
-      let z = both (aside q n kt n && aside k n kt n) (aside v n kt n) (g .1) in
-      let z′ = both (aside q n kt n) (aside k n kt n) (z .0) in
+      let a = and-parts (inside len 0 (heads * hd)) (inside len q n && (placesFit len q kt v row out t n && keys)) h in
+      let b = and-parts (inside len q n) (placesFit len q kt v row out t n && keys) (a .1) in
+      let p = and-parts (placesFit len q kt v row out t n) keys (b .1) in
+      let c = and-parts held ((rows && outs) && aside out n row t) (p .0) in
+      let d = and-parts (inside len kt n && inside len v n) (inside len out n && inside len row t) (c .0) in
+      let kv = and-parts (inside len kt n) (inside len v n) (d .0) in
+      let or = and-parts (inside len out n) (inside len row t) (d .1) in
+      let e = and-parts (rows && outs) (aside out n row t) (c .1) in
+      let f = and-parts rows outs (e .0) in
+      let r = and-parts (aside q n row t && aside kt n row t) (aside v n row t) (f .0) in
+      let r′ = and-parts (aside q n row t) (aside kt n row t) (r .0) in
+      let o = and-parts (aside q n out n && aside kt n out n) (aside v n out n) (f .1) in
+      let o′ = and-parts (aside q n out n) (aside kt n out n) (o .0) in
+      let g = and-parts (inside len k n) (threeAside q k v n kt n) (p .1) in
+      let z = and-parts (aside q n kt n && aside k n kt n) (aside v n kt n) (g .1) in
+      let z′ = and-parts (aside q n kt n) (aside k n kt n) (z .0) in
       let dim = leb-true (0 + heads * hd) len (a .0) in
       let ktIn = leb-true (kt + n) len (kv .0) in
       record {

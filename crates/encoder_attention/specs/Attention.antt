@@ -6,8 +6,9 @@ use lib.ListN.{length, getD}
 use lib.Ieee.{Float, nan, inf, binary32, mul, sub, div, lt}
 use Rattle.number_exp_tanh.specs.Exp.{E}
 use Rattle.buffers.specs.Rows.{tab, rows}
-use Rattle.buffers.specs.Region.{region, zero32, one32}
-use Rattle.buffers.specs.Each.{both}
+use Rattle.buffers.specs.Region.{region}
+use Rattle.number_floats.specs.Constants.{one32, zero32}
+use Rattle.buffers.specs.Each.{each}
 use Rattle.encoder_linear.specs.Linear.{sumOf, dotOf}
 use Rattle.encoder_linear.specs.Weighed.{weighedRow}
 
@@ -31,10 +32,10 @@ inverseOf x = cond (lt zero32 x) (div binary32 one32 x) zero32
 
 -- E of each of the n values less m, and each times m
 unfoldable pub expLess : ℕ → Float → List Float → List Float
-expLess n m l = both nan n (λ a b. E (sub binary32 a m)) l l
+expLess n m l = each nan n (λ a. E (sub binary32 a m)) l
 
 unfoldable pub scaled : ℕ → Float → List Float → List Float
-scaled n m l = both nan n (λ a b. mul binary32 a m) l l
+scaled n m l = each nan n (λ a. mul binary32 a m) l
 
 -- E of each score less the row's largest
 unfoldable pub softened : ℕ → List Float → List Float

@@ -7,7 +7,8 @@ use native.Mathlib.Omega.{arith}
 use lib.ListN.{length}
 use lib.Ieee.{Float}
 use Rattle.buffers.specs.Rows.{tab}
-use Rattle.buffers.specs.Region.{region, put, zero32}
+use Rattle.buffers.specs.Region.{region, put}
+use Rattle.number_floats.specs.Constants.{zero32}
 use Rattle.buffers.specs.inner.Apart.{Apart, before, after}
 use Rattle.buffers.proofs.Regions.{length-put, region-put, region-put-same}
 use Rattle.encoder_blocks.specs.declared.Sizes.{Sizes}

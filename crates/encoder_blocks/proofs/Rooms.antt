@@ -8,7 +8,7 @@ use native.Mathlib.Omega.{arith}
 use borrow.Author.Tests.{ltb-true, leb-true, eqb-true, lt-ltb, le-leb, eq-eqb}
 use lib.Dec.{leb, ltb, eqb}
 use Rattle.buffers.specs.inner.Room.{inside}
-use Rattle.buffers.proofs.Rooms.{both, two}
+use Rattle.buffers.proofs.Rooms.{and-parts, two}
 use Rattle.encoder_blocks.specs.declared.Sizes.{Sizes}
 use Rattle.encoder_blocks.specs.Sizes.{hdOf, dimOf, nOf, mOf}
 use Rattle.encoder_blocks.specs.Weights.{layerOf}
@@ -47,12 +47,12 @@ module _ (z : Sizes) where
   sizes-say h =
       let few = inside 2048 0 (dimOf z) && leb (z .tokens) (z .side * z .«grid_w») in
       let some = leb (z .inter) 8192 && ltb 0 (z .«grid_w») in
-      let a = both (leb (z .half) 128) (leb (z .side) 2048 && (leb (z .«grid_w») (z .side) && (few && some))) h in
-      let b = both (leb (z .side) 2048) (leb (z .«grid_w») (z .side) && (few && some)) (a .1) in
-      let c = both (leb (z .«grid_w») (z .side)) (few && some) (b .1) in
-      let d = both few some (c .1) in
-      let e = both (inside 2048 0 (dimOf z)) (leb (z .tokens) (z .side * z .«grid_w»)) (d .0) in
-      let f = both (leb (z .inter) 8192) (ltb 0 (z .«grid_w»)) (d .1) in
+      let a = and-parts (leb (z .half) 128) (leb (z .side) 2048 && (leb (z .«grid_w») (z .side) && (few && some))) h in
+      let b = and-parts (leb (z .side) 2048) (leb (z .«grid_w») (z .side) && (few && some)) (a .1) in
+      let c = and-parts (leb (z .«grid_w») (z .side)) (few && some) (b .1) in
+      let d = and-parts few some (c .1) in
+      let e = and-parts (inside 2048 0 (dimOf z)) (leb (z .tokens) (z .side * z .«grid_w»)) (d .0) in
+      let f = and-parts (leb (z .inter) 8192) (ltb 0 (z .«grid_w»)) (d .1) in
       let narrow = leb-true (z .half) 128 (a .0) in
       let small = leb-true (0 + dimOf z) 2048 (e .0) in
       record {
@@ -80,12 +80,12 @@ module _ (z : Sizes) where
         let table = z .side * z .side * hdOf z in
         let tables = eqb lenc table && eqb lenn table in
         let held = leb (7 * nOf z + 2 * mOf z) row && inside lens row (z .tokens) in
-        let p = both (sizesFit z) ((tables && (held && leb (dimOf z) lens)) && inside lenw at (count * layerOf z)) h in
-        let a = both (tables && (held && leb (dimOf z) lens)) (inside lenw at (count * layerOf z)) (p .1) in
-        let b = both tables (held && leb (dimOf z) lens) (a .0) in
-        let c = both (eqb lenc table) (eqb lenn table) (b .0) in
-        let d = both held (leb (dimOf z) lens) (b .1) in
-        let e = both (leb (7 * nOf z + 2 * mOf z) row) (inside lens row (z .tokens)) (d .0) in
+        let p = and-parts (sizesFit z) ((tables && (held && leb (dimOf z) lens)) && inside lenw at (count * layerOf z)) h in
+        let a = and-parts (tables && (held && leb (dimOf z) lens)) (inside lenw at (count * layerOf z)) (p .1) in
+        let b = and-parts tables (held && leb (dimOf z) lens) (a .0) in
+        let c = and-parts (eqb lenc table) (eqb lenn table) (b .0) in
+        let d = and-parts held (leb (dimOf z) lens) (b .1) in
+        let e = and-parts (leb (7 * nOf z + 2 * mOf z) row) (inside lens row (z .tokens)) (d .0) in
         let f = sizes-say (p .0) in
         let q = products z f in
         let behind = leb-true (7 * nOf z + 2 * mOf z) row (e .0) in

@@ -6,8 +6,8 @@ use lib.Ieee.{Float, nan, binary32, add, mul, div, neg, ofBits}
 use Rattle.number_bf16_half_root.specs.Bf16.{bf16Of}
 use Rattle.number_exp_tanh.specs.Exp.{E}
 use Rattle.number_exp_tanh.specs.Tanh.{T}
-use Rattle.buffers.specs.Region.{one32}
-use Rattle.buffers.specs.Each.{both}
+use Rattle.number_floats.specs.Constants.{one32}
+use Rattle.buffers.specs.Each.{each, both}
 
 abbrev pub half32 : Float
 half32 = ofBits binary32 0x3F000000
@@ -30,7 +30,7 @@ geluOf x =
     (add binary32 one32 (T (mul binary32 rootTwoOverPi (add binary32 x (mul binary32 (mul binary32 (mul binary32 cubic x) x) x)))))
 
 unfoldable pub rounded : ℕ → List Float → List Float
-rounded n x = both nan n (λ a b. bf16Of a) x x
+rounded n x = each nan n bf16Of x
 
 unfoldable pub added : ℕ → List Float → List Float → List Float
 added n x y = both nan n (λ a b. add binary32 a b) x y
@@ -40,4 +40,4 @@ unfoldable pub gated : ℕ → List Float → List Float → List Float
 gated n g u = both nan n (λ a b. mul binary32 (siluOf a) b) g u
 
 unfoldable pub gelued : ℕ → List Float → List Float
-gelued n x = both nan n (λ a b. geluOf a) x x
+gelued n x = each nan n geluOf x

@@ -7,7 +7,7 @@ use native.Mathlib.Omega.{arith}
 use borrow.Author.Tests.{ltb-true, leb-true, eqb-true, lt-ltb, le-leb, eq-eqb}
 use lib.Dec.{leb, ltb, eqb}
 use Rattle.buffers.specs.inner.Room.{inside, aside}
-use Rattle.buffers.proofs.Rooms.{both, two, aside-says, aside-is}
+use Rattle.buffers.proofs.Rooms.{and-parts, two, aside-says, aside-is}
 use Rattle.encoder_kernels.specs.inner.Room.{normFits, rotateFits}
 use Rattle.encoder_kernels.specs.inner.Fits.{NormFits, RotateFits}
 
@@ -15,10 +15,10 @@ module _ {lens lenw x y n dim : ℕ} where
   pub norm-says : normFits lens lenw x y n dim ≡ true → NormFits lens lenw x y n dim
   unfolding normFits
   norm-says h =
-      let p = both (inside lens x (n * dim) && inside lens y (n * dim)) ((leb dim 2048 && eqb lenw dim) && aside x (n * dim) y (n * dim)) h in
-      let a = both (inside lens x (n * dim)) (inside lens y (n * dim)) (p .0) in
-      let b = both (leb dim 2048 && eqb lenw dim) (aside x (n * dim) y (n * dim)) (p .1) in
-      let d = both (leb dim 2048) (eqb lenw dim) (b .0) in
+      let p = and-parts (inside lens x (n * dim) && inside lens y (n * dim)) ((leb dim 2048 && eqb lenw dim) && aside x (n * dim) y (n * dim)) h in
+      let a = and-parts (inside lens x (n * dim)) (inside lens y (n * dim)) (p .0) in
+      let b = and-parts (leb dim 2048 && eqb lenw dim) (aside x (n * dim) y (n * dim)) (p .1) in
+      let d = and-parts (leb dim 2048) (eqb lenw dim) (b .0) in
       record {
         small = leb-true dim 2048 (d .0);
         xin = leb-true (x + n * dim) lens (a .0);
@@ -42,14 +42,14 @@ module _ {lens lenc lenn x tokens heads half gw side : ℕ} where
       let tables = eqb lenc table && eqb lenn table in
       let grid = ltb 0 gw && leb tokens (side * gw) in
       let rest = (inside lens x (tokens * dim) && grid) && tables in
-      let a = both (leb half 128) (leb side 2048 && (leb gw side && (inside lens 0 dim && rest))) h in
-      let b = both (leb side 2048) (leb gw side && (inside lens 0 dim && rest)) (a .1) in
-      let c = both (leb gw side) (inside lens 0 dim && rest) (b .1) in
-      let d = both (inside lens 0 dim) rest (c .1) in
-      let e = both (inside lens x (tokens * dim) && grid) tables (d .1) in
-      let f = both (inside lens x (tokens * dim)) grid (e .0) in
-      let g = both (ltb 0 gw) (leb tokens (side * gw)) (f .1) in
-      let k = both (eqb lenc table) (eqb lenn table) (e .1) in
+      let a = and-parts (leb half 128) (leb side 2048 && (leb gw side && (inside lens 0 dim && rest))) h in
+      let b = and-parts (leb side 2048) (leb gw side && (inside lens 0 dim && rest)) (a .1) in
+      let c = and-parts (leb gw side) (inside lens 0 dim && rest) (b .1) in
+      let d = and-parts (inside lens 0 dim) rest (c .1) in
+      let e = and-parts (inside lens x (tokens * dim) && grid) tables (d .1) in
+      let f = and-parts (inside lens x (tokens * dim)) grid (e .0) in
+      let g = and-parts (ltb 0 gw) (leb tokens (side * gw)) (f .1) in
+      let k = and-parts (eqb lenc table) (eqb lenn table) (e .1) in
       let narrow = leb-true half 128 (a .0) in
       let dimin = leb-true (0 + dim) lens (d .0) in
       record {

@@ -6,7 +6,7 @@ use lib.ListN.{getD}
 use lib.Ieee.{Float, nan, binary32, add, mul, div, ofBits, ofInt}
 use Rattle.number_bf16_half_root.specs.Root.{rootOf}
 use Rattle.buffers.specs.Rows.{tab}
-use Rattle.buffers.specs.Region.{one32}
+use Rattle.number_floats.specs.Constants.{one32}
 use Rattle.buffers.specs.Each.{eachRow}
 use Rattle.encoder_linear.specs.Linear.{dotOf}
 

@@ -9,7 +9,8 @@ use lib.Arith.{digits-div, digits-mod}
 use lib.ListN.{length, getD}
 use lib.Ieee.{Float, nan, binary32, add, mul}
 use Rattle.buffers.specs.Rows.{tab, rows, grid}
-use Rattle.buffers.specs.Region.{region, put, zero32}
+use Rattle.buffers.specs.Region.{region, put}
+use Rattle.number_floats.specs.Constants.{zero32}
 use Rattle.buffers.specs.inner.Apart.{Apart}
 use Rattle.buffers.proofs.Regions.{getD-put-same, put-put, put-append, region-put, region-put-same, region-region, length-region, getD-region, apart-sub}
 use Rattle.buffers.proofs.Lists.{fit, length-tab, getD-tab, tab-ext, tab-mul, length-rows, getD-rows, rows-ext, rows-add}

@@ -6,7 +6,7 @@ use Prim.Native.Nat.{ℕ, _+_, _*_, _≤_}
 use native.Mathlib.Omega.{arith}
 use borrow.Author.Tests.{leb-true, le-leb}
 use Rattle.buffers.specs.inner.Room.{inside, aside}
-use Rattle.buffers.proofs.Rooms.{both, two, aside-says, aside-is}
+use Rattle.buffers.proofs.Rooms.{and-parts, two, aside-says, aside-is}
 use Rattle.encoder_linear.specs.inner.Room.{linearFits, fromFits, weighFits}
 use Rattle.encoder_linear.specs.inner.Fits.{LinearFits, FromFits, WeighFits}
 
@@ -14,9 +14,9 @@ module _ {lens lenw x y n nin nout : ℕ} where
   pub linear-says : linearFits lens lenw x y n nin nout ≡ true → LinearFits lens lenw x y n nin nout
   unfolding linearFits
   linear-says h =
-      let p = both (inside lens x (n * nin) && inside lens y (n * nout)) (inside lenw 0 (nout * nin) && aside x (n * nin) y (n * nout)) h in
-      let a = both (inside lens x (n * nin)) (inside lens y (n * nout)) (p .0) in
-      let b = both (inside lenw 0 (nout * nin)) (aside x (n * nin) y (n * nout)) (p .1) in
+      let p = and-parts (inside lens x (n * nin) && inside lens y (n * nout)) (inside lenw 0 (nout * nin) && aside x (n * nin) y (n * nout)) h in
+      let a = and-parts (inside lens x (n * nin)) (inside lens y (n * nout)) (p .0) in
+      let b = and-parts (inside lenw 0 (nout * nin)) (aside x (n * nin) y (n * nout)) (p .1) in
       let w = leb-true (0 + nout * nin) lenw (b .0) in
       record {
         xin = leb-true (x + n * nin) lens (a .0);
@@ -35,8 +35,8 @@ module _ {lenx lens lenw y n nin nout : ℕ} where
   pub from-says : fromFits lenx lens lenw y n nin nout ≡ true → FromFits lenx lens lenw y n nin nout
   unfolding fromFits
   from-says h =
-      let p = both (inside lenx 0 (n * nin) && inside lens y (n * nout)) (inside lenw 0 (nout * nin)) h in
-      let a = both (inside lenx 0 (n * nin)) (inside lens y (n * nout)) (p .0) in
+      let p = and-parts (inside lenx 0 (n * nin) && inside lens y (n * nout)) (inside lenw 0 (nout * nin)) h in
+      let a = and-parts (inside lenx 0 (n * nin)) (inside lens y (n * nout)) (p .0) in
       let x = leb-true (0 + n * nin) lenx (a .0) in
       let w = leb-true (0 + nout * nin) lenw (p .1) in
       record { xin = omega arith; yin = leb-true (y + n * nout) lens (a .1); win = omega arith }
@@ -53,11 +53,11 @@ module _ {len row v out t dim hd o : ℕ} where
   unfolding weighFits
   weigh-says h =
       let m = t * dim in
-      let a = both (inside dim o hd && inside len v m) ((inside len row t && inside len out hd) && (aside row t out hd && aside v m out hd)) h in
-      let b = both (inside dim o hd) (inside len v m) (a .0) in
-      let c = both (inside len row t && inside len out hd) (aside row t out hd && aside v m out hd) (a .1) in
-      let d = both (inside len row t) (inside len out hd) (c .0) in
-      let e = both (aside row t out hd) (aside v m out hd) (c .1) in
+      let a = and-parts (inside dim o hd && inside len v m) ((inside len row t && inside len out hd) && (aside row t out hd && aside v m out hd)) h in
+      let b = and-parts (inside dim o hd) (inside len v m) (a .0) in
+      let c = and-parts (inside len row t && inside len out hd) (aside row t out hd && aside v m out hd) (a .1) in
+      let d = and-parts (inside len row t) (inside len out hd) (c .0) in
+      let e = and-parts (aside row t out hd) (aside v m out hd) (c .1) in
       record {
         vIn = leb-true (v + m) len (b .1);
         rowIn = leb-true (row + t) len (d .0);

@@ -5,7 +5,8 @@ use Prim.Native.Nat.{ℕ, zero, suc, _*_}
 use lib.ListN.{length, getD}
 use lib.Ieee.{Float, nan, binary32, add, mul}
 use Rattle.buffers.specs.Rows.{tab}
-use Rattle.buffers.specs.Region.{region, zero32}
+use Rattle.buffers.specs.Region.{region}
+use Rattle.number_floats.specs.Constants.{zero32}
 use Rattle.buffers.specs.Each.{eachRow}
 
 -- f 0 + .. + f (n - 1)

@@ -7,7 +7,8 @@ use lib.ListN.{length, getD, set, drop, length-append, take-append-drop}
 use lib.Seq.{drop-append-seam}
 use lib.Ieee.{Float, nan}
 use Rattle.buffers.specs.Rows.{tab}
-use Rattle.buffers.specs.Region.{region, put, over, zero32, cleared}
+use Rattle.buffers.specs.Region.{region, put, over, cleared}
+use Rattle.number_floats.specs.Constants.{zero32}
 use Rattle.buffers.specs.inner.Apart.{after}
 use Rattle.buffers.specs.inner.Room.{inside, whereFits}
 use Rattle.buffers.proofs.Lists.{length-tab, tab-add, tab-self, tab-step-0}

@@ -3,19 +3,17 @@ use Prim.Native.Nat.{ℕ, zero, suc}
 use lib.IntN.{pos}
 use mathlib.Core.Bool.{false, cond}
 use lib.Ieee.{Float, nan, inf, fin, binary32, binary64, minus, neg, add, sub, mul, div, le, ne, ofInt, ofBits, toBits, toUnsigned}
+use Rattle.number_floats.specs.Constants.{zero32, one64}
 use Rattle.number_floats.specs.Whole.{oneHalf, floor}
 use Rattle.number_floats.specs.Narrow.{narrow}
 
--- L and one, as f64
+-- L, as f64
 abbrev pub L : Float
 L = ofBits binary64 0x3FE6_2E42_FEFA_39EF
 
-abbrev pub one : Float
-one = ofBits binary64 0x3FF0_0000_0000_0000
-
 -- for i down to 1, p = 1 + (r * p) / i
 abbrev pub term : Float → Float → Float → Float
-term r p n = add binary64 one (div binary64 (mul binary64 r p) n)
+term r p n = add binary64 one64 (div binary64 (mul binary64 r p) n)
 
 unfoldable pub series : Float → ℕ → Float → Float
 series r zero p = p
@@ -36,7 +34,7 @@ abbrev pub rOf : Float → Float
 rOf x = rWith x (kOf x)
 
 abbrev pub F : Float → Float
-F x = mul binary64 (series (rOf x) 10 one) (twoTo (kOf x))
+F x = mul binary64 (series (rOf x) 10 one64) (twoTo (kOf x))
 
 -- 89 and 104, as f32
 abbrev pub top : Float
@@ -49,7 +47,7 @@ unfoldable pub E : Float → Float
 E x =
     cond (ne x x) nan
     (cond (le top x) (inf false)
-    (cond (le x bottom) (ofBits binary32 0)
+    (cond (le x bottom) zero32
     (narrow (F x))))
 
 -- of a pattern; a NaN's gives 0x7FC0_0000

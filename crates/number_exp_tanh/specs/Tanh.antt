@@ -2,9 +2,9 @@
 use Prim.Native.Nat.{ℕ}
 use mathlib.Core.Bool.{cond}
 use lib.Ieee.{Float, nan, binary32, binary64, neg, add, sub, mul, div, le, ne, ofBits, toBits}
-use Rattle.buffers.specs.Region.{one32}
+use Rattle.number_floats.specs.Constants.{one32, one64}
 use Rattle.number_floats.specs.Narrow.{narrow}
-use Rattle.number_exp_tanh.specs.Exp.{one, F}
+use Rattle.number_exp_tanh.specs.Exp.{F}
 
 -- two, as f64; ten, as f32
 abbrev pub two : Float
@@ -15,7 +15,7 @@ ten = ofBits binary32 0x4120_0000
 
 -- (f - 1) / (f + 1)
 abbrev pub fromF : Float → Float
-fromF f = div binary64 (sub binary64 f one) (add binary64 f one)
+fromF f = div binary64 (sub binary64 f one64) (add binary64 f one64)
 
 unfoldable pub T : Float → Float
 T y =

@@ -1,7 +1,8 @@
 // E, the exponential of the rules, and F, its f64 before narrowing.
 ghost use mathlib.Core.Path.{_≡_};
 ghost use Rattle.number_floats.specs.inner.Bounds.{AtMost};
-ghost use Rattle.number_exp_tanh.specs.Exp.{one, series, twoTo, kOf, rWith, F, E, expBits};
+ghost use Rattle.number_exp_tanh.specs.Exp.{series, twoTo, kOf, rWith, F, E, expBits};
+ghost use Rattle.number_floats.specs.Constants.{one64};
 
 // 2^k for a whole number k.
 pub(crate) fn two_to(k: f64) -> f64
@@ -16,7 +17,7 @@ pub(crate) fn two_to(k: f64) -> f64
 
 // The ten terms.
 fn series_of(r: f64) -> f64
-    ensures { λ p. ⌜ p ≡ series r 10 one ⌝ }
+    ensures { λ p. ⌜ p ≡ series r 10 one64 ⌝ }
 {
     let mut p = 1.0;
     let mut i: u32 = 10;

@@ -4,7 +4,8 @@ ghost use mathlib.Core.Path.{_≡_};
 ghost use lib.ListN.{getD};
 ghost use lib.Ieee.{nan};
 ghost use Rattle.buffers.specs.Rows.{tab};
-ghost use Rattle.number_exp_tanh.specs.Exp.{one, term, series, kOf, rWith, rOf, E};
+ghost use Rattle.number_exp_tanh.specs.Exp.{term, series, kOf, rWith, rOf, E};
+ghost use Rattle.number_floats.specs.Constants.{one64};
 ghost use Rattle.number_exp_tanh.specs.inner.Between.{between};
 use crate::exp::exp_f32;
 use crate::exp::k_of;
@@ -19,7 +20,7 @@ fn is_between(x: f32) -> bool
 
 // E of x by its k and series; beyond the ends, and of a NaN, both are without use.
 fn end_of(x: f32, k: f64, p: f64) -> f32
-    requires { ⌜ (k ≡ kOf x) × (p ≡ series (rOf x) 10 one) ⌝ }
+    requires { ⌜ (k ≡ kOf x) × (p ≡ series (rOf x) 10 one64) ⌝ }
     ensures { λ r. ⌜ r ≡ E x ⌝ }
 {
     if is_between(x) {
@@ -66,7 +67,7 @@ fn add_term(p: [f64; 16], r: [f64; 16], n: f64) -> [f64; 16]
 }
 
 fn series_lanes(r: [f64; 16]) -> [f64; 16]
-    ensures { λ p. ⌜ p ≡ tab 16 (λ l. series (getD r l nan) 10 one) ⌝ }
+    ensures { λ p. ⌜ p ≡ tab 16 (λ l. series (getD r l nan) 10 one64) ⌝ }
 {
     let mut p = [1.0f64; 16];
     let mut i: u32 = 10;
@@ -79,7 +80,7 @@ fn series_lanes(r: [f64; 16]) -> [f64; 16]
 }
 
 fn end_lanes(x: [f32; 16], k: [f64; 16], p: [f64; 16]) -> [f32; 16]
-    requires { ⌜ (k ≡ tab 16 (λ l. kOf (getD x l nan))) × (p ≡ tab 16 (λ l. series (rOf (getD x l nan)) 10 one)) ⌝ }
+    requires { ⌜ (k ≡ tab 16 (λ l. kOf (getD x l nan))) × (p ≡ tab 16 (λ l. series (rOf (getD x l nan)) 10 one64)) ⌝ }
     ensures { λ r. ⌜ r ≡ tab 16 (λ l. E (getD x l nan)) ⌝ }
 {
     let mut r = [0.0f32; 16];

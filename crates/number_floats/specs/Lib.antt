@@ -1,3 +1,4 @@
+pub mod Constants
 pub mod Size
 pub mod Narrow
 pub mod Whole

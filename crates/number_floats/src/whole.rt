@@ -1,4 +1,4 @@
-// Whole numbers near an f64, and Rust's `as` from an f64.
+// Whole numbers near an f64, and Rust's `as` from an f64. From 2^52, 4503599627370496, on every f64 is whole.
 ghost use mathlib.Core.Path.{_≡_};
 ghost use lib.Ieee as Ieee;
 ghost use Rattle.number_floats.specs.Whole.{floor, away};

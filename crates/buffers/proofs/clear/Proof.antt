@@ -7,7 +7,8 @@ use borrow.Author.Needs.{needs}
 use lib.ListN.{length, length-set}
 use lib.Ieee.{Float}
 use Rattle.buffers.specs.Rows.{tab}
-use Rattle.buffers.specs.Region.{put, zero32}
+use Rattle.buffers.specs.Region.{put}
+use Rattle.number_floats.specs.Constants.{zero32}
 use Rattle.buffers.proofs.Regions.{put-all}
 use Rattle.buffers.proofs.Lists.{length-tab, tab-step-0}
 use Rattle.buffers.proofs.clear.Statement.{statement}

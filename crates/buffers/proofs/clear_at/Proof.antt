@@ -6,7 +6,7 @@ use native.Mathlib.Omega.{arith}
 use borrow.Author.Needs.{needs}
 use borrow.Author.Tests.{leb-true}
 use lib.ListN.{length}
-use Rattle.buffers.specs.Region.{zero32}
+use Rattle.number_floats.specs.Constants.{zero32}
 use Rattle.buffers.proofs.Steps.{blank-part}
 use Rattle.buffers.proofs.clear_at.Statement.{statement}
 use Rattle.buffers.proofs.clear_at.Tie as tie

@@ -11,7 +11,7 @@ use lib.Pow.{pow-pos, pow-add, shl-lt}
 use lib.Ieee.{size}
 use lib.Ieee.Digits.{size-lt, size-le, size-reaches}
 use Rattle.number_floats.specs.Size.{sizeOf, count}
-use Rattle.number_bf16_half_root.specs.Root.{wholeRoot, nearRoot, digits, place, rootOfNumber, root, NearRoot, Rooted, RootRule}
+use Rattle.number_bf16_half_root.specs.Root.{wholeRoot, nearRoot, digits, exponent, rootOfNumber, root, NearRoot, Rooted, RootRule}
 use Rattle.number_floats.proofs.Ways.{lt-or-ge}
 use Rattle.number_bf16_half_root.proofs.root.Scale.{rooted, scaled-from, scaled-to}
 
@@ -70,9 +70,9 @@ module _ (v : ℕ) (from : 2 ^ 46 ≤ v) (to : v < 2 ^ 48) where
       pick true y o = (omega (arith, w-from), omega (arith, w-to), go-up v w (at-w .0) (at-w .1) (y tt))
       pick false y o = (w-from, omega (arith, w-to), stay v w (omega (arith, w-from)) (at-w .0) (o tt))
 
--- ---- the number by its digits and its place
+-- ---- the number by its digits and its exponent
 abbrev Placed : ℕ → ℕ → Type 0
-Placed e t = (sizeOf (2 ^ 23) e t * 2 ^ 24 ≡ digits e t * 2 ^ place e t) × (2 ^ 23 ≤ digits e t) × (digits e t < 2 ^ 24)
+Placed e t = (sizeOf (2 ^ 23) e t * 2 ^ 24 ≡ digits e t * 2 ^ exponent e t) × (2 ^ 23 ≤ digits e t) × (digits e t < 2 ^ 24)
 
 placed : (e t : ℕ) → t < 2 ^ 23 → (e ≡ 0 → 0 < t) → Placed e t
 placed (suc e) t l p =
@@ -91,14 +91,14 @@ placed zero t l p = at (size t) (size-lt t) (size-le t 23 l) (size-reaches t)
           subst (λ (n : ℕ). t * 2 ^ (24 - suc z) < 2 ^ n) u (shl-lt (suc z) (24 - suc z) h),
         )
 
-pub number-rooted : (x : ℕ) → 0 < x → Rooted x (rootOfNumber (digits (x / 2 ^ 23) (x % 2 ^ 23)) (place (x / 2 ^ 23) (x % 2 ^ 23)))
+pub number-rooted : (x : ℕ) → 0 < x → Rooted x (rootOfNumber (digits (x / 2 ^ 23) (x % 2 ^ 23)) (exponent (x / 2 ^ 23) (x % 2 ^ 23)))
 unfolding rootOfNumber
 number-rooted x p =
     let e = x / 2 ^ 23 in
     let t = x % 2 ^ 23 in
     let g = placed e t (mod-lt x (pow-pos 23)) (λ z. omega arith) in
     let m = digits e t in
-    let k = place e t in
+    let k = exponent e t in
     let n = near (m * 2 ^ (23 + k % 2)) (scaled-from m k (g .1)) (scaled-to m k (g .2)) in
     rooted x m k (nearRoot (m * 2 ^ (23 + k % 2))) (g .0) (g .1) (g .2) (n .0) (n .1) (n .2)
 
@@ -108,7 +108,7 @@ module _ (x : ℕ) where
   unfolding root
   at-zero e = simp (eq-eqb x 0 e)
 
-  pub at-number : 0 < x → x < top → root x ≡ rootOfNumber (digits (x / 2 ^ 23) (x % 2 ^ 23)) (place (x / 2 ^ 23) (x % 2 ^ 23))
+  pub at-number : 0 < x → x < top → root x ≡ rootOfNumber (digits (x / 2 ^ 23) (x % 2 ^ 23)) (exponent (x / 2 ^ 23) (x % 2 ^ 23))
   unfolding root
   at-number p h = simp (ne-eqb x 0 (λ e. omega arith), lt-ltb x top h)
 

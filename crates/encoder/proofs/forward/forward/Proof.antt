@@ -7,7 +7,8 @@ use borrow.Author.Needs.{needs}
 use lib.ListN.{length}
 use lib.Ieee.{Float}
 use Rattle.buffers.specs.Rows.{tab}
-use Rattle.buffers.specs.Region.{region, put, copied, zero32}
+use Rattle.buffers.specs.Region.{region, put, copied}
+use Rattle.number_floats.specs.Constants.{zero32}
 use Rattle.buffers.proofs.Rooms.{written}
 use Rattle.picture_limits.specs.declared.Refusal.{Refusal}
 use Rattle.encoder_settings.specs.declared.Checked.{Checked}

@@ -4,7 +4,8 @@ use Prim.Native.Nat.{_*_, _-_, _≤_}
 use native.Mathlib.Omega.{arith}
 use borrow.Author.Needs.{needs}
 use lib.ListN.{length}
-use Rattle.buffers.specs.Region.{region, put, zero32}
+use Rattle.buffers.specs.Region.{region, put}
+use Rattle.number_floats.specs.Constants.{zero32}
 use Rattle.buffers.specs.Rows.{rows}
 use Rattle.buffers.specs.Each.{blank}
 use Rattle.encoder_attention.specs.Attention.{tokenScores, scoresOf, attentionOf}

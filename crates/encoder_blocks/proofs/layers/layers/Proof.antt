@@ -4,7 +4,8 @@ use Prim.Native.Nat.{_≤_}
 use native.Mathlib.Omega.{arith}
 use borrow.Author.Needs.{needs}
 use lib.ListN.{length}
-use Rattle.buffers.specs.Region.{over, zero32}
+use Rattle.buffers.specs.Region.{over}
+use Rattle.number_floats.specs.Constants.{zero32}
 use Rattle.buffers.specs.Rows.{tab}
 use Rattle.encoder_steps.specs.Run.{ran, handed}
 use Rattle.encoder_steps.proofs.Writes.{went-of, stopped-of}

@@ -6,7 +6,8 @@ use borrow.Author.Needs.{needs}
 use lib.ListN.{length, getD, length-set}
 use lib.Ieee.{nan, binary32, add, mul, div}
 use Rattle.buffers.specs.Rows.{tab}
-use Rattle.buffers.specs.Region.{region, put, one32}
+use Rattle.buffers.specs.Region.{region, put}
+use Rattle.number_floats.specs.Constants.{one32}
 use Rattle.buffers.proofs.Regions.{apart-sub}
 use Rattle.buffers.proofs.Steps.{elem-step}
 use Rattle.encoder_elements.proofs.silus.gate_sixteen.Statement.{statement}

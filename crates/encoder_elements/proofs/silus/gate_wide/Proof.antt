@@ -8,7 +8,8 @@ use lib.ListN.{length, getD}
 use lib.Ieee.{Float, nan, binary32, add, mul, div, neg}
 use Rattle.number_exp_tanh.specs.Exp.{E}
 use Rattle.buffers.specs.Rows.{tab}
-use Rattle.buffers.specs.Region.{region, put, one32}
+use Rattle.buffers.specs.Region.{region, put}
+use Rattle.number_floats.specs.Constants.{one32}
 use Rattle.buffers.proofs.Lists.{getD-tab, tab-ext}
 use Rattle.buffers.proofs.Regions.{length-put, getD-region}
 use Rattle.encoder_elements.specs.Element.{siluOf, gated}

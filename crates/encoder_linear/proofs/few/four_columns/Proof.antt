@@ -5,7 +5,7 @@ use native.Mathlib.Omega.{arith}
 use borrow.Author.Needs.{needs}
 use lib.ListN.{length, getD, replicate, length-replicate}
 use lib.Ieee.{nan}
-use Rattle.buffers.specs.Region.{zero32}
+use Rattle.number_floats.specs.Constants.{zero32}
 use Rattle.buffers.proofs.Lists.{fit, length-tab}
 use Rattle.encoder_linear.specs.inner.Lanes.{goneSum, filled}
 use Rattle.encoder_linear.specs.inner.Fits.{FourAt}

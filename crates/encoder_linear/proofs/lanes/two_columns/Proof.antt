@@ -6,7 +6,7 @@ use native.Mathlib.Omega.{arith}
 use borrow.Author.Needs.{needs}
 use lib.ListN.{length, getD, replicate, length-replicate}
 use lib.Ieee.{Float, nan}
-use Rattle.buffers.specs.Region.{zero32}
+use Rattle.number_floats.specs.Constants.{zero32}
 use Rattle.buffers.specs.Rows.{tab}
 use Rattle.buffers.proofs.Lists.{length-tab}
 use Rattle.buffers.proofs.Regions.{length-region}

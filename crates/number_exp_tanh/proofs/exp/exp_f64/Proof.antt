@@ -3,7 +3,8 @@ use mathlib.Core.Path.{_≡_, sym, ap, ap₂, _∙_, subst}
 use borrow.Author.Needs.{needs}
 use lib.Ieee.{Float, binary64, mul}
 use Rattle.number_floats.specs.inner.Bounds.{AtMost}
-use Rattle.number_exp_tanh.specs.Exp.{one, series, twoTo, rWith}
+use Rattle.number_exp_tanh.specs.Exp.{series, twoTo, rWith}
+use Rattle.number_floats.specs.Constants.{one64}
 use Rattle.number_exp_tanh.proofs.exp.Range.{k-fits}
 use Rattle.number_exp_tanh.proofs.exp.exp_f64.Statement.{statement}
 use Rattle.number_exp_tanh.proofs.exp.exp_f64.Tie as tie
@@ -27,7 +28,7 @@ returns c =
     let x = c .before .before .before .before .args .x in
     let k-is = c .before .before .before .k-of .ensures in
     ap₂ (mul binary64)
-    (c .before .series-of .ensures ∙ ap (λ (r : Float). series r 10 one) (c .before .before .r-of .ensures ∙ ap (rWith x) k-is))
+    (c .before .series-of .ensures ∙ ap (λ (r : Float). series r 10 one64) (c .before .before .r-of .ensures ∙ ap (rWith x) k-is))
     (c .two-to .ensures ∙ ap twoTo k-is)
 
 pub exp-f64-spec : {M : Type 1} → statement M

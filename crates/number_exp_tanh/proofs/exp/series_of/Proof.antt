@@ -3,13 +3,14 @@ use mathlib.Core.Path.{_≡_, refl, sym, _∙_}
 use Prim.Native.Nat.{_≤_}
 use native.Mathlib.Omega.{arith}
 use borrow.Author.Needs.{needs}
-use Rattle.number_exp_tanh.specs.Exp.{series, one}
+use Rattle.number_exp_tanh.specs.Exp.{series}
+use Rattle.number_floats.specs.Constants.{one64}
 use Rattle.number_exp_tanh.proofs.exp.Terms.{series-step, series-end}
 use Rattle.number_exp_tanh.proofs.exp.series_of.Statement.{statement}
 use Rattle.number_exp_tanh.proofs.exp.series_of.Tie as tie
 
 abbrev Inv-loop : tie.InvT-loop
-Inv-loop r p₀ i₀ p i = (series r i p ≡ series r 10 one) × (i ≤ 10)
+Inv-loop r p₀ i₀ p i = (series r i p ≡ series r 10 one64) × (i ≤ 10)
 
 abbrev μ-loop : tie.MeasureT-loop
 μ-loop r p₀ i₀ p i = i

@@ -6,7 +6,8 @@ use native.Mathlib.Omega.{arith}
 use borrow.Author.Needs.{needs}
 use lib.ListN.{length, getD, length-set, length-replicate}
 use lib.Ieee.{Float, nan}
-use Rattle.number_exp_tanh.specs.Exp.{one, series, kOf, rOf, E}
+use Rattle.number_exp_tanh.specs.Exp.{series, kOf, rOf, E}
+use Rattle.number_floats.specs.Constants.{one64}
 use Rattle.buffers.specs.Rows.{tab}
 use Rattle.buffers.specs.Region.{put}
 use Rattle.buffers.proofs.Lists.{getD-tab, tab-step-0, tab-all}
@@ -47,7 +48,7 @@ end-of-requires c κs =
     let x = s .args .t1 in
     let l = c .before .loop .l in (
       ap (λ (t : List Float). getD t l nan) (s .pre .0) ∙ getD-tab 16 l (λ i. kOf (getD x i nan)) nan (c .loop-test .taken),
-      ap (λ (t : List Float). getD t l nan) (s .pre .1) ∙ getD-tab 16 l (λ i. series (rOf (getD x i nan)) 10 one) nan (c .loop-test .taken),
+      ap (λ (t : List Float). getD t l nan) (s .pre .1) ∙ getD-tab 16 l (λ i. series (rOf (getD x i nan)) 10 one64) nan (c .loop-test .taken),
     )
 
 mul-r : tie.Need-mul-r Inv-loop μ-loop

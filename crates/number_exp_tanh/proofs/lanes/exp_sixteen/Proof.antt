@@ -7,16 +7,17 @@ use lib.ListN.{getD}
 use lib.Ieee.{Float, nan}
 use Rattle.buffers.specs.Rows.{tab}
 use Rattle.buffers.proofs.Lists.{getD-tab, tab-ext}
-use Rattle.number_exp_tanh.specs.Exp.{one, series, kOf, rWith, rOf}
+use Rattle.number_exp_tanh.specs.Exp.{series, kOf, rWith, rOf}
+use Rattle.number_floats.specs.Constants.{one64}
 use Rattle.number_exp_tanh.proofs.lanes.exp_sixteen.Statement.{statement}
 use Rattle.number_exp_tanh.proofs.lanes.exp_sixteen.Tie as tie
 
 -- the lanes of the series, by those of r and of k
 lanes : (x k r p : List Float) → k ≡ tab 16 (λ l. kOf (getD x l nan)) → r ≡ tab 16 (λ l. rWith (getD x l nan) (getD k l nan))
-    → p ≡ tab 16 (λ l. series (getD r l nan) 10 one) → p ≡ tab 16 (λ l. series (rOf (getD x l nan)) 10 one)
+    → p ≡ tab 16 (λ l. series (getD r l nan) 10 one64) → p ≡ tab 16 (λ l. series (rOf (getD x l nan)) 10 one64)
 lanes x k r p ek er ep =
-    ep ∙ tab-ext 16 (λ l. series (getD r l nan) 10 one) (λ l. series (rOf (getD x l nan)) 10 one)
-    (λ l h. ap (λ (v : Float). series v 10 one)
+    ep ∙ tab-ext 16 (λ l. series (getD r l nan) 10 one64) (λ l. series (rOf (getD x l nan)) 10 one64)
+    (λ l h. ap (λ (v : Float). series v 10 one64)
     (ap (λ (t : List Float). getD t l nan) er ∙ getD-tab 16 l (λ i. rWith (getD x i nan) (getD k i nan)) nan h
     ∙ ap (rWith (getD x l nan)) (ap (λ (t : List Float). getD t l nan) ek ∙ getD-tab 16 l (λ i. kOf (getD x i nan)) nan h)))
 

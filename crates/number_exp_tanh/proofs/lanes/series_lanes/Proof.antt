@@ -9,14 +9,15 @@ use lib.ListN.{length, getD, length-replicate, getD-replicate}
 use lib.Ieee.{Float, nan, binary64, ofInt}
 use Rattle.buffers.specs.Rows.{tab}
 use Rattle.buffers.proofs.Lists.{length-tab, getD-tab, tab-ext, tab-self}
-use Rattle.number_exp_tanh.specs.Exp.{one, term, series}
+use Rattle.number_exp_tanh.specs.Exp.{term, series}
+use Rattle.number_floats.specs.Constants.{one64}
 use Rattle.number_exp_tanh.proofs.exp.Terms.{series-step, series-end}
 use Rattle.number_exp_tanh.proofs.lanes.series_lanes.Statement.{statement}
 use Rattle.number_exp_tanh.proofs.lanes.series_lanes.Tie as tie
 
 -- what is left of each lane's series, from p at i on, is that from 1 at 10 on
 abbrev Left : List Float → List Float → ℕ → Type 0
-Left r p i = (l : ℕ) → l < 16 → series (getD r l nan) i (getD p l nan) ≡ series (getD r l nan) 10 one
+Left r p i = (l : ℕ) → l < 16 → series (getD r l nan) i (getD p l nan) ≡ series (getD r l nan) 10 one64
 
 abbrev Inv-loop : tie.InvT-loop
 Inv-loop r p₀ i₀ p i = (i ≤ 10) × (length p ≡ 16) × Left r p i
@@ -33,7 +34,7 @@ step r p q i h e g l k =
     ∙ g l k
 
 loop-holds : tie.Need-loop-holds Inv-loop μ-loop
-loop-holds c = (omega arith, simp length-replicate, λ l h. ap (series (getD (c .args .r) l nan) 10) (getD-replicate 16 l one nan h))
+loop-holds c = (omega arith, simp length-replicate, λ l h. ap (series (getD (c .args .r) l nan) 10) (getD-replicate 16 l one64 nan h))
 
 int-to-float-add-term : tie.Need-int-to-float-add-term Inv-loop μ-loop
 int-to-float-add-term c = search needs
@@ -59,7 +60,7 @@ returns c =
     let l = c .before .loop in
     let r = c .before .before .args .r in
     sym (tab-self (l .p) 16 nan (l .inv .1))
-    ∙ tab-ext 16 (λ i. getD (l .p) i nan) (λ i. series (getD r i nan) 10 one) (λ i h. sym (series-end (getD r i nan) (getD (l .p) i nan) (l .i) (c .loop-test .left)) ∙ l .inv .2 i h)
+    ∙ tab-ext 16 (λ i. getD (l .p) i nan) (λ i. series (getD r i nan) 10 one64) (λ i h. sym (series-end (getD r i nan) (getD (l .p) i nan) (l .i) (c .loop-test .left)) ∙ l .inv .2 i h)
 
 pub series-lanes-spec : {M : Type 1} → statement M
 series-lanes-spec =
