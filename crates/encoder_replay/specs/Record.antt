@@ -12,8 +12,8 @@ use Rattle.replay.specs.Counts.{bump}
 abbrev pub differs : ℕ
 differs = 13
 
-unfoldable pub place : Answer → List ℕ → ℕ
-place a v =
+unfoldable pub countedAt : Answer → List ℕ → ℕ
+countedAt a v =
     cond (eqb (a .number) (at v 21) && eqb (a .tokens) (at v 22) && eqb (a .out) (at v 23) && eqb (a .scratch) (at v 24))
     (cond (ltb (a .number) differs) (a .number) differs)
     differs
@@ -24,7 +24,7 @@ smallOf v =
     leb (at v 12) 1024 && leb (at v 13) 6144 && leb (at v 14) 512 && leb (at v 15) 512 && leb (at v 16) scratchRoom && leb (at v 17) outRoom
 
 unfoldable pub placeFrom : Read → ℕ
-placeFrom r = cond (r .whole && smallOf (r .list)) (place (runOf (r .list)) (r .list)) differs
+placeFrom r = cond (r .whole && smallOf (r .list)) (countedAt (runOf (r .list)) (r .list)) differs
 
 abbrev pub placeOf : List ℕ → ℕ
 placeOf line = placeFrom (readOf 25 line)

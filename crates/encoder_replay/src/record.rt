@@ -1,7 +1,7 @@
 // One record: whether its call answers as the Rust.
 ghost use mathlib.Core.Path.{_≡_};
 ghost use Prim.Native.Nat.{_<_};
-ghost use Rattle.encoder_replay.specs.Record.{differs, place, placeOf, smallOf};
+ghost use Rattle.encoder_replay.specs.Record.{differs, countedAt, placeOf, smallOf};
 use crate::run::Answer;
 use crate::run::OUT;
 use crate::run::SCRATCH;
@@ -10,7 +10,7 @@ use replay::line::read_line;
 
 // Where a record's call is counted: by its number, and past these where it differs.
 fn place_of(a: Answer, v: &[usize; 25]) -> usize
-    ensures { λ r. ⌜ (r ≡ place a (now (v .entry))) × (r < 14) ⌝ }
+    ensures { λ r. ⌜ (r ≡ countedAt a (now (v .entry))) × (r < 14) ⌝ }
 {
     let same = (a.number == v[21]) & (a.tokens == v[22]) & (a.out == v[23]) & (a.scratch == v[24]);
     if same {

@@ -42,7 +42,7 @@ backOf s l gh gw out = backFrom (brought s l gh gw out) (byteHash (bytesLeft (br
 
 -- ---- a record of 23 numbers
 
--- the cells of a buffer
+-- the cells of a buffer: 64 × 64 pixels of three samples, and 64 more
 abbrev pub room : ℕ
 room = 12352
 

@@ -12,7 +12,7 @@ use replay::hash::hash_floats;
 use replay::marks::MARKS;
 use replay::marks::fill_bytes;
 
-// The cells of each buffer.
+// The cells of each buffer: 64 × 64 pixels of three samples, and 64 more.
 pub const ROOM: usize = 12352;
 
 // What a preprocess answers, and the hash of its output afterwards.

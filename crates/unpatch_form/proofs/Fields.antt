@@ -12,10 +12,10 @@ use borrow.Author.Tests.{eqb-true, eqb-false, eq-eqb, ne-eqb, leb-true, leb-fals
 use lib.Dec.{eqb, leb}
 use lib.ListN.{length, take, drop, length-drop}
 use lib.Seq.{take-all}
-use Rattle.unpatch_form.specs.Words.{onto, pieces, same, _>>=_, first, end, joined, behind}
+use Rattle.unpatch_form.specs.Words.{onto, pieces, same, _>>=_, onePiece, end, joined, behind}
 use Rattle.unpatch_form.specs.Decimal.{isDigit, digitsFrom, decimal, upTo, limited}
 use Rattle.unpatch_form.specs.Hex.{nibble, pair, hexPairs, hexBytes}
-use Rattle.unpatch_form.specs.Form.{fields, small, both, withTwo, two, three, rowFields}
+use Rattle.unpatch_form.specs.Form.{fields, small, asPair, withTwo, two, three, rowFields}
 use Rattle.unpatch_form.specs.inner.Steps.{until}
 use Rattle.unpatch_form.proofs.Pieces.{until-le, pieces-cut, pieces-one}
 
@@ -44,7 +44,7 @@ behind-alone w l e = rw (pieces-one 9 l e) refl
 -- ---- one after another
 module _ {A B : Type 0} (f : List ℕ → Option A) (g : A → List (List ℕ) → Option B) where
   -- where g wants more
-  pub first-alone : ((a : A) → g a [] ≡ none) → (s : ℕ) (l : List ℕ) → until s l ≡ length l → first f g (pieces s l) ≡ none
+  pub first-alone : ((a : A) → g a [] ≡ none) → (s : ℕ) (l : List ℕ) → until s l ≡ length l → onePiece f g (pieces s l) ≡ none
   first-alone none-left s l e = rw (pieces-one s l e) (go (f l))
     where
       go : (o : Option A) → (o >>= λ a. g a []) ≡ none
@@ -52,21 +52,21 @@ module _ {A B : Type 0} (f : List ℕ → Option A) (g : A → List (List ℕ) �
       go (some a) = none-left a
 
   -- the first ends at e
-  pub first-cut : (s : ℕ) (l : List ℕ) (e : ℕ) → e ≡ until s l → e < length l → first f g (pieces s l) ≡ (f (take e l) >>= λ a. g a (pieces s (drop (e + 1) l)))
+  pub first-cut : (s : ℕ) (l : List ℕ) (e : ℕ) → e ≡ until s l → e < length l → onePiece f g (pieces s l) ≡ (f (take e l) >>= λ a. g a (pieces s (drop (e + 1) l)))
   first-cut s l e d h = rw (add-one e, d, pieces-cut s l (rw d at h)) refl
 
 -- ---- the last: a reader that refuses a tab may read on to the end
 abbrev pub Refuses : {A : Type 0} → (List ℕ → Option A) → Type 0
 Refuses f = (l : List ℕ) → until 9 l < length l → f l ≡ none
 
-pub last-field : {A B : Type 0} (f : List ℕ → Option A) (g : A → Option B) → Refuses f → (l : List ℕ) → first f (λ a. end (g a)) (fields l) ≡ (f l >>= g)
+pub last-field : {A B : Type 0} (f : List ℕ → Option A) (g : A → Option B) → Refuses f → (l : List ℕ) → onePiece f (λ a. end (g a)) (fields l) ≡ (f l >>= g)
 last-field {A} {B} f g no-tab l = go (decLt (until 9 l) (length l))
   where
     more : (o : Option A) (p : List ℕ) (ps : List (List ℕ)) → (o >>= λ a. end (g a) (p ∷ ps)) ≡ none
     more none p ps = refl
     more (some a) p ps = refl
 
-    go : Dec (until 9 l < length l) → first f (λ a. end (g a)) (fields l) ≡ (f l >>= g)
+    go : Dec (until 9 l < length l) → onePiece f (λ a. end (g a)) (fields l) ≡ (f l >>= g)
     go (yes h) =
         let r = some-piece 9 (drop (suc (until 9 l)) l) in
         rw (pieces-cut 9 l h, r .2, no-tab l h) (more (f (take (until 9 l) l)) (r .0) (r .1))
@@ -147,15 +147,15 @@ limit-some most n (some k) e = go (leb k most) refl e
 -- ---- the lines' fields, where the first ends at e
 module _ (s : List ℕ) (e : ℕ) (found : e ≡ until 9 s) where
   pub two-alone : e ≡ length s → two (fields s) ≡ none
-  two-alone h = first-alone small (λ a. first small λ b. end (both a b)) (λ a. refl) 9 s (sym found ∙ h)
+  two-alone h = first-alone small (λ a. onePiece small λ b. end (asPair a b)) (λ a. refl) 9 s (sym found ∙ h)
 
-  pub two-cut : e < length s → two (fields s) ≡ (small (take e s) >>= λ a. small (drop (e + 1) s) >>= both a)
+  pub two-cut : e < length s → two (fields s) ≡ (small (take e s) >>= λ a. small (drop (e + 1) s) >>= asPair a)
   two-cut h =
-      first-cut small (λ a. first small λ b. end (both a b)) 9 s e found h ∙ go (small (take e s))
+      first-cut small (λ a. onePiece small λ b. end (asPair a b)) 9 s e found h ∙ go (small (take e s))
     where
-      go : (o : Option ℕ) → (o >>= λ a. first small (λ b. end (both a b)) (fields (drop (e + 1) s))) ≡ (o >>= λ a. small (drop (e + 1) s) >>= both a)
+      go : (o : Option ℕ) → (o >>= λ a. onePiece small (λ b. end (asPair a b)) (fields (drop (e + 1) s))) ≡ (o >>= λ a. small (drop (e + 1) s) >>= asPair a)
       go none = refl
-      go (some a) = last-field small (both a) (limited-refuses 64) (drop (e + 1) s)
+      go (some a) = last-field small (asPair a) (limited-refuses 64) (drop (e + 1) s)
 
   pub three-alone : e ≡ length s → three (fields s) ≡ none
   three-alone h = first-alone small (λ a fs. two fs >>= withTwo a) (λ a. refl) 9 s (sym found ∙ h)
@@ -164,12 +164,12 @@ module _ (s : List ℕ) (e : ℕ) (found : e ≡ until 9 s) where
   three-cut h = first-cut small (λ a fs. two fs >>= withTwo a) 9 s e found h
 
   pub row-alone : (i : ℕ) → e ≡ length s → rowFields i (fields s) ≡ none
-  row-alone i h = first-alone decimal (λ k. first hexBytes λ bs. end (cond (eqb k i) (some bs) none)) (λ k. refl) 9 s (sym found ∙ h)
+  row-alone i h = first-alone decimal (λ k. onePiece hexBytes λ bs. end (cond (eqb k i) (some bs) none)) (λ k. refl) 9 s (sym found ∙ h)
 
   pub row-cut : (i : ℕ) → e < length s → rowFields i (fields s) ≡ (decimal (take e s) >>= λ k. hexBytes (drop (e + 1) s) >>= λ bs. cond (eqb k i) (some bs) none)
   row-cut i h =
-      first-cut decimal (λ k. first hexBytes λ bs. end (cond (eqb k i) (some bs) none)) 9 s e found h ∙ go (decimal (take e s))
+      first-cut decimal (λ k. onePiece hexBytes λ bs. end (cond (eqb k i) (some bs) none)) 9 s e found h ∙ go (decimal (take e s))
     where
-      go : (o : Option ℕ) → (o >>= λ k. first hexBytes (λ bs. end (cond (eqb k i) (some bs) none)) (fields (drop (e + 1) s))) ≡ (o >>= λ k. hexBytes (drop (e + 1) s) >>= λ bs. cond (eqb k i) (some bs) none)
+      go : (o : Option ℕ) → (o >>= λ k. onePiece hexBytes (λ bs. end (cond (eqb k i) (some bs) none)) (fields (drop (e + 1) s))) ≡ (o >>= λ k. hexBytes (drop (e + 1) s) >>= λ bs. cond (eqb k i) (some bs) none)
       go none = refl
       go (some k) = last-field hexBytes (λ bs. cond (eqb k i) (some bs) none) hex-refuses (drop (e + 1) s)

@@ -9,9 +9,9 @@ use native.Mathlib.Omega.{arith}
 use borrow.Author.Tests.{leb-true}
 use lib.Dec.{leb}
 use lib.ListN.{length}
-use Rattle.unpatch_form.specs.Words.{word, _>>=_, first, end, behind}
+use Rattle.unpatch_form.specs.Words.{word, _>>=_, onePiece, end, behind}
 use Rattle.unpatch_form.specs.Decimal.{decimal}
-use Rattle.unpatch_form.specs.Form.{Request, fields, lines, small, both, withTwo, two, three, vision, picture, rows, requestOf, pictured, form}
+use Rattle.unpatch_form.specs.Form.{Request, fields, lines, small, asPair, withTwo, two, three, readVision, readPicture, readRows, requestOf, pictured, form}
 use Rattle.unpatch_form.proofs.Fields.{limit-some}
 
 module _ {A B : Type 0} where
@@ -20,7 +20,7 @@ module _ {A B : Type 0} where
   read-on none g b e = absurd (Option·none-ne-some b e)
   read-on (some a) g b e = (a, refl, e)
 
-  pub read-first : (f : List ℕ → Option A) (g : A → List (List ℕ) → Option B) (ps : List (List ℕ)) (b : B) → first f g ps ≡ some b
+  pub read-first : (f : List ℕ → Option A) (g : A → List (List ℕ) → Option B) (ps : List (List ℕ)) (b : B) → onePiece f g ps ≡ some b
       → (p : List ℕ) × (qs : List (List ℕ)) × (a : A) × (f p ≡ some a) × (g a qs ≡ some b)
   read-first f g [] b e = absurd (Option·none-ne-some b e)
   read-first f g (p ∷ ps) b e = let r = read-on (f p) (λ a. g a ps) b e in (p, ps, r .0, r .1, r .2)
@@ -34,9 +34,9 @@ small-le p n e = limit-some 64 n (decimal p) e .1
 
 pub two-small : (ps : List (List ℕ)) (r : ℕ × ℕ) → two ps ≡ some r → (r .0 ≤ 64) × (r .1 ≤ 64)
 two-small ps r e =
-    let x = read-first small (λ a. first small λ b. end (both a b)) ps r e in
-    let y = read-first small (λ b. end (both (x .2) b)) (x .1) r (x .4) in
-    let d = Option·some-injective (x .2, y .2) r (read-end (both (x .2) (y .2)) (y .1) r (y .4)) in
+    let x = read-first small (λ a. onePiece small λ b. end (asPair a b)) ps r e in
+    let y = read-first small (λ b. end (asPair (x .2) b)) (x .1) r (x .4) in
+    let d = Option·some-injective (x .2, y .2) r (read-end (asPair (x .2) (y .2)) (y .1) r (y .4)) in
     let f = ap (λ (z : ℕ × ℕ). z .0) d in
     let g = ap (λ (z : ℕ × ℕ). z .1) d in
     (omega (arith, f, small-le (x .0) (x .2) (x .3)), omega (arith, g, small-le (y .0) (y .2) (y .3)))
@@ -73,8 +73,8 @@ record Settings (r : ℕ × ℕ × ℕ) : Type 0 where
   image : r .2 ≤ 64
   align : r .0 * r .1 ≤ 64
 
-vision-small : (l : List ℕ) (r : ℕ × ℕ × ℕ) → vision l ≡ some r → Settings r
-unfolding vision
+vision-small : (l : List ℕ) (r : ℕ × ℕ × ℕ) → readVision l ≡ some r → Settings r
+unfolding readVision
 vision-small l r e =
     let x = read-on (behind (word "vision") (fields l) >>= three) checked r e in
     let y = read-on (behind (word "vision") (fields l)) three (x .0) (x .1) in
@@ -85,8 +85,8 @@ vision-small l r e =
     made : (r : ℕ × ℕ × ℕ) → ((r .0 ≤ 64) × (r .1 ≤ 64) × (r .2 ≤ 64)) → r .0 * r .1 ≤ 64 → Settings r
     made r t a = record { patch = t .0; merge = t .1; image = t .2; align = a }
 
-picture-small : (l : List ℕ) (r : ℕ × ℕ) → picture l ≡ some r → (r .0 ≤ 64) × (r .1 ≤ 64)
-unfolding picture
+picture-small : (l : List ℕ) (r : ℕ × ℕ) → readPicture l ≡ some r → (r .0 ≤ 64) × (r .1 ≤ 64)
+unfolding readPicture
 picture-small l r e = let y = read-on (behind (word "picture") (fields l)) two r e in two-small (y .0) r (y .2)
 
 -- ---- the whole
@@ -105,12 +105,12 @@ form-limits t q e = go (leb (length t) 49152) e
     made : (s : ℕ × ℕ × ℕ) (p : ℕ × ℕ) (bs : List ℕ) → Settings s → ((p .0 ≤ 64) × (p .1 ≤ 64)) → Limits (record { patch = s .0; merge = s .1; image = s .2; height = p .0; width = p .1; rgb = bs })
     made s p bs a b = record { patch = a .patch; merge = a .merge; image = a .image; align = a .align; height = b .0; width = b .1 }
 
-    go : (b : Bool) → cond b (first vision (λ s. pictured s) (lines t)) none ≡ some q → Limits q
+    go : (b : Bool) → cond b (onePiece readVision (λ s. pictured s) (lines t)) none ≡ some q → Limits q
     go false f = absurd (Option·none-ne-some q f)
     go true f =
-        let x = read-first vision (λ s. pictured s) (lines t) q f in
-        let y = read-first picture (λ p ls. rows 0 ls >>= requestOf (x .2) p) (x .1) q (x .4) in
-        let z = read-on (rows 0 (y .1)) (requestOf (x .2) (y .2)) q (y .4) in
+        let x = read-first readVision (λ s. pictured s) (lines t) q f in
+        let y = read-first readPicture (λ p ls. readRows 0 ls >>= requestOf (x .2) p) (x .1) q (x .4) in
+        let z = read-on (readRows 0 (y .1)) (requestOf (x .2) (y .2)) q (y .4) in
         let a = vision-small (x .0) (x .2) (x .3) in
         let b = picture-small (y .0) (y .2) (y .3) in
         rw (Option·some-injective _ q (z .2)) at (made (x .2) (y .2) (z .0) a b)

@@ -5,7 +5,7 @@ use mathlib.Core.Option.{Option, none, some}
 use Prim.Native.Nat.{ℕ, suc, _*_}
 use lib.Dec.{eqb, leb}
 use lib.ListN.{length}
-use Rattle.unpatch_form.specs.Words.{word, pieces, _>>=_, first, end, joined, behind}
+use Rattle.unpatch_form.specs.Words.{word, pieces, _>>=_, onePiece, end, joined, behind}
 use Rattle.unpatch_form.specs.Decimal.{decimal, limited}
 use Rattle.unpatch_form.specs.Hex.{hexBytes}
 
@@ -29,53 +29,53 @@ lines t = pieces 10 t
 abbrev pub small : List ℕ → Option ℕ
 small f = limited 64 f
 
-abbrev pub both : ℕ → ℕ → Option (ℕ × ℕ)
-both a b = some (a, b)
+abbrev pub asPair : ℕ → ℕ → Option (ℕ × ℕ)
+asPair a b = some (a, b)
 
 abbrev pub withTwo : ℕ → ℕ × ℕ → Option (ℕ × ℕ × ℕ)
 withTwo a r = some (a, r .0, r .1)
 
 -- exactly two numbers
 abbrev pub two : List (List ℕ) → Option (ℕ × ℕ)
-two = first small λ a. first small λ b. end (both a b)
+two = onePiece small λ a. onePiece small λ b. end (asPair a b)
 
 -- exactly three
 abbrev pub three : List (List ℕ) → Option (ℕ × ℕ × ℕ)
-three = first small λ a fs. two fs >>= withTwo a
+three = onePiece small λ a fs. two fs >>= withTwo a
 
 -- `vision`, patch, merge, image size; patch × merge is at most 64 too
-unfoldable pub vision : List ℕ → Option (ℕ × ℕ × ℕ)
-vision l = behind (word "vision") (fields l) >>= three >>= λ r. cond (leb (r .0 * r .1) 64) (some r) none
+unfoldable pub readVision : List ℕ → Option (ℕ × ℕ × ℕ)
+readVision l = behind (word "vision") (fields l) >>= three >>= λ r. cond (leb (r .0 * r .1) 64) (some r) none
 
 -- `picture`, height, width
-unfoldable pub picture : List ℕ → Option (ℕ × ℕ)
-picture l = behind (word "picture") (fields l) >>= two
+unfoldable pub readPicture : List ℕ → Option (ℕ × ℕ)
+readPicture l = behind (word "picture") (fields l) >>= two
 
 -- a row's index i and its bytes
 abbrev pub rowFields : ℕ → List (List ℕ) → Option (List ℕ)
-rowFields i = first decimal λ k. first hexBytes λ bs. end (cond (eqb k i) (some bs) none)
+rowFields i = onePiece decimal λ k. onePiece hexBytes λ bs. end (cond (eqb k i) (some bs) none)
 
 -- `row`, index, bytes
-unfoldable pub row : ℕ → List ℕ → Option (List ℕ)
-row i l = behind (word "row") (fields l) >>= rowFields i
+unfoldable pub readRow : ℕ → List ℕ → Option (List ℕ)
+readRow i l = behind (word "row") (fields l) >>= rowFields i
 
 -- the rows from index i on, their bytes joined; behind the last newline is nothing
-unfoldable pub rows : ℕ → List (List ℕ) → Option (List ℕ)
-rows i [] = none
-rows i ([] ∷ []) = some []
-rows i ((b ∷ bs) ∷ []) = none
-rows i (l ∷ (m ∷ ms)) = row i l >>= λ bs. joined bs (rows (suc i) (m ∷ ms))
+unfoldable pub readRows : ℕ → List (List ℕ) → Option (List ℕ)
+readRows i [] = none
+readRows i ([] ∷ []) = some []
+readRows i ((b ∷ bs) ∷ []) = none
+readRows i (l ∷ (m ∷ ms)) = readRow i l >>= λ bs. joined bs (readRows (suc i) (m ∷ ms))
 
 abbrev pub requestOf : ℕ × ℕ × ℕ → ℕ × ℕ → List ℕ → Option Request
 requestOf s p bs = some (record { patch = s .0; merge = s .1; image = s .2; height = p .0; width = p .1; rgb = bs })
 
 -- the lines behind the first, which has the settings s
 abbrev pub pictured : ℕ × ℕ × ℕ → List (List ℕ) → Option Request
-pictured s = first picture λ p ls. rows 0 ls >>= requestOf s p
+pictured s = onePiece readPicture λ p ls. readRows 0 ls >>= requestOf s p
 
 abbrev pub request : List (List ℕ) → Option Request
-request = first vision λ s. pictured s
+request = onePiece readVision λ s. pictured s
 
--- at most 48 KiB
+-- at most 48 KiB, which are 49,152 bytes
 unfoldable pub form : List ℕ → Option Request
 form t = cond (leb (length t) 49152) (request (lines t)) none

@@ -39,9 +39,9 @@ module _ {A B : Type 0} where
   some a >>= g = g a
 
   -- f reads the first piece, and g the others
-  abbrev pub first : (List ℕ → Option A) → (A → List (List ℕ) → Option B) → List (List ℕ) → Option B
-  first f g [] = none
-  first f g (p ∷ ps) = f p >>= λ a. g a ps
+  abbrev pub onePiece : (List ℕ → Option A) → (A → List (List ℕ) → Option B) → List (List ℕ) → Option B
+  onePiece f g [] = none
+  onePiece f g (p ∷ ps) = f p >>= λ a. g a ps
 
 module _ {A : Type 0} where
   -- no piece is left

@@ -5,7 +5,7 @@ ghost use lib.ListN.{length};
 ghost use Rattle.unpatch_form.specs.Words.{behind as Words·behind};
 ghost use Rattle.unpatch_form.specs.Form as Form;
 ghost use Rattle.unpatch_form.specs.Form.{fields};
-ghost use Rattle.unpatch_form.specs.inner.Steps.{count, fieldsFrom, foundPair, foundTriple};
+ghost use Rattle.unpatch_form.specs.inner.Steps.{valueOf, fieldsFrom, foundPair, foundTriple};
 use crate::decimal::Number;
 use crate::decimal::decimal;
 use crate::scan::find;
@@ -23,7 +23,7 @@ pub enum Triple {
 
 // Where the fields behind the word w begin, which is the first of several.
 pub fn behind(line: &[u8], w: &[u8]) -> Number
-    ensures { λ r. ⌜ (fieldsFrom r (now (line .entry)) ≡ Words·behind (now (w .entry)) (fields (now (line .entry)))) × (count r ≤ length (now (line .entry))) ⌝ }
+    ensures { λ r. ⌜ (fieldsFrom r (now (line .entry)) ≡ Words·behind (now (w .entry)) (fields (now (line .entry)))) × (valueOf r ≤ length (now (line .entry))) ⌝ }
 {
     let e = find(line, b'\t');
     if e == line.len() {
@@ -70,7 +70,7 @@ fn three(s: &[u8]) -> Triple
 }
 
 pub fn vision(line: &[u8]) -> Triple
-    ensures { λ r. ⌜ foundTriple r ≡ Form.vision (now (line .entry)) ⌝ }
+    ensures { λ r. ⌜ foundTriple r ≡ Form.readVision (now (line .entry)) ⌝ }
 {
     let Number::Value(at) = behind(line, b"vision") else {
         return Triple::Bad;
@@ -85,7 +85,7 @@ pub fn vision(line: &[u8]) -> Triple
 }
 
 pub fn picture(line: &[u8]) -> Pair
-    ensures { λ r. ⌜ foundPair r ≡ Form.picture (now (line .entry)) ⌝ }
+    ensures { λ r. ⌜ foundPair r ≡ Form.readPicture (now (line .entry)) ⌝ }
 {
     let Number::Value(at) = behind(line, b"picture") else {
         return Pair::Bad;

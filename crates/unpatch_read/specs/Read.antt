@@ -19,9 +19,9 @@ rowsOf none = []
 rowsOf (some q) = q .rgb
 
 -- the longest rows have half as many bytes as a text may have
-abbrev pub most : ℕ
-most = 24576
+abbrev pub longest : ℕ
+longest = 24576
 
 -- zeros behind them
 unfoldable pub filled : List ℕ → List ℕ
-filled bs = bs ++ tab (most - length bs) (λ _. 0)
+filled bs = bs ++ tab (longest - length bs) (λ _. 0)

@@ -31,7 +31,7 @@ fn row_fields(s: &[u8], i: usize, rgb: &mut [u8], at: usize) -> Number
 
 fn row(line: &[u8], i: usize, rgb: &mut [u8], at: usize) -> Number
     requires { ⌜ (2 * at + length (now line) ≤ 2 * length (now rgb)) × (i ≤ 65536) ⌝ }
-    ensures { λ r. ⌜ Written r at (now (rgb .entry)) (now (rgb .exit)) (length (now (line .entry))) (Form.row i (now (line .entry))) ⌝ }
+    ensures { λ r. ⌜ Written r at (now (rgb .entry)) (now (rgb .exit)) (length (now (line .entry))) (Form.readRow i (now (line .entry))) ⌝ }
 {
     let Number::Value(k) = behind(line, b"row") else {
         return Number::Bad;
@@ -42,7 +42,7 @@ fn row(line: &[u8], i: usize, rgb: &mut [u8], at: usize) -> Number
 // The rows' bytes, joined, over the front of rgb, and how many they are.
 pub(crate) fn rows(text: &[u8], rgb: &mut [u8]) -> Number
     requires { ⌜ (length (now text) ≤ 2 * length (now rgb)) × (length (now text) ≤ 49152) ⌝ }
-    ensures { λ r. ⌜ Written r 0 (now (rgb .entry)) (now (rgb .exit)) (length (now (text .entry))) (Form.rows 0 (Form.lines (now (text .entry)))) ⌝ }
+    ensures { λ r. ⌜ Written r 0 (now (rgb .entry)) (now (rgb .exit)) (length (now (text .entry))) (Form.readRows 0 (Form.lines (now (text .entry)))) ⌝ }
 {
     let mut from = 0usize;
     let mut i = 0usize;

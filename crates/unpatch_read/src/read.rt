@@ -53,7 +53,7 @@ fn read_picture(patch: usize, merge: usize, image: usize, text: &[u8], rgb: &mut
     }
 }
 
-// What the text says, with the rows' bytes over the front of rgb.
+// What the text says, with the rows' bytes over the front of rgb. A text has at most 48 KiB, 49,152 bytes.
 fn read_text(text: &[u8], rgb: &mut [u8]) -> Reading
     requires { ⌜ 49152 ≤ 2 * length (now rgb) ⌝ }
     ensures { λ r. ⌜ (asked r (now (rgb .exit)) ≡ Form.form (now (text .entry))) × (bytesRead r ≤ length (now (rgb .exit))) ⌝ }
@@ -88,7 +88,8 @@ fn bytes_read(r: Reading) -> usize
     }
 }
 
-// What the text says, with the rows' bytes over the front of rgb and zeros behind them.
+// What the text says, with the rows' bytes over the front of rgb and zeros behind them. A byte takes two digits of a
+// text, so half of its 48 KiB holds the rows of any.
 pub fn read(text: &[u8], rgb: &mut [u8; 24576]) -> Reading
     ensures answer { λ r. ⌜ r ≡ reading (Form.form (now (text .entry))) ⌝ }
     ensures bytes { λ _. ⌜ now (rgb .exit) ≡ filled (rowsOf (Form.form (now (text .entry)))) ⌝ }

@@ -22,9 +22,9 @@ abbrev pub found : Number → Option ℕ
 found (N.Value n) = some n
 found N.Bad = none
 
-abbrev pub count : Number → ℕ
-count (N.Value n) = n
-count N.Bad = 0
+abbrev pub valueOf : Number → ℕ
+valueOf (N.Value n) = n
+valueOf N.Bad = 0
 
 -- the fields from there on
 abbrev pub fieldsFrom : Number → List ℕ → Option (List (List ℕ))

@@ -8,7 +8,7 @@ use lib.Dec.{ltb}
 use lib.ListN.{take}
 use Rattle.buffers.specs.Region.{region}
 use Rattle.unpatch_form.specs.Form.{Request}
-use Rattle.unpatch_form.specs.inner.Steps.{count}
+use Rattle.unpatch_form.specs.inner.Steps.{valueOf}
 use Rattle.unpatch_form.specs.declared.decimal.Number.{Number}
 use Rattle.unpatch_form.specs.declared.decimal.Number.the-variants as N
 use Rattle.unpatch_read.specs.declared.read.Reading as DR
@@ -27,7 +27,7 @@ bytesAt N.Bad at l = none
 pub record Written (r : Number) (at : ℕ) (old new : List ℕ) (len : ℕ) (want : Option (List ℕ)) : Type 0 where
   pub answer : bytesAt r at new ≡ want
   pub front : take at new ≡ take at old
-  pub few : 2 * count r ≤ len
+  pub few : 2 * valueOf r ≤ len
 
 abbrev pub asked : DR.Reading → List ℕ → Option Request
 asked (TR.Request p m n h w k) l = some (record { patch = p; merge = m; image = n; height = h; width = w; rgb = take k l })

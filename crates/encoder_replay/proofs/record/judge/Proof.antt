@@ -15,7 +15,7 @@ use Rattle.replay.proofs.Lines.{read-whole}
 use Rattle.encoder_replay.specs.declared.run.Answer.{Answer}
 use Rattle.encoder_replay.specs.Run.{at, scratchRoom, outRoom, runOf}
 use Rattle.encoder_replay.specs.inner.Room.{Small}
-use Rattle.encoder_replay.specs.Record.{differs, place, smallOf, placeFrom, placeOf}
+use Rattle.encoder_replay.specs.Record.{differs, countedAt, smallOf, placeFrom, placeOf}
 use Rattle.encoder_replay.proofs.record.judge.Statement.{statement}
 use Rattle.encoder_replay.proofs.record.judge.Tie as tie
 
@@ -30,7 +30,7 @@ module _ (line v : List ℕ) (t : Bool) (e : t ≡ readOf 25 line .whole) (o : v
   unfolding placeFrom
   large s = rw (read-whole 25 line (replicate 25 0) v t refl e o f, s)
 
-  fitting : smallOf v ≡ true → place (runOf v) v ≡ placeOf line
+  fitting : smallOf v ≡ true → countedAt (runOf v) v ≡ placeOf line
   unfolding placeFrom
   fitting s = rw (read-whole 25 line (replicate 25 0) v t refl e o f, s)
 
@@ -105,7 +105,7 @@ returns-3 c =
     let r = d .before .before .before .before .before .read-line in
     let v = r .last .1 .0 in (
       p .place-of .ensures .0
-          ∙ ap (λ (x : Answer). place x v) (a .run .ensures)
+          ∙ ap (λ (x : Answer). countedAt x v) (a .run .ensures)
           ∙ fitting _ v _ (r .ensures .0) (r .ensures .1) (not-false _ (d .before .before .before .if1 .left)) (small d),
       p .place-of .ensures .1,
     )

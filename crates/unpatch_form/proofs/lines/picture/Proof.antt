@@ -8,7 +8,7 @@ use lib.ListN.{length, drop}
 use Rattle.unpatch_form.specs.Words.{word, behind}
 use Rattle.unpatch_form.specs.Form as Form
 use Rattle.unpatch_form.specs.Form.{fields}
-use Rattle.unpatch_form.specs.inner.Steps.{count, fieldsFrom, foundPair}
+use Rattle.unpatch_form.specs.inner.Steps.{valueOf, fieldsFrom, foundPair}
 use Rattle.unpatch_form.proofs.Fields.{rest}
 use Rattle.unpatch_form.proofs.lines.picture.Statement.{statement}
 use Rattle.unpatch_form.proofs.lines.picture.Tie as tie
@@ -30,7 +30,7 @@ enum-told : tie.Need-enum-told
 enum-told c = search needs
 
 returns : tie.Need-returns
-unfolding Form.picture
+unfolding Form.readPicture
 returns c =
     let l = c .before .before .before .before .before .args .line .now in
     let b : behind (word "picture") (fields l) ≡ none = sym (c .before .before .behind .ensures .0) ∙ ap (λ r. fieldsFrom r l) (c .enum-told .given .1) in
@@ -38,12 +38,12 @@ returns c =
 
 sub-two : tie.Need-sub-two
 sub-two c =
-    let h = ap count (c .before .at .given .1) in
+    let h = ap valueOf (c .before .at .given .1) in
     omega (arith, h, c .before .before .before .behind .ensures .1)
 
 part-two-start : tie.Need-part-two-start
 part-two-start c =
-    let h = ap count (c .before .at .given .1) in
+    let h = ap valueOf (c .before .at .given .1) in
     omega (arith, h, c .before .before .before .behind .ensures .1)
 
 part-two-end : tie.Need-part-two-end
@@ -53,7 +53,7 @@ two-requires : tie.Need-two-requires
 two-requires c κs = search needs
 
 returns-2 : tie.Need-returns-2
-unfolding Form.picture
+unfolding Form.readPicture
 returns-2 c =
     let l = c .before .before .before .before .before .before .before .before .args .line .now in
     let b : behind (word "picture") (fields l) ≡ some _ = sym (c .before .before .before .before .before .behind .ensures .0) ∙ ap (λ r. fieldsFrom r l) (c .before .before .before .at .given .1) in

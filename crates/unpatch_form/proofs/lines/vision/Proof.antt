@@ -9,7 +9,7 @@ use lib.ListN.{length, drop}
 use Rattle.unpatch_form.specs.Words.{word, behind}
 use Rattle.unpatch_form.specs.Form as Form
 use Rattle.unpatch_form.specs.Form.{fields}
-use Rattle.unpatch_form.specs.inner.Steps.{count, fieldsFrom, foundTriple}
+use Rattle.unpatch_form.specs.inner.Steps.{valueOf, fieldsFrom, foundTriple}
 use Rattle.unpatch_form.proofs.Fields.{rest}
 use Rattle.unpatch_form.proofs.Limits.{three-small, product-small}
 use Rattle.unpatch_form.proofs.lines.vision.Statement.{statement}
@@ -32,7 +32,7 @@ enum-told : tie.Need-enum-told
 enum-told c = search needs
 
 returns : tie.Need-returns
-unfolding Form.vision
+unfolding Form.readVision
 returns c =
     let l = c .before .before .before .before .before .args .line .now in
     let b : behind (word "vision") (fields l) ≡ none = sym (c .before .before .behind .ensures .0) ∙ ap (λ r. fieldsFrom r l) (c .enum-told .given .1) in
@@ -40,12 +40,12 @@ returns c =
 
 sub-three : tie.Need-sub-three
 sub-three c =
-    let h = ap count (c .before .at .given .1) in
+    let h = ap valueOf (c .before .at .given .1) in
     omega (arith, h, c .before .before .before .behind .ensures .1)
 
 part-three-start : tie.Need-part-three-start
 part-three-start c =
-    let h = ap count (c .before .at .given .1) in
+    let h = ap valueOf (c .before .at .given .1) in
     omega (arith, h, c .before .before .before .behind .ensures .1)
 
 part-three-end : tie.Need-part-three-end
@@ -61,7 +61,7 @@ enum-told-2 : tie.Need-enum-told-2
 enum-told-2 c = search needs
 
 returns-2 : tie.Need-returns-2
-unfolding Form.vision
+unfolding Form.readVision
 returns-2 c =
     let l = c .before .before .before .before .before .before .before .before .before .before .args .line .now in
     let at = c .before .before .before .before .before .at .given .0 .0 in
@@ -78,7 +78,7 @@ mul-if1 c =
     omega (arith, product-small _ _ (s .0) (s .1))
 
 returns-3 : tie.Need-returns-3
-unfolding Form.vision
+unfolding Form.readVision
 returns-3 c =
     let l = c .before .before .before .before .before .before .before .before .before .before .before .before .args .line .now in
     let at = c .before .before .before .before .before .before .before .at .given .0 .0 in
@@ -87,7 +87,7 @@ returns-3 c =
     rw (b, t, lt-leb _ _ (c .if1 .taken)) refl
 
 returns-4 : tie.Need-returns-4
-unfolding Form.vision
+unfolding Form.readVision
 returns-4 c =
     let l = c .before .before .before .before .before .before .before .before .before .before .before .before .args .line .now in
     let at = c .before .before .before .before .before .before .before .at .given .0 .0 in

@@ -8,7 +8,7 @@ use lib.ListN.{length, drop, length-drop}
 use Rattle.unpatch_form.specs.Words.{word, behind}
 use Rattle.unpatch_form.specs.Form as Form
 use Rattle.unpatch_form.specs.Form.{fields}
-use Rattle.unpatch_form.specs.inner.Steps.{count, fieldsFrom}
+use Rattle.unpatch_form.specs.inner.Steps.{valueOf, fieldsFrom}
 use Rattle.unpatch_read.proofs.Answers.{written-of}
 use Rattle.unpatch_form.proofs.Fields.{rest}
 use Rattle.unpatch_read.proofs.lines.row.Statement.{statement}
@@ -31,7 +31,7 @@ enum-told : tie.Need-enum-told
 enum-told c = search needs
 
 returns : tie.Need-returns
-unfolding Form.row
+unfolding Form.readRow
 returns c =
     let l = c .before .before .before .before .before .before .args .line .now in
     let b : behind (word "row") (fields l) ≡ none = sym (c .before .before .behind .ensures .0) ∙ ap (λ r. fieldsFrom r l) (c .enum-told .given .1) in
@@ -39,12 +39,12 @@ returns c =
 
 sub-row-fields : tie.Need-sub-row-fields
 sub-row-fields c =
-    let h = ap count (c .before .k .given .1) in
+    let h = ap valueOf (c .before .k .given .1) in
     omega (arith, h, c .before .before .before .behind .ensures .1)
 
 part-row-fields-start : tie.Need-part-row-fields-start
 part-row-fields-start c =
-    let h = ap count (c .before .k .given .1) in
+    let h = ap valueOf (c .before .k .given .1) in
     omega (arith, h, c .before .before .before .behind .ensures .1)
 
 part-row-fields-end : tie.Need-part-row-fields-end
@@ -59,7 +59,7 @@ same-length : tie.Need-same-length
 same-length c = search needs
 
 returns-2 : tie.Need-returns-2
-unfolding Form.row
+unfolding Form.readRow
 returns-2 c =
     let a = c .before .before .before .before .before .before .before .before .before .before .before .before .args in
     let l = a .line .now in

@@ -10,8 +10,8 @@ use lib.ListN.{length, take, drop, length-drop, drop-of-length-le}
 use lib.Seq.{length-take-le}
 use Rattle.buffers.specs.Region.{region}
 use Rattle.unpatch_form.specs.Words.{joined}
-use Rattle.unpatch_form.specs.Form.{lines, row, rows}
-use Rattle.unpatch_form.specs.inner.Steps.{until, count}
+use Rattle.unpatch_form.specs.Form.{lines, readRow, readRows}
+use Rattle.unpatch_form.specs.inner.Steps.{until, valueOf}
 use Rattle.unpatch_read.specs.inner.Steps.{bytesAt}
 use Rattle.unpatch_form.proofs.Pieces.{joined-nil}
 use Rattle.unpatch_form.proofs.Fields.{rest}
@@ -24,7 +24,7 @@ use Rattle.unpatch_read.proofs.lines.row.Reads as row-reads
 use Rattle.unpatch_form.proofs.scan.find.Reads as find-reads
 
 abbrev Inv-loop : tie.InvT-loop
-Inv-loop text rgb₀ from₀ i₀ n₀ rgb from i n = (from ≤ length text) × (2 * n ≤ from) × (i ≤ from) × (length rgb ≡ length rgb₀) × (rows 0 (lines text) ≡ joined (take n rgb) (rows i (lines (drop from text))))
+Inv-loop text rgb₀ from₀ i₀ n₀ rgb from i n = (from ≤ length text) × (2 * n ≤ from) × (i ≤ from) × (length rgb ≡ length rgb₀) × (readRows 0 (lines text) ≡ joined (take n rgb) (readRows i (lines (drop from text))))
 
 abbrev μ-loop : tie.MeasureT-loop
 μ-loop text rgb₀ from₀ i₀ n₀ rgb from i n = length text - from
@@ -105,7 +105,7 @@ returns-2 c =
     let d = length-drop (l .from) text in
     let u = c .before .before .before .before .before .before .before .before .find .result in
     let w = rw (add-sub-cancel-left (l .from) u) at (c .before .before .before .before .row .ensures) in
-    let e : row (l .i) (take u (drop (l .from) text)) ≡ none = sym (w .answer) ∙ ap (λ r. bytesAt r (l .n) (c .before .before .before .before .row .last .1 .1 .0)) (c .enum-told .given .1) in
+    let e : readRow (l .i) (take u (drop (l .from) text)) ≡ none = sym (w .answer) ∙ ap (λ r. bytesAt r (l .n) (c .before .before .before .before .row .last .1 .1 .0)) (c .enum-told .given .1) in
     record { answer = sym (l .inv .4 ∙ rw (rows-bad text (l .from) (l .i) u (f .0) (omega (arith, f .1)) e) refl); front = refl; few = omega arith }
 
 add-n : tie.Need-add-n Inv-loop μ-loop
@@ -118,7 +118,7 @@ add-n c =
     let new = c .before .before .before .before .before .row .last .1 .1 .0 in
     let w = rw (add-sub-cancel-left (l .from) u) at (c .before .before .before .before .before .row .ensures) in
     let t = length-take-le u (drop (l .from) text) (f .1) in
-    let q = ap count (c .before .k .given .1) in
+    let q = ap valueOf (c .before .k .given .1) in
     omega (arith, f .1, w .few)
 
 add-i : tie.Need-add-i Inv-loop μ-loop
@@ -134,7 +134,7 @@ add-from c =
     let new = c .before .before .before .before .before .row .last .1 .1 .0 in
     let w = rw (add-sub-cancel-left (l .from) u) at (c .before .before .before .before .before .row .ensures) in
     let t = length-take-le u (drop (l .from) text) (f .1) in
-    let q = ap count (c .before .k .given .1) in
+    let q = ap valueOf (c .before .k .given .1) in
     omega (arith, f .1)
 
 loop-less : tie.Need-loop-less Inv-loop μ-loop
@@ -147,7 +147,7 @@ loop-less c =
     let new = c .before .before .before .before .before .row .last .1 .1 .0 in
     let w = rw (add-sub-cancel-left (l .from) u) at (c .before .before .before .before .before .row .ensures) in
     let t = length-take-le u (drop (l .from) text) (f .1) in
-    let q = ap count (c .before .k .given .1) in
+    let q = ap valueOf (c .before .k .given .1) in
     omega (arith, f .1)
 
 loop-again : tie.Need-loop-again Inv-loop μ-loop
@@ -160,9 +160,9 @@ loop-again c =
     let new = c .before .before .before .before .before .row .last .1 .1 .0 in
     let w = rw (add-sub-cancel-left (l .from) u) at (c .before .before .before .before .before .row .ensures) in
     let t = length-take-le u (drop (l .from) text) (f .1) in
-    let q = ap count (c .before .k .given .1) in
+    let q = ap valueOf (c .before .k .given .1) in
     let k = c .before .k .given .0 .0 in
-    let e : row (l .i) (take u (drop (l .from) text)) ≡ some (region new (l .n) k) = sym (w .answer) ∙ ap (λ r. bytesAt r (l .n) new) (c .before .k .given .1) in
+    let e : readRow (l .i) (take u (drop (l .from) text)) ≡ some (region new (l .n) k) = sym (w .answer) ∙ ap (λ r. bytesAt r (l .n) new) (c .before .k .given .1) in
     (omega (arith, f .1), omega (arith, f .1, w .few), omega arith, c .before .before .before .before .before .row .kept .1 .1 .0 ∙ l .inv .3, l .inv .4 ∙ rows-turn text (l .rgb) new (l .from) (l .i) (l .n) u k (f .0) (omega (arith, f .1)) e (w .front))
 
 same-length-3 : tie.Need-same-length-3 Inv-loop μ-loop

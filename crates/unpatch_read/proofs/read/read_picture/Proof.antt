@@ -8,8 +8,8 @@ use lib.ListN.{length, take, drop, length-drop}
 use lib.Seq.{length-take-le}
 use Rattle.buffers.specs.Region.{region}
 use Rattle.unpatch_form.specs.Words.{_>>=_}
-use Rattle.unpatch_form.specs.Form.{lines, picture, rows, requestOf}
-use Rattle.unpatch_form.specs.inner.Steps.{count, foundPair}
+use Rattle.unpatch_form.specs.Form.{lines, readPicture, readRows, requestOf}
+use Rattle.unpatch_form.specs.inner.Steps.{valueOf, foundPair}
 use Rattle.unpatch_read.specs.inner.Steps.{bytesAt}
 use Rattle.unpatch_form.proofs.Fields.{rest, first-alone, first-cut}
 use Rattle.unpatch_read.proofs.Rows.{rows-none}
@@ -27,7 +27,7 @@ find-requires c κs = search needs
 returns : tie.Need-returns
 returns c =
     let a = c .before .before .before .before .args in
-    (sym (first-alone picture (λ p ls. rows 0 ls >>= requestOf (a .patch, a .merge, a .image) p) (λ p. rw (rows-none 0) refl) 10 (a .text .now) (sym (c .before .find .ensures .0) ∙ c .if1 .taken)), omega arith)
+    (sym (first-alone readPicture (λ p ls. readRows 0 ls >>= requestOf (a .patch, a .merge, a .image) p) (λ p. rw (rows-none 0) refl) 10 (a .text .now) (sym (c .before .find .ensures .0) ∙ c .if1 .taken)), omega arith)
 
 slice-aggregate-picture : tie.Need-slice-aggregate-picture
 slice-aggregate-picture c = sym (length-take-le _ _ (c .before .before .find .ensures .1))
@@ -47,8 +47,8 @@ returns-2 c =
     let f = c .before .before .before .before .before .find in
     let text = a .text .now in
     let h : f .result < length text = omega arith in
-    let e : picture (take (f .result) text) ≡ none = sym (c .before .before .picture .ensures) ∙ ap foundPair (c .enum-told .given .1) in
-    (sym (first-cut picture (λ p ls. rows 0 ls >>= requestOf (a .patch, a .merge, a .image) p) 10 text (f .result) (f .ensures .0) h ∙ rw e refl), omega arith)
+    let e : readPicture (take (f .result) text) ≡ none = sym (c .before .before .picture .ensures) ∙ ap foundPair (c .enum-told .given .1) in
+    (sym (first-cut readPicture (λ p ls. readRows 0 ls >>= requestOf (a .patch, a .merge, a .image) p) 10 text (f .result) (f .ensures .0) h ∙ rw e refl), omega arith)
 
 add-next : tie.Need-add-next
 add-next c = search needs
@@ -83,10 +83,10 @@ returns-3 c =
     let f = c .before .before .before .before .before .before .before .before .before .before .before .before .before .find in
     let text = a .text .now in
     let h : f .result < length text = omega arith in
-    let e : picture (take (f .result) text) ≡ some _ = sym (c .before .before .before .before .before .before .before .before .before .before .picture .ensures) ∙ ap foundPair (c .before .before .before .before .before .before .before .before .height .given .1) in
+    let e : readPicture (take (f .result) text) ≡ some _ = sym (c .before .before .before .before .before .before .before .before .before .before .picture .ensures) ∙ ap foundPair (c .before .before .before .before .before .before .before .before .height .given .1) in
     let w = rw (rest text (f .result + 1)) at (c .before .before .before .before .rows .ensures) in
-    let r : rows 0 (lines (drop (f .result + 1) text)) ≡ none = sym (w .answer) ∙ ap (λ r. bytesAt r 0 (c .before .before .before .before .rows .last .1 .0)) (c .enum-told2 .given .1) in
-    (sym (first-cut picture (λ p ls. rows 0 ls >>= requestOf (a .patch, a .merge, a .image) p) 10 text (f .result) (f .ensures .0) h ∙ rw (e, r) refl), omega arith)
+    let r : readRows 0 (lines (drop (f .result + 1) text)) ≡ none = sym (w .answer) ∙ ap (λ r. bytesAt r 0 (c .before .before .before .before .rows .last .1 .0)) (c .enum-told2 .given .1) in
+    (sym (first-cut readPicture (λ p ls. readRows 0 ls >>= requestOf (a .patch, a .merge, a .image) p) 10 text (f .result) (f .ensures .0) h ∙ rw (e, r) refl), omega arith)
 
 same-length-2 : tie.Need-same-length-2
 same-length-2 c = omega arith
@@ -99,11 +99,11 @@ returns-4 c =
     let h : f .result < length text = omega arith in
     let k = c .before .bytes .given .0 .0 in
     let new = c .before .before .before .before .before .rows .last .1 .0 in
-    let e : picture (take (f .result) text) ≡ some _ = sym (c .before .before .before .before .before .before .before .before .before .before .before .picture .ensures) ∙ ap foundPair (c .before .before .before .before .before .before .before .before .before .height .given .1) in
+    let e : readPicture (take (f .result) text) ≡ some _ = sym (c .before .before .before .before .before .before .before .before .before .before .before .picture .ensures) ∙ ap foundPair (c .before .before .before .before .before .before .before .before .before .height .given .1) in
     let w = rw (rest text (f .result + 1)) at (c .before .before .before .before .before .rows .ensures) in
-    let r : rows 0 (lines (drop (f .result + 1) text)) ≡ some (region new 0 k) = sym (w .answer) ∙ ap (λ r. bytesAt r 0 new) (c .before .bytes .given .1) in
-    let q = ap count (c .before .bytes .given .1) in
-    (sym (first-cut picture (λ p ls. rows 0 ls >>= requestOf (a .patch, a .merge, a .image) p) 10 text (f .result) (f .ensures .0) h ∙ rw (e, r) refl), omega (arith, w .few, length-drop (f .result + 1) text, c .before .before .before .before .before .rows .kept .1 .0))
+    let r : readRows 0 (lines (drop (f .result + 1) text)) ≡ some (region new 0 k) = sym (w .answer) ∙ ap (λ r. bytesAt r 0 new) (c .before .bytes .given .1) in
+    let q = ap valueOf (c .before .bytes .given .1) in
+    (sym (first-cut readPicture (λ p ls. readRows 0 ls >>= requestOf (a .patch, a .merge, a .image) p) 10 text (f .result) (f .ensures .0) h ∙ rw (e, r) refl), omega (arith, w .few, length-drop (f .result + 1) text, c .before .before .before .before .before .rows .kept .1 .0))
 
 pub read-picture-spec : {M : Type 1} → statement M
 read-picture-spec =

@@ -7,7 +7,7 @@ use mathlib.Core.Path.{_≡_, refl, sym, ap, _∙_}
 use mathlib.Core.Option.{none, some}
 use lib.ListN.{length, take, drop, length-drop}
 use lib.Seq.{length-take-le}
-use Rattle.unpatch_form.specs.Form.{lines, vision, pictured, form}
+use Rattle.unpatch_form.specs.Form.{lines, readVision, pictured, form}
 use Rattle.unpatch_form.specs.inner.Steps.{foundTriple}
 use Rattle.unpatch_form.proofs.Fields.{rest, first-alone, first-cut}
 use Rattle.unpatch_read.proofs.read.read_text.Statement.{statement}
@@ -29,7 +29,7 @@ returns-2 : tie.Need-returns-2
 unfolding form
 returns-2 c =
     let text = c .before .before .before .before .before .args .text .now in
-    (sym (rw (le-leb _ _ (c .before .before .if1 .left)) (first-alone vision (λ s. pictured s) (λ s. refl) 10 text (sym (c .before .find .ensures .0) ∙ c .if2 .taken))), omega arith)
+    (sym (rw (le-leb _ _ (c .before .before .if1 .left)) (first-alone readVision (λ s. pictured s) (λ s. refl) 10 text (sym (c .before .find .ensures .0) ∙ c .if2 .taken))), omega arith)
 
 slice-aggregate-vision : tie.Need-slice-aggregate-vision
 slice-aggregate-vision c = sym (length-take-le _ _ (c .before .before .find .ensures .1))
@@ -49,8 +49,8 @@ returns-3 c =
     let text = c .before .before .before .before .before .before .before .before .before .args .text .now in
     let f = c .before .before .before .before .before .find in
     let h : f .result < length text = omega arith in
-    let e : vision (take (f .result) text) ≡ none = sym (c .before .before .vision .ensures) ∙ ap foundTriple (c .enum-told .given .1) in
-    (sym (rw (le-leb _ _ (c .before .before .before .before .before .before .if1 .left)) (first-cut vision (λ s. pictured s) 10 text (f .result) (f .ensures .0) h ∙ rw e refl)), omega arith)
+    let e : readVision (take (f .result) text) ≡ none = sym (c .before .before .vision .ensures) ∙ ap foundTriple (c .enum-told .given .1) in
+    (sym (rw (le-leb _ _ (c .before .before .before .before .before .before .if1 .left)) (first-cut readVision (λ s. pictured s) 10 text (f .result) (f .ensures .0) h ∙ rw e refl)), omega arith)
 
 add-next : tie.Need-add-next
 add-next c = search needs
@@ -79,9 +79,9 @@ returns-4 c =
     let text = c .before .before .before .before .before .before .before .before .before .before .before .before .before .before .before .args .text .now in
     let f = c .before .before .before .before .before .before .before .before .before .before .before .find in
     let h : f .result < length text = omega arith in
-    let e : vision (take (f .result) text) ≡ some _ = sym (c .before .before .before .before .before .before .before .before .vision .ensures) ∙ ap foundTriple (c .before .before .before .before .before .before .patch .given .1) in
+    let e : readVision (take (f .result) text) ≡ some _ = sym (c .before .before .before .before .before .before .before .before .vision .ensures) ∙ ap foundTriple (c .before .before .before .before .before .before .patch .given .1) in
     let r = c .before .before .read-picture .ensures in
-    (rw rest at (r .0) ∙ sym (rw (le-leb _ _ (c .before .before .before .before .before .before .before .before .before .before .before .before .if1 .left)) (first-cut vision (λ s. pictured s) 10 text (f .result) (f .ensures .0) h ∙ rw e refl)), r .1)
+    (rw rest at (r .0) ∙ sym (rw (le-leb _ _ (c .before .before .before .before .before .before .before .before .before .before .before .before .if1 .left)) (first-cut readVision (λ s. pictured s) 10 text (f .result) (f .ensures .0) h ∙ rw e refl)), r .1)
 
 pub read-text-spec : {M : Type 1} → statement M
 read-text-spec =
