@@ -1,6 +1,6 @@
 -- What an acceptance says: the settings are allowed, and every length is what the call needs. Assumes nothing.
 use mathlib.Core.Path.{_≡_, refl, ap}
-use mathlib.Core.Bool.{Bool, true, false, _&&_}
+use mathlib.Core.Bool.{true, _&&_}
 use Prim.Native.Nat.{ℕ, _*_, _/_, _≤_}
 use native.Mathlib.Nat.{div-le-self}
 use native.Mathlib.Omega.{arith}
@@ -11,20 +11,20 @@ use Rattle.picture_limits.specs.declared.Refusal.{Refusal}
 use Rattle.picture_limits.specs.declared.Refusal.the-variants.{Setting, Output, WeightsLength, TableLength, Scratch}
 use Rattle.picture_limits.specs.declared.Shape.{Shape}
 use Rattle.picture_limits.specs.declared.Shape.the-variants.{Shaped, Unshaped}
-use Rattle.picture_limits.specs.Patches.{patchFloats}
+use Rattle.picture_limits.specs.Places.{patchFloats}
 use Rattle.picture_limits.specs.Shape.{shaped}
+use Rattle.picture_limits.proofs.Refusals.{passed}
 use Rattle.picture_limits.proofs.Shapes as Shapes
 use Rattle.picture_limits.proofs.Shapes.{shaped-says}
 use Rattle.encoder_settings.specs.declared.EncoderSettings.{EncoderSettings}
 use Rattle.encoder_settings.specs.declared.Checked.{Checked}
-use Rattle.encoder_settings.specs.declared.Checked.the-variants.{Accepted}
-use Rattle.encoder_settings.specs.Settings.{mergeArea, allowed, weightFloats, tableFloats, scratchFloats, unless, onward, lengths, checkedOf}
+use Rattle.encoder_settings.specs.declared.Checked.the-variants.{Accepted, Refused}
+use Rattle.encoder_settings.specs.Settings.{mergeArea, allowed, weightFloats, tableFloats, scratchFloats, onward, lengths, checkedOf}
 use Rattle.encoder_settings.specs.inner.Bounds.{Bounded, Counted}
 use Rattle.encoder_settings.proofs.Bounds.{Allowed, allowed-says, bounded, counted}
 
-passed : (b : Bool) (r : Refusal) (a : Checked) (t o : ℕ) → unless b r a ≡ Accepted t o → (b ≡ true) × (a ≡ Accepted t o)
-passed true r a t o e = (refl, e)
-passed false r a t o e = let z : _≡_ {A = ℕ} 0 1 = cc in (cc, cc)
+never : (r : Refusal) (t o : ℕ) → Refused r ≡ Accepted t o → ⊥
+never r t o e = let z : _≡_ {A = ℕ} 0 1 = cc in omega arith
 
 moved : (h : Shape) (f : ℕ → Checked) (t o : ℕ) → onward h f ≡ Accepted t o → (u : ℕ) × (h ≡ Shaped u) × (f u ≡ Accepted t o)
 moved (Shaped u) f t o e = (u, refl, e)
@@ -51,14 +51,10 @@ module _ (s : EncoderSettings) (weights cos sin out scratch : ℕ) where
       → (Lengths s t o weights cos sin out scratch) × (u ≡ t) × (v ≡ o)
   unfolding lengths
   lengths-say t o u v e =
-      let e5 = unless (leb (scratchFloats s t o) scratch) Scratch (Accepted t o) in
-      let e4 = unless (leb (o * s .«text_hidden_size») out) Output e5 in
-      let tables = eqb cos (tableFloats s) && eqb sin (tableFloats s) in
-      let e3 = unless tables TableLength e4 in
-      let b = passed (eqb weights (weightFloats s)) WeightsLength e3 u v e in
-      let d = passed tables TableLength e4 u v (b .1) in
-      let f = passed (leb (o * s .«text_hidden_size») out) Output e5 u v (d .1) in
-      let g = passed (leb (scratchFloats s t o) scratch) Scratch (Accepted t o) u v (f .1) in
+      let b = passed (eqb weights (weightFloats s)) _ _ (Accepted u v) (never WeightsLength u v) e in
+      let d = passed (eqb cos (tableFloats s) && eqb sin (tableFloats s)) _ _ (Accepted u v) (never TableLength u v) (b .1) in
+      let f = passed (leb (o * s .«text_hidden_size») out) _ _ (Accepted u v) (never Output u v) (d .1) in
+      let g = passed (leb (scratchFloats s t o) scratch) _ _ (Accepted u v) (never Scratch u v) (f .1) in
       let h = g .1 in (
         record {
           weights-are = eqb-true _ _ (b .0);
@@ -99,6 +95,6 @@ module _ (s : EncoderSettings) (weights cos sin out scratch : ℕ) where
   accepted-says gh gw patches t o e =
       let q = s .picture in
       let f : ℕ → Checked = λ u. lengths s u (u / mergeArea q) weights cos sin out scratch in
-      let a = passed (allowed s) Setting (onward (shaped q gh gw patches) f) t o e in
+      let a = passed (allowed s) _ (onward (shaped q gh gw patches) f) (Accepted t o) (never Setting t o) e in
       let b = moved (shaped q gh gw patches) f t o (a .1) in
       ready gh gw patches (b .0) t o (a .0) (b .1) (b .2)

@@ -1,15 +1,15 @@
 -- What allowed settings and an allowed grid say of the sizes and their products. Assumes nothing.
 use mathlib.Core.Path.{_≡_}
-use mathlib.Core.Bool.{Bool, true, _&&_}
+use mathlib.Core.Bool.{true, _&&_}
 use Prim.Native.Nat.{ℕ, _*_, _%_, _≤_}
 use native.Mathlib.Nat.{div-le-self}
 use native.Mathlib.Omega.{arith}
 use borrow.Author.Tests.{leb-true, eqb-true}
 use lib.Dec.{leb, eqb}
-use Rattle.buffers.proofs.Lists.{and-left, and-right}
+use Rattle.buffers.proofs.Rooms.{and-parts}
 use Rattle.picture_limits.specs.Settings as P
 use Rattle.picture_limits.specs.Settings.{within}
-use Rattle.picture_limits.specs.Patches.{patchFloats}
+use Rattle.picture_limits.specs.Places.{patchFloats}
 use Rattle.picture_limits.specs.Shape.{most}
 use Rattle.picture_limits.proofs.Places.{square, times}
 use Rattle.picture_limits.proofs.Sides as Sides
@@ -18,9 +18,6 @@ use Rattle.encoder_settings.specs.declared.EncoderSettings.{EncoderSetti
 use Rattle.encoder_settings.specs.Weights.{layerFloats}
 use Rattle.encoder_settings.specs.Settings.{ranged, scalingAllowed, allowed}
 use Rattle.encoder_settings.specs.inner.Bounds.{Bounded, Counted}
-
-both : (a b : Bool) → a && b ≡ true → (a ≡ true) × (b ≡ true)
-both a b e = (and-left a b e, and-right a b e)
 
 pub record Ranges (s : EncoderSettings) : Type 0 where
   pub hidden : (4 ≤ s .«hidden_size») × (s .«hidden_size» ≤ 2048)
@@ -37,11 +34,11 @@ ranges-say s e =
     let L = leb (s .«num_layers») 48 in
     let D = within 4 256 (s .«head_dim») in
     let N = within 1 64 (s .«num_heads») in
-    let h = both (within 4 2048 (s .«hidden_size»)) (N && (D && (L && (I && X)))) e in
-    let n = both N (D && (L && (I && X))) (h .1) in
-    let d = both D (L && (I && X)) (n .1) in
-    let l = both L (I && X) (d .1) in
-    let i = both I X (l .1) in
+    let h = and-parts (within 4 2048 (s .«hidden_size»)) (N && (D && (L && (I && X)))) e in
+    let n = and-parts N (D && (L && (I && X))) (h .1) in
+    let d = and-parts D (L && (I && X)) (n .1) in
+    let l = and-parts L (I && X) (d .1) in
+    let i = and-parts I X (l .1) in
     record {
       hidden = within-says _ _ _ (h .0);
       heads = within-says _ _ _ (n .0);
@@ -62,10 +59,10 @@ unfolding allowed
 allowed-says s e =
     let F = eqb (s .«head_dim» % 4) 0 in
     let E = eqb (s .«num_heads» * s .«head_dim») (s .«hidden_size») in
-    let p = both (P.allowed (s .picture)) (ranged s && (F && (E && scalingAllowed s))) e in
-    let r = both (ranged s) (F && (E && scalingAllowed s)) (p .1) in
-    let f = both F (E && scalingAllowed s) (r .1) in
-    record { picture = Sides.allowed-says (s .picture) (p .0); ranges = ranges-say s (r .0); fourth = eqb-true _ _ (f .0); split = eqb-true _ _ (both E (scalingAllowed s) (f .1) .0) }
+    let p = and-parts (P.allowed (s .picture)) (ranged s && (F && (E && scalingAllowed s))) e in
+    let r = and-parts (ranged s) (F && (E && scalingAllowed s)) (p .1) in
+    let f = and-parts F (E && scalingAllowed s) (r .1) in
+    record { picture = Sides.allowed-says (s .picture) (p .0); ranges = ranges-say s (r .0); fourth = eqb-true _ _ (f .0); split = eqb-true _ _ (and-parts E (scalingAllowed s) (f .1) .0) }
 
 pub bounded : (s : EncoderSettings) → Allowed s → Bounded s
 bounded s a =

@@ -1,17 +1,17 @@
 -- Allowed settings, how long each buffer has to be, and the answer of the refusals 1, 6, 7, 9, 10, 5, 11. Assumes nothing.
-use mathlib.Core.Bool.{Bool, true, false, _&&_}
+use mathlib.Core.Bool.{Bool, false, _&&_}
 use Prim.Native.Nat.{ℕ, _+_, _*_, _/_, _%_}
 use lib.Dec.{leb, eqb}
 use lib.Ieee.{lt, inf}
-use Rattle.buffers.specs.Region.{zero32}
+use Rattle.number_floats.specs.Constants.{zero32}
 use Rattle.picture_limits.specs.declared.PictureSettings.{PictureSettings}
-use Rattle.picture_limits.specs.declared.Refusal.{Refusal}
 use Rattle.picture_limits.specs.declared.Refusal.the-variants.{Setting, Output, WeightsLength, TableLength, Scratch}
 use Rattle.picture_limits.specs.declared.Shape.{Shape}
 use Rattle.picture_limits.specs.declared.Shape.the-variants.{Shaped, Unshaped}
+use Rattle.picture_limits.specs.Refusal.{unless}
 use Rattle.picture_limits.specs.Settings as P
 use Rattle.picture_limits.specs.Settings.{within}
-use Rattle.picture_limits.specs.Patches.{patchFloats}
+use Rattle.picture_limits.specs.Places.{patchFloats}
 use Rattle.picture_limits.specs.Shape.{most, shaped}
 use Rattle.encoder_settings.specs.declared.EncoderSettings.{EncoderSettings}
 use Rattle.encoder_settings.specs.declared.Checked.{Checked}
@@ -48,18 +48,13 @@ abbrev pub scratchFloats : EncoderSettings → ℕ → ℕ → ℕ
 scratchFloats s t o =
     7 * (t * s .«hidden_size») + 2 * (t * s .«intermediate_size») + t + 2 * (o * s .«text_hidden_size»)
 
--- the answer where the test passes, and the refusal where it fails
-abbrev pub unless : Bool → Refusal → Checked → Checked
-unless true r a = a
-unless false r a = Refused r
-
 -- 9, 10, 5, 11, for t tokens of which o are left
 unfoldable pub lengths : EncoderSettings → ℕ → ℕ → ℕ → ℕ → ℕ → ℕ → ℕ → Checked
 lengths s t o weights cos sin out scratch =
-    unless (eqb weights (weightFloats s)) WeightsLength
-    (unless (eqb cos (tableFloats s) && eqb sin (tableFloats s)) TableLength
-    (unless (leb (o * s .«text_hidden_size») out) Output
-    (unless (leb (scratchFloats s t o) scratch) Scratch
+    unless (eqb weights (weightFloats s)) (Refused WeightsLength)
+    (unless (eqb cos (tableFloats s) && eqb sin (tableFloats s)) (Refused TableLength)
+    (unless (leb (o * s .«text_hidden_size») out) (Refused Output)
+    (unless (leb (scratchFloats s t o) scratch) (Refused Scratch)
     (Accepted t o))))
 
 -- the answer for a shape's tokens, and the shape's own refusal
@@ -69,5 +64,5 @@ onward (Unshaped r) f = Refused r
 
 unfoldable pub checkedOf : EncoderSettings → ℕ → ℕ → ℕ → ℕ → ℕ → ℕ → ℕ → ℕ → Checked
 checkedOf s gh gw patches weights cos sin out scratch =
-    unless (allowed s) Setting
+    unless (allowed s) (Refused Setting)
     (onward (shaped (s .picture) gh gw patches) (λ t. lengths s t (t / mergeArea (s .picture)) weights cos sin out scratch))

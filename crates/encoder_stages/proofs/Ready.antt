@@ -6,7 +6,7 @@ use native.Mathlib.Nat.{suc-mul, mul-le-mul-right, mul-comm, mul-left-comm, mul-
 use native.Mathlib.Omega.{arith}
 use lib.Ieee.{Float}
 use Rattle.buffers.specs.inner.Apart.{before}
-use Rattle.picture_limits.specs.Patches.{patchFloats}
+use Rattle.picture_limits.specs.Places.{patchFloats}
 use Rattle.picture_limits.specs.Shape.{most}
 use Rattle.encoder_settings.specs.declared.EncoderSettings.{EncoderSettings}
 use Rattle.encoder_settings.specs.Settings.{mergeArea}

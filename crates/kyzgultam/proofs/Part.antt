@@ -8,7 +8,7 @@ use lib.ListN.{length, take, drop}
 use lib.Ieee.{Float}
 use Rattle.buffers.specs.Region.{region}
 use Rattle.picture_limits.specs.Settings.{within}
-use Rattle.picture_limits.specs.Patches.{patchFloats}
+use Rattle.picture_limits.specs.Places.{patchFloats}
 use Rattle.picture.specs.Part.{patchPart}
 use Rattle.kyzgultam.specs.declared.PatchPlace.{PatchPlace}
 use Rattle.kyzgultam.specs.Face.{placeOf}

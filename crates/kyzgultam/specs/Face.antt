@@ -6,7 +6,7 @@ use Rattle.picture_limits.specs.declared.PictureSettings as P
 use Rattle.picture.specs.declared.Preprocessed.{Preprocessed}
 use Rattle.picture_restore.specs.declared.Restored.{Restored}
 use Rattle.picture_limits.specs.Settings.{within}
-use Rattle.picture_limits.specs.Patches.{patchFloats}
+use Rattle.picture_limits.specs.Places.{patchFloats}
 use Rattle.picture.specs.Preprocess as Pre
 use Rattle.picture_restore.specs.Restore as Res
 use Rattle.encoder_settings.specs.declared.EncoderSettings as E

@@ -5,8 +5,8 @@ use picture::Preprocessed;
 use picture_restore::Restored;
 ghost use mathlib.Core.Path.{_≡_};
 ghost use lib.ListN.{length};
-ghost use Rattle.picture.specs.Preprocess.{preprocessed, patchesOf, patchesLeft};
-ghost use Rattle.picture_restore.specs.Restore.{restored, bytesOf, bytesLeft};
+ghost use Rattle.picture.specs.Preprocess.{preprocessed, patchesOut};
+ghost use Rattle.picture_restore.specs.Restore.{restored, bytesOut};
 ghost use Rattle.kyzgultam.specs.Face.{inner, innerEncoder, preprocessReport, restoreReport, forwardReport, placeOf};
 ghost use Rattle.encoder.specs.Forward.{encodedOf, outOf, scratchOf};
 
@@ -91,7 +91,7 @@ pub extern "C" fn kz_preprocess(
     out: &mut [f32],
 ) -> PreprocessReport
     ensures answer { λ r. ⌜ r ≡ preprocessReport (preprocessed (inner s) (length (now (rgb .entry))) height width (length (now (out .entry)))) ⌝ }
-    ensures output { λ _. ⌜ now (out .exit) ≡ patchesLeft (preprocessed (inner s) (length (now (rgb .entry))) height width (length (now (out .entry)))) (patchesOf (inner s) (now (rgb .entry)) height width) (now (out .entry)) ⌝ }
+    ensures output { λ _. ⌜ now (out .exit) ≡ patchesOut (inner s) (now (rgb .entry)) height width (now (out .entry)) ⌝ }
 {
     let found = picture::preprocess::pixtral_preprocess(settings(s), rgb, height, width, out);
     match found {
@@ -123,7 +123,7 @@ pub extern "C" fn kz_restore(
     out: &mut [u8],
 ) -> RestoreReport
     ensures answer { λ r. ⌜ r ≡ restoreReport (restored (inner s) (now (patches .entry)) «grid_h» «grid_w» (length (now (out .entry)))) ⌝ }
-    ensures output { λ _. ⌜ now (out .exit) ≡ bytesLeft (restored (inner s) (now (patches .entry)) «grid_h» «grid_w» (length (now (out .entry)))) (bytesOf (inner s) (now (patches .entry)) «grid_h» «grid_w») (now (out .entry)) ⌝ }
+    ensures output { λ _. ⌜ now (out .exit) ≡ bytesOut (inner s) (now (patches .entry)) «grid_h» «grid_w» (now (out .entry)) ⌝ }
 {
     let found = picture_restore::restore(settings(s), patches, grid_h, grid_w, out);
     match found {

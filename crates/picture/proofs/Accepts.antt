@@ -1,9 +1,8 @@
 -- When preprocess accepts, and what an acceptance says. Assumes nothing.
-use mathlib.Core.Path.{_≡_, refl, sym, ap, _∙_}
-use mathlib.Core.Bool.{Bool, true, false}
+use mathlib.Core.Path.{_≡_}
+use mathlib.Core.Bool.{true}
 use mathlib.Core.List.{List}
-use Prim.Native.Nat.{ℕ, _+_, _*_, _-_, _/_, _≤_, _<_}
-use native.Mathlib.Nat.{mul-assoc}
+use Prim.Native.Nat.{ℕ, _*_, _≤_}
 use native.Mathlib.Omega.{arith}
 use borrow.Author.Tests.{eq-eqb, le-leb, eqb-true, leb-true}
 use lib.Dec.{eqb, leb}
@@ -11,16 +10,14 @@ use lib.ListN.{length}
 use lib.Ieee.{Float}
 use Rattle.picture_limits.specs.declared.PictureSettings.{PictureSettings}
 use Rattle.picture_limits.specs.declared.Refusal.{Refusal}
+use Rattle.picture_limits.specs.declared.Refusal.the-variants.{Setting, Side, RgbLength, ImageSize, Output}
 use Rattle.picture.specs.declared.Preprocessed.{Preprocessed}
 use Rattle.picture.specs.declared.Preprocessed.the-variants.{Patches, Refused}
 use Rattle.buffers.specs.Region.{over}
 use Rattle.picture_limits.specs.Settings.{allowed, sided, align}
 use Rattle.picture_limits.specs.Sides.{gridOf}
-use Rattle.picture_samples.specs.Samples.{sample}
-use Rattle.picture_limits.specs.Patches.{patchFloats}
-use Rattle.picture.specs.Preprocess.{floatsOf, unless, preprocessed, resizedPixel, patchesOf, patchesLeft}
-use Rattle.buffers.proofs.Regions.{put-over}
-use Rattle.picture_patches.proofs.Patches.{length-patches}
+use Rattle.picture.specs.Preprocess.{floatsOf, preprocessed, patchesOf, patchesLeft}
+use Rattle.picture_limits.proofs.Refusals.{passed}
 
 -- what preprocess asks
 pub record Accepts (s : PictureSettings) (len h w room : ℕ) : Type 0 where
@@ -34,9 +31,8 @@ pub accepted : (s : PictureSettings) (len h w room : ℕ) → Accepts s len h w 
 unfolding preprocessed
 accepted s len h w room a = simp (a .settings, a .sides, eq-eqb _ _ (a .bytes), le-leb _ _ (a .image), le-leb _ _ (a .fits))
 
-passed : (b : Bool) (r : Refusal) (x : Preprocessed) (gh gw n : ℕ) → unless b r x ≡ Patches gh gw n → (b ≡ true) × (x ≡ Patches gh gw n)
-passed true r x gh gw n e = (refl, e)
-passed false r x gh gw n e = absurd (let z : _≡_ {A = ℕ} 0 1 = cc in omega arith)
+never : (r : Refusal) (gh gw n : ℕ) → Refused r ≡ Patches gh gw n → ⊥
+never r gh gw n e = let z : _≡_ {A = ℕ} 0 1 = cc in omega arith
 
 pub record Accepted (s : PictureSettings) (len h w room gh gw n : ℕ) : Type 0 where
   pub asks : Accepts s len h w room
@@ -47,11 +43,12 @@ pub record Accepted (s : PictureSettings) (len h w room gh gw n : ℕ) : Type 0 
 pub acceptance : (s : PictureSettings) (len h w room gh gw n : ℕ) → preprocessed s len h w room ≡ Patches gh gw n → Accepted s len h w room gh gw n
 unfolding preprocessed
 acceptance s len h w room gh gw n e =
-    let a = passed (allowed s) _ _ gh gw n e in
-    let b = passed (sided h w) _ _ gh gw n (a .1) in
-    let c = passed (eqb len (h * w * 3)) _ _ gh gw n (b .1) in
-    let d = passed (leb (align s) (s .«image_size»)) _ _ gh gw n (c .1) in
-    let f = passed (leb (floatsOf s h w) room) _ _ gh gw n (d .1) in
+    let x = Patches gh gw n in
+    let a = passed (allowed s) _ _ x (never Setting gh gw n) e in
+    let b = passed (sided h w) _ _ x (never Side gh gw n) (a .1) in
+    let c = passed (eqb len (h * w * 3)) _ _ x (never RgbLength gh gw n) (b .1) in
+    let d = passed (leb (align s) (s .«image_size»)) _ _ x (never ImageSize gh gw n) (c .1) in
+    let f = passed (leb (floatsOf s h w) room) _ _ x (never Output gh gw n) (d .1) in
     let g = f .1 in
     record {
       asks = record { settings = a .0; sides = b .0; bytes = eqb-true _ _ (c .0); image = leb-true _ _ (d .0); fits = leb-true _ _ (f .0) };

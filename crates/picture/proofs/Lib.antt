@@ -1,5 +1,7 @@
 pub mod Places
 pub mod Accepts
+pub mod Spans
+pub mod Given
 pub mod Undo
 pub mod Unseen
 pub mod Unique

@@ -8,7 +8,7 @@ use lib.ListN.{length, getD}
 use lib.Ieee.{Float, nan}
 use Rattle.buffers.specs.Rows.{tab}
 use Rattle.buffers.proofs.Lists.{fit, length-tab, getD-tab, getD-rows, rows-ext, tab-ext, rows-mul, tab-mul, tab-self}
-use Rattle.picture_limits.specs.Patches.{patchFloats, samplePlace}
+use Rattle.picture_limits.specs.Places.{patchFloats, samplePlace}
 use Rattle.picture_limits.proofs.Places.{place-of}
 use Rattle.picture_patches.specs.Patches.{patchRow, patchChannel, patchAt, patchLine, patches}
 use Rattle.picture_patches.proofs.Patches.{length-channel, length-patch, length-line}

@@ -13,15 +13,15 @@ use Rattle.picture_resize.specs.declared.Near.{Near}
 use Rattle.picture_resize.specs.Resize.{near, blend, toByte, resizedByte}
 use Rattle.picture_patches.specs.Resized.{patchesOver}
 use Rattle.picture.specs.Part.{patchPart}
-use Rattle.picture.specs.Preprocess.{preprocessed, patchesOf, patchesLeft}
-use Rattle.picture_restore.specs.Restore.{restored, bytesOf, bytesLeft}
+use Rattle.picture.specs.Preprocess.{preprocessed, patchesOut}
+use Rattle.picture_restore.specs.Restore.{restored, bytesOut}
 
 -- the contracts, as types of an answer and of the output at exit
 abbrev pub Preprocesses : PictureSettings → List ℕ → ℕ → ℕ → List Float → Preprocessed → List Float → Type 0
-Preprocesses s rgb h w old r out = (r ≡ preprocessed s (length rgb) h w (length old)) × (out ≡ patchesLeft (preprocessed s (length rgb) h w (length old)) (patchesOf s rgb h w) old)
+Preprocesses s rgb h w old r out = (r ≡ preprocessed s (length rgb) h w (length old)) × (out ≡ patchesOut s rgb h w old)
 
 abbrev pub Restores : PictureSettings → List Float → ℕ → ℕ → List ℕ → Restored → List ℕ → Type 0
-Restores s l gh gw old r out = (r ≡ restored s l gh gw (length old)) × (out ≡ bytesLeft (restored s l gh gw (length old)) (bytesOf s l gh gw) old)
+Restores s l gh gw old r out = (r ≡ restored s l gh gw (length old)) × (out ≡ bytesOut s l gh gw old)
 
 pub preprocess-unique : (s : PictureSettings) (rgb : List ℕ) (h w : ℕ) (old : List Float) (r q : Preprocessed) (x y : List Float)
     → Preprocesses s rgb h w old r x → Preprocesses s rgb h w old q y → (r ≡ q) × (x ≡ y)
@@ -34,8 +34,8 @@ restore-unique s l gh gw old r q x y a b = (one _ (a .0) (b .0), one _ (a .1) (b
 pub patch-unique : (l : List Float) (p i : ℕ) (x y : List Float) → x ≡ patchPart l p i → y ≡ patchPart l p i → x ≡ y
 patch-unique l p i x y = one _
 
-pub resize-unique : (rgb : List ℕ) (h w h′ w′ y x c : ℕ) (a b : ℕ) → a ≡ resizedByte rgb h w h′ w′ y x c → b ≡ resizedByte rgb h w h′ w′ y x c → a ≡ b
-resize-unique rgb h w h′ w′ y x c a b = one _
+pub resize-unique : (rgb : List ℕ) (h w th tw y x c : ℕ) (a b : ℕ) → a ≡ resizedByte rgb h w th tw y x c → b ≡ resizedByte rgb h w th tw y x c → a ≡ b
+resize-unique rgb h w th tw y x c a b = one _
 
 pub patches-unique : (rgb : List ℕ) (h w th tw p : ℕ) (old x y : List Float) → x ≡ patchesOver rgb h w th tw p old → y ≡ patchesOver rgb h w th tw p old → x ≡ y
 patches-unique rgb h w th tw p old x y = one _

@@ -1,2 +1,3 @@
 pub mod Preprocess
 pub mod Part
+pub mod Undo

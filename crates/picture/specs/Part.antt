@@ -6,7 +6,7 @@ use lib.Dec.{leb}
 use lib.ListN.{length, take, drop}
 use lib.Ieee.{Float}
 use Rattle.picture_limits.specs.Settings.{within}
-use Rattle.picture_limits.specs.Patches.{patchFloats}
+use Rattle.picture_limits.specs.Places.{patchFloats}
 
 -- the floats from place i·3p², where p is in 1..32 and the whole patch lies inside; else none
 unfoldable pub patchPart : List Float → ℕ → ℕ → List Float

@@ -1,27 +1,21 @@
 -- What preprocess answers and writes, for every input. Assumes nothing.
-use mathlib.Core.Bool.{Bool, true, false}
 use mathlib.Core.List.{List}
 use Prim.Native.Nat.{ℕ, _*_}
 use lib.Dec.{leb, eqb}
+use lib.ListN.{length}
 use lib.Ieee.{Float}
 use Rattle.buffers.specs.Region.{over}
 use Rattle.picture_limits.specs.declared.PictureSettings.{PictureSettings}
-use Rattle.picture_limits.specs.declared.Refusal.{Refusal}
 use Rattle.picture_limits.specs.declared.Refusal.the-variants.{Setting, Side, RgbLength, ImageSize, Output}
 use Rattle.picture.specs.declared.Preprocessed.{Preprocessed}
 use Rattle.picture.specs.declared.Preprocessed.the-variants.{Patches, Refused}
 use Rattle.picture_limits.specs.Refusal as R
+use Rattle.picture_limits.specs.Refusal.{unless}
 use Rattle.picture_limits.specs.Settings.{allowed, sided, align}
 use Rattle.picture_limits.specs.Sides.{resized, gridOf}
 use Rattle.picture_resize.specs.Resize.{resizedAt}
-use Rattle.picture_samples.specs.Samples.{sample}
-use Rattle.picture_limits.specs.Patches.{patchFloats, picture}
-use Rattle.picture_patches.specs.Patches.{patches}
-
--- the answer where the test passes, and the refusal where it fails
-abbrev pub unless : Bool → Refusal → Preprocessed → Preprocessed
-unless true r a = a
-unless false r a = Refused r
+use Rattle.picture_limits.specs.Places.{patchFloats, picture}
+use Rattle.picture_patches.specs.Resized.{resizedPatches}
 
 abbrev pub floatsOf : PictureSettings → ℕ → ℕ → ℕ
 floatsOf s h w = gridOf s h * gridOf s w * patchFloats (s .«patch_size»)
@@ -29,11 +23,11 @@ floatsOf s h w = gridOf s h * gridOf s w * patchFloats (s .«patch_size»)
 -- the answer: `len` is the length of the RGB bytes and `room` that of the output
 unfoldable pub preprocessed : PictureSettings → ℕ → ℕ → ℕ → ℕ → Preprocessed
 preprocessed s len h w room =
-    unless (allowed s) Setting
-    (unless (sided h w) Side
-    (unless (eqb len (h * w * 3)) RgbLength
-    (unless (leb (align s) (s .«image_size»)) ImageSize
-    (unless (leb (floatsOf s h w) room) Output
+    unless (allowed s) (Refused Setting)
+    (unless (sided h w) (Refused Side)
+    (unless (eqb len (h * w * 3)) (Refused RgbLength)
+    (unless (leb (align s) (s .«image_size»)) (Refused ImageSize)
+    (unless (leb (floatsOf s h w) room) (Refused Output)
     (Patches (gridOf s h) (gridOf s w) (floatsOf s h w))))))
 
 -- the resized picture, by row, column and channel
@@ -45,12 +39,15 @@ resizedBytes s rgb h w = picture (resized s h) (resized s w) (resizedPixel s rgb
 
 -- its patches
 abbrev pub patchesOf : PictureSettings → List ℕ → ℕ → ℕ → List Float
-patchesOf s rgb h w = patches (s .«patch_size») (gridOf s h) (gridOf s w) (λ y x c. sample c (resizedPixel s rgb h w y x c))
+patchesOf s rgb h w = resizedPatches rgb h w (resized s h) (resized s w) (s .«patch_size»)
 
--- the output after the call
+-- the output after the call, from what it was
 abbrev pub patchesLeft : Preprocessed → List Float → List Float → List Float
 patchesLeft (Patches gh gw n) ys old = over ys old
 patchesLeft (Refused r) ys old = old
+
+abbrev pub patchesOut : PictureSettings → List ℕ → ℕ → ℕ → List Float → List Float
+patchesOut s rgb h w old = patchesLeft (preprocessed s (length rgb) h w (length old)) (patchesOf s rgb h w) old
 
 -- ---- the paper's number and sizes of an answer: 0 for every size of a refusal
 

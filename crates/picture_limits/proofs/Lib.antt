@@ -1,4 +1,5 @@
 pub mod Places
 pub mod Sides
+pub mod Refusals
 pub mod Shapes
 pub mod Unique

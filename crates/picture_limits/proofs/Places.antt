@@ -7,7 +7,7 @@ use native.Mathlib.Numerals.{add-one}
 use lib.ListN.{length, getD}
 use Rattle.buffers.specs.Rows.{tab, rows}
 use Rattle.buffers.proofs.Lists.{fit, length-tab, length-rows, getD-tab, getD-rows}
-use Rattle.picture_limits.specs.Patches.{patchFloats, picture, samplePlace}
+use Rattle.picture_limits.specs.Places.{patchFloats, picture, samplePlace}
 
 pub turn : (k n : ℕ) → (k + 1) * n ≡ k * n + n
 turn k n = rw (add-one, suc-mul)

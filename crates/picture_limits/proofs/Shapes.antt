@@ -1,6 +1,6 @@
 -- What an accepted shape says: settings, grid and length in their ranges, so that no size wraps. Assumes nothing.
-use mathlib.Core.Path.{_≡_, refl}
-use mathlib.Core.Bool.{Bool, true, false, _&&_}
+use mathlib.Core.Path.{_≡_}
+use mathlib.Core.Bool.{Bool, true, _&&_}
 use Prim.Native.Nat.{ℕ, _*_, _%_, _≤_}
 use native.Mathlib.Nat.{div-le-self, le-div-iff-mul-le}
 use native.Mathlib.Omega.{arith}
@@ -10,12 +10,12 @@ use Rattle.buffers.proofs.Lists.{and-left, and-right}
 use Rattle.picture_limits.specs.declared.PictureSettings.{PictureSettings}
 use Rattle.picture_limits.specs.declared.Refusal.{Refusal}
 use Rattle.picture_limits.specs.declared.Refusal.the-variants.{Setting, Grid, PatchesLength}
-use Rattle.picture_limits.specs.declared.Shape.{Shape}
-use Rattle.picture_limits.specs.declared.Shape.the-variants.{Shaped}
+use Rattle.picture_limits.specs.declared.Shape.the-variants.{Shaped, Unshaped}
 use Rattle.picture_limits.specs.Settings.{within, allowed}
-use Rattle.picture_limits.specs.Patches.{patchFloats}
-use Rattle.picture_limits.specs.Shape.{most, gridAllowed, unless, shaped}
+use Rattle.picture_limits.specs.Places.{patchFloats}
+use Rattle.picture_limits.specs.Shape.{most, gridAllowed, shaped}
 use Rattle.picture_limits.proofs.Places.{square, times}
+use Rattle.picture_limits.proofs.Refusals.{passed}
 use Rattle.picture_limits.proofs.Sides.{Allowed, allowed-says, within-says}
 
 -- a grid's side
@@ -71,9 +71,8 @@ grids-say s gh gw a e =
       pixels = times (gh * p) (gw * p) 2048 2048 y x;
     }
 
-passed : (b : Bool) (r : Refusal) (a : Shape) (t : ℕ) → unless b r a ≡ Shaped t → (b ≡ true) × (a ≡ Shaped t)
-passed true r a t e = (refl, e)
-passed false r a t e = let z : _≡_ {A = ℕ} 0 1 = cc in (cc, cc)
+never : (r : Refusal) (t : ℕ) → Unshaped r ≡ Shaped t → ⊥
+never r t e = let z : _≡_ {A = ℕ} 0 1 = cc in omega arith
 
 -- what an accepted shape says
 pub record Accepted (s : PictureSettings) (gh gw n t : ℕ) : Type 0 where
@@ -86,9 +85,8 @@ unfolding shaped
 shaped-says s gh gw n t e =
     let m = gh * gw * patchFloats (s .«patch_size») in
     let g = gridAllowed s gh && gridAllowed s gw in
-    let l = unless (eqb n m) PatchesLength (Shaped (gh * gw)) in
-    let a = passed (allowed s) Setting (unless g Grid l) t e in
-    let b = passed g Grid l t (a .1) in
-    let d = passed (eqb n m) PatchesLength (Shaped (gh * gw)) t (b .1) in
+    let a = passed (allowed s) _ _ (Shaped t) (never Setting t) e in
+    let b = passed g _ _ (Shaped t) (never Grid t) (a .1) in
+    let d = passed (eqb n m) _ _ (Shaped t) (never PatchesLength t) (b .1) in
     let h = d .1 in
     record { grids = grids-say s gh gw (a .0) (b .0); tokens = cc; samples = eqb-true n m (d .0) }

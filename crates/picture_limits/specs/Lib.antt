@@ -1,6 +1,6 @@
 pub mod Refusal
 pub mod Settings
 pub mod Sides
-pub mod Patches
+pub mod Places
 pub mod Shape
 pub mod inner

@@ -1,4 +1,5 @@
--- The numbers that a call can return. Assumes nothing.
+-- The numbers that a call can return, and the first refusal that applies. Assumes nothing.
+use mathlib.Core.Bool.{Bool, true, false}
 use Prim.Native.Nat.{ℕ}
 use Rattle.picture_limits.specs.declared.Refusal as D
 use Rattle.picture_limits.specs.declared.Refusal.the-variants.{Setting, Side, RgbLength, ImageSize, Output, Grid, PatchesLength, Sample, WeightsLength, TableLength, Scratch, NotFinite}
@@ -16,3 +17,8 @@ number WeightsLength = 9
 number TableLength = 10
 number Scratch = 11
 number NotFinite = 12
+
+-- the answer where the test passes, and the refusal where it fails
+abbrev pub unless : {A : Type 0} → Bool → A → A → A
+unless true refused answer = answer
+unless false refused answer = refused

@@ -10,7 +10,7 @@ use lib.Ieee.{Float}
 use Rattle.buffers.specs.Region.{over}
 use Rattle.buffers.proofs.Lists.{and-both, and-left, and-right}
 use Rattle.picture_limits.specs.Settings.{within, sided}
-use Rattle.picture_limits.specs.Patches.{patchFloats}
+use Rattle.picture_limits.specs.Places.{patchFloats}
 use Rattle.picture_limits.proofs.Sides.{within-says}
 use Rattle.picture_patches.specs.Resized.{resizedPatches, fits, patchesOver}
 

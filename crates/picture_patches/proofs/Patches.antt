@@ -3,7 +3,7 @@ use mathlib.Core.Path.{_≡_}
 use Prim.Native.Nat.{ℕ, _+_, _*_, _<_}
 use lib.ListN.{length}
 use Rattle.buffers.proofs.Lists.{length-tab, length-rows, rows-ext, tab-ext}
-use Rattle.picture_limits.specs.Patches.{patchFloats}
+use Rattle.picture_limits.specs.Places.{patchFloats}
 use Rattle.picture_patches.specs.Patches.{patchRow, patchChannel, patchAt, patchLine, patches}
 
 module _ {A : Type 0} (p : ℕ) (v : ℕ → ℕ → ℕ → A) where

@@ -12,7 +12,8 @@ use Rattle.picture_resize.specs.Resize.{pixel, resizedAt}
 use Rattle.picture_samples.specs.Samples.{value}
 use Rattle.picture_patches.specs.Patches.{patchRow}
 use Rattle.picture_patches.specs.inner.Frame.{Framed, seen}
-use Rattle.picture_resize.proofs.Same.{Bytes, pixel-same}
+use Rattle.buffers.specs.Lent.{Bytes}
+use Rattle.picture_resize.proofs.Same.{pixel-same}
 
 module _ (f : Frame) (rgb : List ℕ) (F : Framed f (length rgb)) (b : Bytes rgb) (e : f .plain ≡ true) where
   pub plain-same : (k : ℕ → ℕ → ℕ) (r x c : ℕ) → r < f .th → x + f .p ≤ f .tw → tab (f .p) (λ j. value k c (pixel rgb (f .w) r (x + j) c)) ≡ patchRow (f .p) (seen k f rgb) r x c

@@ -7,7 +7,7 @@ use lib.ListN.{length}
 use lib.Ieee.{Float}
 use Rattle.buffers.specs.Region.{over}
 use Rattle.picture_limits.specs.Settings.{within, sided}
-use Rattle.picture_limits.specs.Patches.{patchFloats}
+use Rattle.picture_limits.specs.Places.{patchFloats}
 use Rattle.picture_samples.specs.Samples.{sample}
 use Rattle.picture_resize.specs.Resize.{resizedAt}
 use Rattle.picture_patches.specs.Patches.{patches}

@@ -28,34 +28,28 @@ pub(crate) fn mix_of(rgb: &[u8], w: usize, y: Near, x: Near, c: usize) -> u8
     blend_byte(v00, v01, v10, v11, y.part, x.part)
 }
 
-// The resized picture's byte at row dy, column dx and channel c; 0 where src is not src_h rows of src_w
-// pixels, or there is no such channel.
+// The resized picture's byte at row dy, column dx and channel c; 0 where src is not h rows of w pixels, or there is no
+// such channel. The target's sides are th and tw, the Rust's dst_h and dst_w.
 pub fn bilinear_resize_rgb(
     src: &[u8],
-    src_h: usize,
-    src_w: usize,
-    dst_h: usize,
-    dst_w: usize,
+    h: usize,
+    w: usize,
+    th: usize,
+    tw: usize,
     dy: usize,
     dx: usize,
     c: usize,
 ) -> u8
-    ensures { λ r. ⌜ r ≡ resizedByte (now (src .entry)) «src_h» «src_w» «dst_h» «dst_w» dy dx c ⌝ }
+    ensures { λ r. ⌜ r ≡ resizedByte (now (src .entry)) h w th tw dy dx c ⌝ }
 {
-    if !sides_allowed(src_h, src_w) {
+    if !sides_allowed(h, w) {
         return 0;
     }
-    if src.len() != src_h * src_w * 3 {
+    if src.len() != h * w * 3 {
         return 0;
     }
     if 3 <= c {
         return 0;
     }
-    mix_of(
-        src,
-        src_w,
-        near_of(src_h, dst_h, dy),
-        near_of(src_w, dst_w, dx),
-        c,
-    )
+    mix_of(src, w, near_of(h, th, dy), near_of(w, tw, dx), c)
 }

@@ -16,14 +16,12 @@ use Rattle.number_floats.specs.Whole.{away}
 use Rattle.number_floats.specs.inner.Bounds.{Small}
 use Rattle.picture_resize.specs.declared.Near.{Near}
 use Rattle.buffers.specs.Rows.{tab, rows}
-use Rattle.picture_resize.specs.Resize.{whole, one, place, lowOf, nearTo, near, blend, clamp, toByte, pixel, mix, resizedAt}
-use Rattle.picture_limits.specs.Patches.{picture}
+use Rattle.buffers.specs.Lent.{Bytes}
+use Rattle.picture_resize.specs.Resize.{whole, place, lowOf, nearTo, near, blend, clamp, toByte, pixel, mix, resizedAt}
+use Rattle.number_floats.specs.Constants.{one64}
+use Rattle.picture_limits.specs.Places.{picture}
 use Rattle.buffers.proofs.Lists.{rows-ext, tab-ext, rows-mul, tab-mul, tab-self}
 use Rattle.picture_resize.proofs.Wholes.{Is, is-whole, mul-is, add-is, sub-is, div-self, floor-is, away-is, not-lt, cast-back}
-
--- the bytes of a list are bytes
-abbrev pub Bytes : List ℕ → Type 0
-Bytes l = (k : ℕ) → getD l k 0 < 256
 
 -- ---- the place of an index, where the sides are the same
 place-same : (n i : ℕ) → 0 < n → n ≤ 2 ^ 53 → i < n → place n n i ≡ whole i
@@ -50,12 +48,12 @@ near-same n i p h l =
     })
 
 -- ---- the four neighbours, at a place with no fraction
-unit : Is one 1
+unit : Is one64 1
 unfolding ofBits
 unit = (refl, refl)
 
-rest : sub binary64 one (whole 0) ≡ whole 1
-rest = sub-is one (whole 0) 1 0 (lit≤ tt) unit (is-whole 0 (lit≤ tt))
+rest : sub binary64 one64 (whole 0) ≡ whole 1
+rest = sub-is one64 (whole 0) 1 0 (lit≤ tt) unit (is-whole 0 (lit≤ tt))
 
 times : (a b : ℕ) → a < 256 → b ≤ 1 → mul binary64 (whole a) (whole b) ≡ whole (a * b)
 times a b h k = mul-is (whole a) (whole b) a b (is-whole a (omega arith)) (is-whole b (omega arith))
@@ -127,6 +125,6 @@ picture-same rgb h w b p q e =
     ∙ picture-self rgb h w e
 
 -- ---- what is resized is a byte
-pub byte-below : (rgb : List ℕ) (h w h′ w′ y x c : ℕ) → resizedAt rgb h w h′ w′ y x c < 256
+pub byte-below : (rgb : List ℕ) (h w th tw y x c : ℕ) → resizedAt rgb h w th tw y x c < 256
 unfolding mix toByte
-byte-below rgb h w h′ w′ y x c = toUnsigned-lt 8 _
+byte-below rgb h w th tw y x c = toUnsigned-lt 8 _

@@ -6,6 +6,7 @@ use lib.IntN.{pos}
 use lib.Dec.{eqb, ltb}
 use lib.ListN.{length, getD}
 use lib.Ieee.{Float, binary64, add, sub, mul, div, lt, ofInt, ofBits, toUnsigned}
+use Rattle.number_floats.specs.Constants.{zero64, one64}
 use Rattle.number_floats.specs.Whole.{floor, away}
 use Rattle.picture_resize.specs.declared.Near.{Near}
 use Rattle.picture_limits.specs.Settings.{sided}
@@ -13,9 +14,6 @@ use Rattle.picture_limits.specs.Settings.{sided}
 -- a whole number as an f64
 unfoldable pub whole : ℕ → Float
 whole n = ofInt binary64 (pos n)
-
-abbrev pub one : Float
-one = ofBits binary64 0x3FF0_0000_0000_0000
 
 -- index × (source side / target side)
 abbrev pub place : ℕ → ℕ → ℕ → Float
@@ -35,14 +33,18 @@ near from to i = nearTo from (place from to i)
 unfoldable pub blend : Float → Float → Float → Float → Float → Float → Float
 blend v00 v01 v10 v11 fy fx =
     add binary64 (add binary64 (add binary64
-    (mul binary64 (mul binary64 v00 (sub binary64 one fx)) (sub binary64 one fy))
-    (mul binary64 (mul binary64 v01 fx) (sub binary64 one fy)))
-    (mul binary64 (mul binary64 v10 (sub binary64 one fx)) fy))
+    (mul binary64 (mul binary64 v00 (sub binary64 one64 fx)) (sub binary64 one64 fy))
+    (mul binary64 (mul binary64 v01 fx) (sub binary64 one64 fy)))
+    (mul binary64 (mul binary64 v10 (sub binary64 one64 fx)) fy))
     (mul binary64 (mul binary64 v11 fx) fy)
+
+-- 255, as f64
+abbrev pub byteTop : Float
+byteTop = ofBits binary64 0x406F_E000_0000_0000
 
 -- clamped to 0..255
 abbrev pub clamp : Float → Float
-clamp x = cond (lt x (ofBits binary64 0)) (ofBits binary64 0) (cond (lt (ofBits binary64 0x406F_E000_0000_0000) x) (ofBits binary64 0x406F_E000_0000_0000) x)
+clamp x = cond (lt x zero64) zero64 (cond (lt byteTop x) byteTop x)
 
 -- rounded half away from zero, clamped, as a byte
 unfoldable pub toByte : Float → ℕ
@@ -59,10 +61,10 @@ mix rgb w y x c =
     (whole (pixel rgb w (y .high) (x .low) c)) (whole (pixel rgb w (y .high) (x .high) c))
     (y .part) (x .part))
 
--- the resized picture's byte: rgb has h rows of w, and the target h′ rows of w′
+-- the resized picture's byte: rgb has h rows of w, and the target th rows of tw
 abbrev pub resizedAt : List ℕ → ℕ → ℕ → ℕ → ℕ → ℕ → ℕ → ℕ → ℕ
-resizedAt rgb h w h′ w′ y x c = mix rgb w (near h h′ y) (near w w′ x) c
+resizedAt rgb h w th tw y x c = mix rgb w (near h th y) (near w tw x) c
 
--- the same as a function for anyone: 0 where rgb is not h rows of w pixels, or there is no channel c
+-- as a function for anyone: 0 where a side is not allowed, rgb is not h rows of w pixels, or there is no channel c
 unfoldable pub resizedByte : List ℕ → ℕ → ℕ → ℕ → ℕ → ℕ → ℕ → ℕ → ℕ
-resizedByte rgb h w h′ w′ y x c = cond (sided h w && eqb (length rgb) (h * w * 3) && ltb c 3) (resizedAt rgb h w h′ w′ y x c) 0
+resizedByte rgb h w th tw y x c = cond (sided h w && eqb (length rgb) (h * w * 3) && ltb c 3) (resizedAt rgb h w th tw y x c) 0

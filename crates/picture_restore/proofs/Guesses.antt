@@ -14,7 +14,7 @@ use Rattle.buffers.proofs.Lists.{fit, length-tab, length-rows, rows-ext, rows-m
 use Rattle.picture_samples.specs.Samples.{sampleBits, sampleTable, value, byteOf, entry}
 use Rattle.picture_samples.specs.inner.Clean.{Clean}
 use Rattle.picture_restore.specs.inner.Guess.{guessed, Guessed, guessedPixel, guessedRun, guessedLine, guessedBand, guessedBytes}
-use Rattle.picture_limits.specs.Patches.{patchFloats, samplePlace}
+use Rattle.picture_limits.specs.Places.{patchFloats, samplePlace}
 use Rattle.picture_restore.specs.Restore.{known, bytesFrom}
 use Rattle.picture_limits.proofs.Places.{place-of, at-in}
 use Rattle.picture_samples.proofs.Table.{tested, tested-at, table, table-is, length-table, entry-is, clean-table}
@@ -89,7 +89,7 @@ module _ (p : ℕ) (l : List Float) where
   length-guessedBand gw from = length-rows _ (gw * (p * 3)) (λ i. length-guessedLine gw from i) p
 
 -- ---- what the loops write
-pub guessed-bytes : (p gh gw : ℕ) (l : List Float) → 0 < p → known sampleBits p (gh * gw) l ≡ true → length l ≡ gh * gw * patchFloats p
+pub guessed-bytes : (p gh gw : ℕ) (l : List Float) → 0 < p → known sampleBits p l ≡ true → length l ≡ gh * gw * patchFloats p
     → ((i : ℕ) → i < length l → T (fits binary32 (getD l i nan))) → guessedBytes p gh gw l ≡ bytesFrom sampleBits p l gh gw
 guessed-bytes p gh gw l h seen len ok =
     let byte : ℕ → ℕ → ℕ → ℕ = λ y x c. byteOf sampleBits c (toBits binary32 (getD l (samplePlace p gw y x c) nan)) in
@@ -113,5 +113,5 @@ guessed-bytes p gh gw l h seen len ok =
         let s : a * (gw * n) + b * n + i * p + j + c * (p * p) ≡ at = omega (arith, add-mul (a * gw) b n, mul-assoc a gw n) in
         let r : samplePlace p gw (a * p + i) (b * p + j) c ≡ at = omega (arith, place-of p h gw a b c i j hi hj) in
         ap (λ (x : ℕ). guessed c (getD l x nan)) s
-        ∙ guess-byte sampleBits right-samples c hc (getD l at nan) (ok at m) (known-at sampleBits p (gh * gw) l seen q c d u hc w)
+        ∙ guess-byte sampleBits right-samples c hc (getD l at nan) (ok at m) (known-at sampleBits p (gh * gw) l len seen q c d u hc w)
         ∙ ap (λ (x : ℕ). byteOf sampleBits c (toBits binary32 (getD l x nan))) (sym r)

@@ -1,2 +1,3 @@
 pub mod Known
+pub mod Ladder
 pub mod Guesses

@@ -1,35 +1,26 @@
 -- What restore answers and writes, for every input. Assumes nothing.
-use mathlib.Core.Bool.{Bool, true, false}
+use mathlib.Core.Bool.{Bool, _&&_}
 use mathlib.Core.List.{List}
-use Prim.Native.Nat.{ℕ, _+_, _*_}
+use Prim.Native.Nat.{ℕ, _*_, _/_, _%_}
 use lib.ListN.{length, getD}
-use lib.Dec.{leb, ltb}
+use lib.Dec.{eqb, leb, ltb}
 use lib.Ieee.{Float, nan, binary32, toBits}
 use Rattle.buffers.specs.Rows.{all}
 use Rattle.buffers.specs.Region.{over}
 use Rattle.picture_limits.specs.declared.PictureSettings.{PictureSettings}
-use Rattle.picture_limits.specs.declared.Refusal.{Refusal}
-use Rattle.picture_limits.specs.declared.Refusal.the-variants.{Output, Sample}
-use Rattle.picture_limits.specs.declared.Shape.{Shape}
-use Rattle.picture_limits.specs.declared.Shape.the-variants.{Shaped, Unshaped}
+use Rattle.picture_limits.specs.declared.Refusal.the-variants.{Setting, Output, Grid, PatchesLength, Sample}
 use Rattle.picture_restore.specs.declared.Restored.{Restored}
 use Rattle.picture_restore.specs.declared.Restored.the-variants.{Picture, Refused}
 use Rattle.picture_limits.specs.Refusal as R
-use Rattle.picture_limits.specs.Shape.{shaped}
+use Rattle.picture_limits.specs.Refusal.{unless}
+use Rattle.picture_limits.specs.Settings.{allowed}
+use Rattle.picture_limits.specs.Shape.{gridAllowed}
 use Rattle.picture_samples.specs.Samples.{sampleBits, byteOf}
-use Rattle.picture_limits.specs.Patches.{patchFloats, picture, samplePlace}
+use Rattle.picture_limits.specs.Places.{patchFloats, picture, samplePlace}
 
--- by a table k: each of n samples from `at` on has the bits of a byte in channel c
-abbrev pub knownRun : (ℕ → ℕ → ℕ) → ℕ → List Float → ℕ → ℕ → Bool
-knownRun k n l at c = all n (λ i. ltb (byteOf k c (toBits binary32 (getD l (at + i) nan))) 256)
-
--- each sample of the patch from `at` on
-abbrev pub knownPatch : (ℕ → ℕ → ℕ) → ℕ → List Float → ℕ → Bool
-knownPatch k p l at = all 3 (λ c. knownRun k (p * p) l (at + c * (p * p)) c)
-
--- each sample of n patches
-unfoldable pub known : (ℕ → ℕ → ℕ) → ℕ → ℕ → List Float → Bool
-known k p n l = all n (λ q. knownPatch k p l (q * patchFloats p))
+-- by a table k: every sample has the bits of a byte in its channel, and sample i is of channel i / p² mod 3
+unfoldable pub known : (ℕ → ℕ → ℕ) → ℕ → List Float → Bool
+known k p l = all (length l) (λ i. ltb (byteOf k (i / (p * p) % 3) (toBits binary32 (getD l i nan))) 256)
 
 -- the bytes of the samples, by row, column and channel
 abbrev pub bytesFrom : (ℕ → ℕ → ℕ) → ℕ → List Float → ℕ → ℕ → List ℕ
@@ -37,28 +28,26 @@ bytesFrom k p l gh gw = picture (gh * p) (gw * p) (λ y x c. byteOf k c (toBits 
 
 -- ---- restore, by the samples' own table
 
-abbrev pub unless : Bool → Refusal → Restored → Restored
-unless true r a = a
-unless false r a = Refused r
-
--- where settings, grid and length are in order, the room and then the samples decide
-abbrev pub decided : PictureSettings → List Float → ℕ → ℕ → ℕ → Shape → Restored
-decided s l gh gw room (Unshaped r) = Refused r
-decided s l gh gw room (Shaped t) =
-    unless (leb (gh * s .«patch_size» * (gw * s .«patch_size») * 3) room) Output
-    (unless (known sampleBits (s .«patch_size») (gh * gw) l) Sample
-    (Picture (gh * s .«patch_size») (gw * s .«patch_size»)))
-
+-- the answer; `room` is the length of the output
 unfoldable pub restored : PictureSettings → List Float → ℕ → ℕ → ℕ → Restored
-restored s l gh gw room = decided s l gh gw room (shaped s gh gw (length l))
+restored s l gh gw room =
+    unless (allowed s) (Refused Setting)
+    (unless (gridAllowed s gh && gridAllowed s gw) (Refused Grid)
+    (unless (eqb (length l) (gh * gw * patchFloats (s .«patch_size»))) (Refused PatchesLength)
+    (unless (leb (gh * s .«patch_size» * (gw * s .«patch_size») * 3) room) (Refused Output)
+    (unless (known sampleBits (s .«patch_size») l) (Refused Sample)
+    (Picture (gh * s .«patch_size») (gw * s .«patch_size»))))))
 
 abbrev pub bytesOf : PictureSettings → List Float → ℕ → ℕ → List ℕ
 bytesOf s l gh gw = bytesFrom sampleBits (s .«patch_size») l gh gw
 
--- the output after the call
+-- the output after the call, from what it was
 abbrev pub bytesLeft : Restored → List ℕ → List ℕ → List ℕ
 bytesLeft (Picture h w) ys old = over ys old
 bytesLeft (Refused r) ys old = old
+
+abbrev pub bytesOut : PictureSettings → List Float → ℕ → ℕ → List ℕ → List ℕ
+bytesOut s l gh gw old = bytesLeft (restored s l gh gw (length old)) (bytesOf s l gh gw) old
 
 -- ---- the paper's number and sizes of an answer: 0 for every size of a refusal
 

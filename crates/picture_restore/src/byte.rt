@@ -31,7 +31,7 @@ fn shift_of(c: usize) -> f32
     104.093735
 }
 
-// The byte that v would have to be the sample of, by arithmetic: 2^23 leaves the whole part in the low bits.
+// The byte that v would have to be the sample of, by arithmetic: adding 2^23 leaves the whole part in the low bits.
 pub(crate) fn guess(c: usize, v: f32) -> usize
     ensures { λ r. ⌜ r ≡ guessed c v ⌝ }
 {

@@ -13,9 +13,10 @@ ghost use Prim.Native.Nat.{_+_, _*_, _≤_, _<_};
 ghost use lib.ListN.{length};
 ghost use Rattle.buffers.specs.Region.{put};
 ghost use Rattle.picture_samples.specs.Samples.{entry};
+ghost use Rattle.picture_restore.specs.inner.Known.{knownRun, knownPatch, knownPatches};
 ghost use Rattle.picture_restore.specs.inner.Guess.{Guessed, guessedPixel, guessedRun, guessedLine, guessedBand, guessedBytes};
 ghost use Rattle.picture_limits.specs.Shape.{shaped};
-ghost use Rattle.picture_restore.specs.Restore.{knownRun, knownPatch, known, restored, bytesOf, bytesLeft};
+ghost use Rattle.picture_restore.specs.Restore.{restored, bytesOut};
 
 pub enum Restored {
     Picture { height: usize, width: usize },
@@ -57,7 +58,7 @@ fn patch_known(patches: &[f32], at: usize, p: usize, t: &[u32; 768]) -> bool
 // Whether every sample of n patches has the bits of a byte in its channel.
 fn all_known(patches: &[f32], p: usize, n: usize, t: &[u32; 768]) -> bool
     requires { ⌜ (p ≤ 32) × (n * (3 * (p * p)) ≤ length (now patches)) × Guessed (now t) ⌝ }
-    ensures { λ r. ⌜ r ≡ known (entry (now (t .entry))) p n (now (patches .entry)) ⌝ }
+    ensures { λ r. ⌜ r ≡ knownPatches (entry (now (t .entry))) p n (now (patches .entry)) ⌝ }
 {
     let m = 3 * (p * p);
     let mut q = 0usize;
@@ -156,7 +157,7 @@ fn restore_bands(patches: &[f32], p: usize, gh: usize, gw: usize, out: &mut [u8]
     }
 }
 
-// The same where settings, grid and length are in order.
+// What restore does where settings, grid and length are in order.
 fn restore_shaped(
     s: PictureSettings,
     patches: &[f32],
@@ -166,7 +167,8 @@ fn restore_shaped(
     out: &mut [u8],
 ) -> Restored
     requires { ⌜ shaped s «grid_h» «grid_w» (length (now patches)) ≡ Shape.Shaped tokens ⌝ }
-    ensures { λ r. ⌜ (r ≡ restored s (now (patches .entry)) «grid_h» «grid_w» (length (now (out .entry)))) × (now (out .exit) ≡ bytesLeft (restored s (now (patches .entry)) «grid_h» «grid_w» (length (now (out .entry)))) (bytesOf s (now (patches .entry)) «grid_h» «grid_w») (now (out .entry))) ⌝ }
+    ensures answer { λ r. ⌜ r ≡ restored s (now (patches .entry)) «grid_h» «grid_w» (length (now (out .entry))) ⌝ }
+    ensures output { λ _. ⌜ now (out .exit) ≡ bytesOut s (now (patches .entry)) «grid_h» «grid_w» (now (out .entry)) ⌝ }
 {
     let p = s.patch_size;
     if out.len() < grid_h * p * (grid_w * p) * 3 {
@@ -192,7 +194,7 @@ pub fn restore(
     out: &mut [u8],
 ) -> Restored
     ensures answer { λ r. ⌜ r ≡ restored s (now (patches .entry)) «grid_h» «grid_w» (length (now (out .entry))) ⌝ }
-    ensures output { λ _. ⌜ now (out .exit) ≡ bytesLeft (restored s (now (patches .entry)) «grid_h» «grid_w» (length (now (out .entry)))) (bytesOf s (now (patches .entry)) «grid_h» «grid_w») (now (out .entry)) ⌝ }
+    ensures output { λ _. ⌜ now (out .exit) ≡ bytesOut s (now (patches .entry)) «grid_h» «grid_w» (now (out .entry)) ⌝ }
 {
     let found = shape(s, grid_h, grid_w, patches.len());
     match found {

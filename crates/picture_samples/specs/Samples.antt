@@ -19,6 +19,7 @@ deviation zero = ofBits binary32 0x3E89_89D0
 deviation (suc zero) = ofBits binary32 0x3E85_C974
 deviation (suc (suc c)) = ofBits binary32 0x3E8D_32A8
 
+-- of byte b in channel c; 0x437F_0000 is 255
 unfoldable pub sample : ℕ → ℕ → Float
 sample c b = div binary32 (sub binary32 (div binary32 (ofInt binary32 (pos b)) (ofBits binary32 0x437F_0000)) (mean c)) (deviation c)
 

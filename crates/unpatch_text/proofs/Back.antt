@@ -14,12 +14,12 @@ use lib.Seq.{take-add, take-all, length-take-le}
 use Rattle.buffers.proofs.Lists.{fit}
 use Rattle.buffers.specs.Rows as B
 use Rattle.buffers.specs.Region.{region}
-use Rattle.picture_resize.proofs.Same.{Bytes}
-use Rattle.unpatch_form.specs.Words.{word, same, onto, pieces, _>>=_, first, end, joined, behind}
+use Rattle.buffers.specs.Lent.{Bytes}
+use Rattle.unpatch_form.specs.Words.{word, same, onto, pieces, _>>=_, onePiece, end, joined, behind}
 use Rattle.unpatch_form.specs.Decimal.{isDigit, digitsFrom, decimal}
 use Rattle.unpatch_form.specs.Hex.{nibble, pair, hexPairs, hexBytes}
 use Rattle.unpatch_text.specs.Print.{lastDigits, decimalText, glyph, hexText, line, gridLine, rowLine, rowLines}
-use Rattle.unpatch_form.specs.Form.{fields, lines, rowFields, row, rows}
+use Rattle.unpatch_form.specs.Form.{fields, lines, rowFields, readRow, readRows}
 use Rattle.unpatch_form.proofs.Decimals.{decimal-one, decimal-more}
 use Rattle.unpatch_form.proofs.Hexes.{hex-some}
 use Rattle.unpatch_text.proofs.Writes.{digits-one, digits-more, length-hex}
@@ -169,8 +169,8 @@ body-fields y bs =
     piece-cut 9 (word "row") (decimalText y ++ (9 ∷ hexText bs)) (free-word 9 (omega arith))
     ∙ ap (λ (ps : List (List ℕ)). word "row" ∷ ps) (piece-cut 9 (decimalText y) (hexText bs) (free-digits 9 (suc y) y (omega arith)) ∙ ap (λ (ps : List (List ℕ)). decimalText y ∷ ps) (piece-last 9 (hexText bs) (free-hex 9 bs (omega arith))))
 
-row-back : (y : ℕ) (bs : List ℕ) → Bytes bs → 1 ≤ length bs → row y (body y bs) ≡ some bs
-unfolding row same
+row-back : (y : ℕ) (bs : List ℕ) → Bytes bs → 1 ≤ length bs → readRow y (body y bs) ≡ some bs
+unfolding readRow same
 row-back y bs h l =
     let some-hex : length (hexText bs) ≡ 0 → ⊥ = λ e. omega (arith, e, length-hex bs) in
     rw (body-fields y bs, decimal-back y, hex-some (hexText bs) some-hex, hex-back bs h, eq-eqb y y refl) refl
@@ -180,23 +180,23 @@ unfolding rowLine
 row-line y bs rest = simp (append-assoc (decimalText y), append-assoc (hexText bs))
 
 -- the next row, and what is read behind it
-row-next : (y : ℕ) (bs rest : List ℕ) → Bytes bs → 1 ≤ length bs → rows y (lines (rowLine y bs ++ rest)) ≡ joined bs (rows (suc y) (lines rest))
-unfolding rows
+row-next : (y : ℕ) (bs rest : List ℕ) → Bytes bs → 1 ≤ length bs → readRows y (lines (rowLine y bs ++ rest)) ≡ joined bs (readRows (suc y) (lines rest))
+unfolding readRows
 row-next y bs rest h l =
     let r = some-piece 10 rest in
     rw (row-line y bs rest, piece-cut 10 (body y bs) rest (free-body y bs), r .2, row-back y bs h l) refl
 
 module _ (g : ℕ → List ℕ) where
-  rows-next : (h : ℕ) (rest : List ℕ) → ((y : ℕ) → y < h → Bytes (g y) × (1 ≤ length (g y))) → rows 0 (lines (B.rows h (λ y. rowLine y (g y)) ++ rest)) ≡ joined (B.rows h g) (rows h (lines rest))
+  rows-next : (h : ℕ) (rest : List ℕ) → ((y : ℕ) → y < h → Bytes (g y) × (1 ≤ length (g y))) → readRows 0 (lines (B.rows h (λ y. rowLine y (g y)) ++ rest)) ≡ joined (B.rows h g) (readRows h (lines rest))
   unfolding B.rows
-  rows-next zero rest a = sym (joined-nil (rows 0 (lines rest)))
+  rows-next zero rest a = sym (joined-nil (readRows 0 (lines rest)))
   rows-next (suc h) rest a =
       let e : (B.rows h (λ y. rowLine y (g y)) ++ rowLine h (g h)) ++ rest ≡ B.rows h (λ y. rowLine y (g y)) ++ (rowLine h (g h) ++ rest) = append-assoc (B.rows h (λ y. rowLine y (g y))) (rowLine h (g h)) rest in
       let b = a h (omega arith) in
       rw e
       (rows-next h (rowLine h (g h) ++ rest) (λ y l. a y (omega arith))
       ∙ ap (joined (B.rows h g)) (row-next h (g h) rest (b .0) (b .1))
-      ∙ joined-joined (B.rows h g) (g h) (rows (suc h) (lines rest)))
+      ∙ joined-joined (B.rows h g) (g h) (readRows (suc h) (lines rest)))
 
 -- pieces of n elements, joined
 pub regions-joined : (bs : List ℕ) (n h : ℕ) → B.rows h (λ y. region bs (y * n) n) ≡ take (h * n) bs
@@ -216,11 +216,11 @@ bytes-drop (suc n) [] h k = omega arith
 bytes-drop (suc n) (x ∷ xs) h k = bytes-drop n xs (λ i. h (suc i)) k
 
 -- the rows of a picture are read back as its bytes, joined
-pub rows-back : (h n : ℕ) (bs : List ℕ) → Bytes bs → 1 ≤ n → length bs ≡ h * n → rows 0 (lines (rowLines h n bs)) ≡ some bs
-unfolding rows pieces
+pub rows-back : (h n : ℕ) (bs : List ℕ) → Bytes bs → 1 ≤ n → length bs ≡ h * n → readRows 0 (lines (rowLines h n bs)) ≡ some bs
+unfolding readRows pieces
 rows-back h n bs b l e =
     let g : ℕ → List ℕ = λ y. region bs (y * n) n in
     let f : B.rows h (λ y. rowLine y (g y)) ++ [] ≡ rowLines h n bs = append-nil (rowLines h n bs) in
     let j : B.rows h g ≡ bs = regions-joined bs n h ∙ take-all (h * n) bs (omega (arith, e)) in
     let k = rows-next g h [] (λ y hy. (bytes-take n (drop (y * n) bs) (bytes-drop (y * n) bs b), omega (arith, length-take-le n (drop (y * n) bs) (omega (arith, length-drop (y * n) bs, fit n hy, e))))) in
-    ap (λ (t : List ℕ). rows 0 (lines t)) (sym f) ∙ k ∙ ap (λ (l : List ℕ). some (l ++ [])) j ∙ ap {B = Option (List ℕ)} some (append-nil bs)
+    ap (λ (t : List ℕ). readRows 0 (lines t)) (sym f) ∙ k ∙ ap (λ (l : List ℕ). some (l ++ [])) j ∙ ap {B = Option (List ℕ)} some (append-nil bs)

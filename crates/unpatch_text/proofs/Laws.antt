@@ -1,10 +1,10 @@
 -- What the answer says, for every input: `text` exactly where the input is outside the form, and the bytes of a picture
 -- that is not resized come back. Assumes nothing.
-use mathlib.Core.Path.{_≡_, refl, sym, ap, _∙_, subst}
+use mathlib.Core.Path.{_≡_, refl, ap, _∙_, subst}
 use mathlib.Core.Bool.{Bool, true, false, cond}
 use mathlib.Core.List.{List, [], _∷_, _++_}
 use mathlib.Core.Option.{Option, none, some, Option·some-injective, Option·none-ne-some}
-use Prim.Native.Nat.{ℕ, zero, suc, _+_, _-_, _*_, _/_, _%_, _≤_, _<_}
+use Prim.Native.Nat.{ℕ, suc, _+_, _-_, _*_, _/_, _%_, _≤_, _<_}
 use native.Mathlib.Nat.{le-refl, mul-pos}
 use native.Mathlib.Omega.{arith}
 use borrow.Author.Tests.{ltb-false, leb-true}
@@ -22,17 +22,20 @@ use Rattle.picture_limits.specs.Settings.{align}
 use Rattle.picture_limits.specs.Sides.{resized, gridOf}
 use Rattle.picture.specs.Preprocess.{floatsOf, preprocessed, resizedPixel, resizedBytes, patchesOf}
 use Rattle.picture_restore.specs.Restore.{restored, bytesOf}
-use Rattle.picture_resize.proofs.Same.{Bytes, byte-below}
+use Rattle.buffers.specs.Lent.{Bytes}
+use Rattle.picture_resize.proofs.Same.{byte-below}
 use Rattle.picture_limits.proofs.Sides.{side-same, allowed-says, sided-says}
 use Rattle.picture_limits.proofs.Shapes.{grid-side-says}
 use Rattle.picture_limits.proofs.Places.{times, length-picture}
 use Rattle.picture.proofs.Accepts.{acceptance}
-use Rattle.picture.proofs.Undo.{Undone, undo, own-bytes, spanned, bytes-append, no-bytes, one-byte, bytes-tab, bytes-rows}
+use Rattle.buffers.proofs.Bytes.{bytes-append, no-bytes, one-byte, bytes-tab, bytes-rows}
+use Rattle.picture.proofs.Spans.{spanned}
+use Rattle.picture.proofs.Undo.{returned, own-bytes}
 use Rattle.picture_limits.proofs.Unique.{one}
-use Rattle.unpatch_form.specs.Words.{word, _>>=_, first, end, joined, behind}
+use Rattle.unpatch_form.specs.Words.{word, _>>=_, onePiece, end, joined, behind}
 use Rattle.unpatch_form.specs.Decimal.{decimal}
 use Rattle.unpatch_form.specs.Hex.{nibble, pair, hexPairs, hexBytes}
-use Rattle.unpatch_form.specs.Form.{Request, fields, lines, rowFields, row, rows, vision, picture, requestOf, pictured, form}
+use Rattle.unpatch_form.specs.Form.{Request, fields, lines, rowFields, readRow, readRows, readVision, readPicture, requestOf, pictured, form}
 use Rattle.unpatch_text.specs.Print.{lastDigits, refusedLine, outsideLine, gridLine, rowLines}
 use Rattle.unpatch_text.specs.Answer.{settings, restoredText, preprocessedText, ran, answered, answer, lengthLeft, textLeft}
 use Rattle.unpatch_form.proofs.Limits.{read-on, read-first, read-end}
@@ -131,11 +134,11 @@ hex-bytes : (l bs : List ℕ) → hexBytes l ≡ some bs → Bytes bs
 hex-bytes [] bs e = absurd (Option·none-ne-some bs e)
 hex-bytes (a ∷ l) bs e = pairs-bytes (a ∷ l) bs e
 
-row-bytes : (i : ℕ) (l bs : List ℕ) → row i l ≡ some bs → Bytes bs
-unfolding row
+row-bytes : (i : ℕ) (l bs : List ℕ) → readRow i l ≡ some bs → Bytes bs
+unfolding readRow
 row-bytes i l bs e =
     let x = read-on (behind (word "row") (fields l)) (rowFields i) bs e in
-    let y = read-first decimal (λ k. first hexBytes λ b. end (cond (eqb k i) (some b) none)) (x .0) bs (x .2) in
+    let y = read-first decimal (λ k. onePiece hexBytes λ b. end (cond (eqb k i) (some b) none)) (x .0) bs (x .2) in
     let z = read-first hexBytes (λ b. end (cond (eqb (y .2) i) (some b) none)) (y .1) bs (y .4) in
     go (eqb (y .2) i) (z .0) (z .2) (z .3) (read-end (cond (eqb (y .2) i) (some (z .2)) none) (z .1) bs (z .4))
   where
@@ -143,26 +146,26 @@ row-bytes i l bs e =
     go true p b f g = subst Bytes (Option·some-injective b bs g) (hex-bytes p b f)
     go false p b f g = absurd (Option·none-ne-some bs g)
 
-rows-bytes : (i : ℕ) (ls : List (List ℕ)) (bs : List ℕ) → rows i ls ≡ some bs → Bytes bs
-unfolding rows
+rows-bytes : (i : ℕ) (ls : List (List ℕ)) (bs : List ℕ) → readRows i ls ≡ some bs → Bytes bs
+unfolding readRows
 rows-bytes i [] bs e = absurd (Option·none-ne-some bs e)
 rows-bytes i ([] ∷ []) bs e = subst Bytes (Option·some-injective [] bs e) no-bytes
 rows-bytes i ((b ∷ l) ∷ []) bs e = absurd (Option·none-ne-some bs e)
 rows-bytes i (l ∷ (m ∷ ms)) bs e =
-    let r = read-on (row i l) (λ x. joined x (rows (suc i) (m ∷ ms))) bs e in
-    let q = read-joined (r .0) (rows (suc i) (m ∷ ms)) bs (r .2) in
+    let r = read-on (readRow i l) (λ x. joined x (readRows (suc i) (m ∷ ms))) bs e in
+    let q = read-joined (r .0) (readRows (suc i) (m ∷ ms)) bs (r .2) in
     subst Bytes (q .2) (bytes-append (r .0) (q .0) (row-bytes i l (r .0) (r .1)) (rows-bytes (suc i) (m ∷ ms) (q .0) (q .1)))
 
 pub form-bytes : (t : List ℕ) (q : Request) → form t ≡ some q → Bytes (q .rgb)
 unfolding form
 form-bytes t q e = go (leb (length t) 49152) e
   where
-    go : (b : Bool) → cond b (first vision (λ s. pictured s) (lines t)) none ≡ some q → Bytes (q .rgb)
+    go : (b : Bool) → cond b (onePiece readVision (λ s. pictured s) (lines t)) none ≡ some q → Bytes (q .rgb)
     go false f = absurd (Option·none-ne-some q f)
     go true f =
-        let x = read-first vision (λ s. pictured s) (lines t) q f in
-        let y = read-first picture (λ p ls. rows 0 ls >>= requestOf (x .2) p) (x .1) q (x .4) in
-        let z = read-on (rows 0 (y .1)) (requestOf (x .2) (y .2)) q (y .4) in
+        let x = read-first readVision (λ s. pictured s) (lines t) q f in
+        let y = read-first readPicture (λ p ls. readRows 0 ls >>= requestOf (x .2) p) (x .1) q (x .4) in
+        let z = read-on (readRows 0 (y .1)) (requestOf (x .2) (y .2)) q (y .4) in
         let k : z .0 ≡ q .rgb = ap (λ (r : Request). r .rgb) (Option·some-injective _ q (z .2)) in
         subst Bytes k (rows-bytes 0 (y .1) (z .0) (z .1))
 
@@ -170,7 +173,7 @@ form-bytes t q e = go (leb (length t) 49152) e
 -- the answer is a grid and the rows of a picture; and these, read as the form reads rows, are the picture's bytes, joined
 pub record Printed (t : List ℕ) (gh gw m h w : ℕ) (bs : List ℕ) : Type 0 where
   pub text : answer t ≡ gridLine gh gw (gh * gw / (m * m)) ++ rowLines h (w * 3) bs
-  pub read : rows 0 (lines (rowLines h (w * 3) bs)) ≡ some bs
+  pub read : readRows 0 (lines (rowLines h (w * 3) bs)) ≡ some bs
 
 module _ (t : List ℕ) (q : Request) (gh gw n : ℕ) (inside : form t ≡ some q)
     (call : preprocessed (settings q) (length (q .rgb)) (q .height) (q .width) (floatsOf (settings q) (q .height) (q .width)) ≡ P.Patches gh gw n) where
@@ -194,7 +197,7 @@ module _ (t : List ℕ) (q : Request) (gh gw n : ℕ) (inside : form t ≡ some 
       let fits : resized s h * resized s w * 3 ≤ gh * p * (gw * p) * 3 = rw (gt, gd) (le-refl (resized s h * resized s w * 3)) in
       let o = allowed-says s (a .asks .settings) in
       let g = grid-side-says s (gridOf s w) (o .patch-low) (wide .allowed) in
-      let u = undo s (q .rgb) h w gh gw n (floatsOf s h w) (gh * p * (gw * p) * 3) call fits in
+      let u = returned s (q .rgb) h w gh gw n (floatsOf s h w) (gh * p * (gw * p) * 3) call fits in
       record {
         text =
             ap answered inside ∙ ap (preprocessedText s (q .rgb) h w) call
@@ -213,7 +216,7 @@ module _ (t : List ℕ) (q : Request) (gh gw n : ℕ) (inside : form t ≡ some 
       let w = q .width in
       let o = allowed-says s (acceptance s (length (q .rgb)) h w (floatsOf s h w) gh gw n call .asks .settings) in
       let a : 0 < align s = mul-pos (o .patch-low) (o .merge-low) in
-      let b = own-bytes s (q .rgb) h w gh gw n (floatsOf s h w) (form-bytes t q inside) call i j k l in
+      let b = own-bytes s (q .rgb) h w gh gw n (floatsOf s h w) (form-bytes t q inside) call (record { tall = i; wide = j; tall-held = k; wide-held = l }) in
       let c = subst (Printed t gh gw (q .merge) (resized s h) (resized s w)) b printed in
       let d = subst (λ (x : ℕ). Printed t gh gw (q .merge) x (resized s w) (q .rgb)) (side-same (align s) (s .«image_size») h a i k) c in
       subst (λ (x : ℕ). Printed t gh gw (q .merge) h x (q .rgb)) (side-same (align s) (s .«image_size») w a j l) d

@@ -1,36 +1,35 @@
 -- Rooms that are enough, and what preprocess and restore answer with them where no side is above 64. Assumes nothing.
-use mathlib.Core.Path.{_≡_, refl, sym, ap, _∙_}
-use mathlib.Core.Bool.{Bool, true, false}
+use mathlib.Core.Path.{_≡_, refl, sym, _∙_}
+use mathlib.Core.Bool.{_&&_}
 use mathlib.Core.List.{List}
-use Prim.Native.Nat.{ℕ, _+_, _*_, _/_, _≤_}
+use Prim.Native.Nat.{ℕ, _*_, _≤_}
 use native.Mathlib.Nat.{le-refl, div-mul-le-self, mul-assoc}
 use native.Mathlib.Omega.{arith}
 use borrow.Author.Tests.{le-leb}
-use lib.Dec.{leb}
+use lib.Dec.{leb, eqb}
 use lib.ListN.{length, take, replicate, length-replicate}
 use lib.Seq.{take-at}
 use lib.Ieee.{Float}
 use Rattle.picture_limits.specs.declared.PictureSettings.{PictureSettings}
 use Rattle.picture_limits.specs.declared.Refusal.{Refusal}
-use Rattle.picture_limits.specs.declared.Shape.{Shape}
-use Rattle.picture_limits.specs.declared.Shape.the-variants.{Shaped, Unshaped}
+use Rattle.picture_limits.specs.declared.Refusal.the-variants.{Setting, Output, Grid, PatchesLength, Sample}
 use Rattle.picture.specs.declared.Preprocessed.{Preprocessed}
 use Rattle.picture.specs.declared.Preprocessed.the-variants as P
 use Rattle.picture_restore.specs.declared.Restored.{Restored}
 use Rattle.picture_restore.specs.declared.Restored.the-variants.{Picture, Refused}
-use Rattle.picture_limits.specs.Settings.{align}
-use Rattle.picture_limits.specs.Sides.{side, resized, gridOf}
-use Rattle.picture_limits.specs.Patches.{patchFloats}
-use Rattle.picture_limits.specs.Shape.{shaped}
+use Rattle.picture_limits.specs.Settings.{align, allowed}
+use Rattle.picture_limits.specs.Sides.{resized, gridOf}
+use Rattle.picture_limits.specs.Places.{patchFloats}
+use Rattle.picture_limits.specs.Shape.{gridAllowed}
 use Rattle.picture.specs.Preprocess.{floatsOf, preprocessed, resizedPixel, patchesOf, patchesLeft}
-use Rattle.picture_restore.specs.Restore.{known, unless, decided, restored, bytesOf, bytesLeft}
+use Rattle.picture_restore.specs.Restore.{known, restored, bytesOf, bytesLeft}
 use Rattle.picture_samples.specs.Samples.{sample, sampleBits}
 use Rattle.picture_limits.proofs.Places.{times, length-picture}
 use Rattle.picture_patches.proofs.Patches.{length-patches}
 use Rattle.picture_limits.proofs.Sides.{side-le}
-use Rattle.picture_limits.proofs.Shapes.{Grids, shaped-says}
+use Rattle.picture_limits.proofs.Refusals.{passed}
+use Rattle.picture_limits.proofs.Shapes.{Grids, grids-say}
 use Rattle.picture.proofs.Accepts.{acceptance}
-use Rattle.unpatch_text.specs.Print.{refusedLine}
 use Rattle.unpatch_text.specs.Answer.{restoredText, preprocessedText, ran}
 use Rattle.unpatch_text.proofs.Short.{refused-short, shown-short}
 
@@ -58,11 +57,7 @@ module _ (s : PictureSettings) (l : List Float) (gh gw : ℕ) where
 
   pub restore-room : (room : ℕ) → need ≤ room → restored s l gh gw room ≡ restored s l gh gw need
   unfolding restored
-  restore-room room e = go (shaped s gh gw (length l))
-    where
-      go : (d : Shape) → decided s l gh gw room d ≡ decided s l gh gw need d
-      go (Unshaped r) = refl
-      go (Shaped t) = rw (le-leb need room e, le-leb need need (le-refl need)) refl
+  restore-room room e = rw (le-leb need room e, le-leb need need (le-refl need)) refl
 
   pub length-bytes : length (bytesOf s l gh gw) ≡ gh * s .«patch_size» * (gw * s .«patch_size» * 3)
   length-bytes = length-picture (gh * s .«patch_size») (gw * s .«patch_size») _
@@ -73,20 +68,20 @@ module _ (s : PictureSettings) (l : List Float) (gh gw : ℕ) where
     pub wide : w ≡ gw * s .«patch_size»
     pub grids : Grids s gh gw
 
-  passed : (b : Bool) (r : Refusal) (x : Restored) (h w : ℕ) → unless b r x ≡ Picture h w → x ≡ Picture h w
-  passed true r x h w e = e
-  passed false r x h w e = absurd (let z : _≡_ {A = ℕ} 0 1 = cc in omega arith)
+  never : (r : Refusal) (h w : ℕ) → Refused r ≡ Picture h w → ⊥
+  never r h w e = let z : _≡_ {A = ℕ} 0 1 = cc in omega arith
 
   pub back-says : (room h w : ℕ) → restored s l gh gw room ≡ Picture h w → Back h w
   unfolding restored
-  back-says room h w e = go (shaped s gh gw (length l)) refl e
-    where
-      go : (d : Shape) → shaped s gh gw (length l) ≡ d → decided s l gh gw room d ≡ Picture h w → Back h w
-      go (Unshaped r) f g = absurd (let z : _≡_ {A = ℕ} 0 1 = cc in omega arith)
-      go (Shaped t) f g =
-          let a = passed (leb need room) _ _ h w g in
-          let b = passed (known sampleBits (s .«patch_size») (gh * gw) l) _ _ h w a in
-          record { tall = cc (b); wide = cc (b); grids = shaped-says s gh gw (length l) t f .grids }
+  back-says room h w e =
+      let x = Picture h w in
+      let a = passed (allowed s) _ _ x (never Setting h w) e in
+      let b = passed (gridAllowed s gh && gridAllowed s gw) _ _ x (never Grid h w) (a .1) in
+      let c = passed (eqb (length l) (gh * gw * patchFloats (s .«patch_size»))) _ _ x (never PatchesLength h w) (b .1) in
+      let d = passed (leb need room) _ _ x (never Output h w) (c .1) in
+      let f = passed (known sampleBits (s .«patch_size») l) _ _ x (never Sample h w) (d .1) in
+      let g = f .1 in
+      record { tall = cc (g); wide = cc (g); grids = grids-say s gh gw (a .0) (b .0) }
 
   -- the restored bytes, at the front of what was left
   pub bytes-back : (room h w : ℕ) (old : List ℕ) → restored s l gh gw room ≡ Picture h w → take (h * (w * 3)) (bytesLeft (restored s l gh gw room) (bytesOf s l gh gw) old) ≡ bytesOf s l gh gw

@@ -25,7 +25,7 @@ abbrev pub restoredText : PictureSettings → ℕ → ℕ → List ℕ → Resto
 restoredText s gh gw bs (R.Picture h w) = gridLine gh gw (gh * gw / (s .«spatial_merge_size» * s .«spatial_merge_size»)) ++ rowLines h (w * 3) bs
 restoredText s gh gw bs (R.Refused r) = refusedLine (number r)
 
--- the same, by what preprocess answers; restore is given as much room as the bytes take
+-- the text of a picture, by what preprocess answers; restore is given as much room as the bytes take
 abbrev pub preprocessedText : PictureSettings → List ℕ → ℕ → ℕ → Preprocessed → List ℕ
 preprocessedText s rgb h w (P.Patches gh gw n) =
     restoredText s gh gw (bytesOf s (patchesOf s rgb h w) gh gw)
@@ -45,7 +45,7 @@ answer t = answered (form t)
 
 -- ---- what the call leaves: an output that is shorter than the room is left as it was
 
--- the longest text: 64 rows of 64 pixels
+-- the longest text: the grid's line and 64 rows of 64 pixels
 abbrev pub room : ℕ
 room = 25094
 

@@ -10,7 +10,7 @@ use unpatch_read::read::read;
 ghost use mathlib.Core.Path.{_≡_};
 ghost use Rattle.unpatch_text.specs.Answer.{answer, lengthLeft, textLeft};
 
-// No text is longer than this.
+// No answer is longer than this: the grid's line and 64 rows of 64 pixels.
 pub const ROOM: usize = 25094;
 
 // The answer to the input over the front of out, and its length: 0, and out as it was, where out is shorter than ROOM.

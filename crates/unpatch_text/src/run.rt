@@ -33,7 +33,7 @@ fn show(
     put_rows(h, n, s, e, out)
 }
 
-// The picture, to patches and back.
+// The picture, to patches and back. No side is above 64: 64 × 64 pixels of three samples are 12,288.
 pub(crate) fn run(
     s: PictureSettings,
     rgb: &[u8],

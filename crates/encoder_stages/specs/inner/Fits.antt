@@ -7,7 +7,7 @@ use Rattle.encoder_blocks.specs.Sizes.{hdOf, dimOf, nOf, mOf}
 use Rattle.encoder_blocks.specs.Weights.{layerOf}
 use Rattle.encoder_blocks.specs.inner.Fits.{LayersFits}
 use Rattle.encoder_settings.specs.declared.EncoderSettings.{EncoderSettings}
-use Rattle.picture_limits.specs.Patches.{patchFloats}
+use Rattle.picture_limits.specs.Places.{patchFloats}
 use Rattle.encoder_settings.specs.Settings.{mergeArea}
 use Rattle.encoder_stages.specs.inner.Live.{regionsOf}
 use Rattle.encoder_stages.specs.Forward.{sizesOf, placesOf}

@@ -12,7 +12,7 @@ use lib.Seq.{length-take-le}
 use lib.Ieee.{Float}
 use Rattle.buffers.proofs.Lists.{and-left, and-right}
 use Rattle.picture_limits.specs.Settings.{within}
-use Rattle.picture_limits.specs.Patches.{patchFloats}
+use Rattle.picture_limits.specs.Places.{patchFloats}
 use Rattle.picture.specs.Part.{patchPart}
 use Rattle.picture_limits.proofs.Places.{times}
 use Rattle.picture_limits.proofs.Sides.{within-says}

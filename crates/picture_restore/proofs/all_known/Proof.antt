@@ -10,8 +10,8 @@ use lib.Ieee.{Float}
 use Rattle.buffers.specs.Rows.{all}
 use Rattle.buffers.proofs.Lists.{fit, all-step, all-fails}
 use Rattle.picture_samples.specs.Samples.{entry}
-use Rattle.picture_limits.specs.Patches.{patchFloats}
-use Rattle.picture_restore.specs.Restore.{knownPatch, known}
+use Rattle.picture_limits.specs.Places.{patchFloats}
+use Rattle.picture_restore.specs.inner.Known.{knownPatch, knownPatches}
 use Rattle.picture_limits.proofs.Places.{turn, square}
 use Rattle.picture_restore.proofs.all_known.Statement.{statement}
 use Rattle.picture_restore.proofs.all_known.Tie as tie
@@ -45,7 +45,7 @@ patch-known-requires : tie.Need-patch-known-requires Inv-loop μ-loop
 patch-known-requires c κs = let s = c .before .before .before in (s .pre .0, omega (arith, fit (patchFloats (s .args .p)) (c .loop-test .taken)), s .pre .2)
 
 returns : tie.Need-returns Inv-loop μ-loop
-unfolding known
+unfolding knownPatches
 returns c =
     let a = c .before .before .before .before .before .args in
     sym (all-fails (a .n) (seen (a .t .now) (a .p) (a .patches .now)) (c .before .before .before .loop .q) (c .before .before .loop-test .taken) (sym (answer (c .before)) ∙ not-true _ (c .if1 .taken)))
@@ -69,7 +69,7 @@ loop-again c =
     )
 
 returns-2 : tie.Need-returns-2 Inv-loop μ-loop
-unfolding known
+unfolding knownPatches
 returns-2 c =
     let a = c .before .before .before .args in
     let e : c .before .loop .q ≡ a .n = omega arith in

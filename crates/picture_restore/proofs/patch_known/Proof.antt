@@ -10,7 +10,7 @@ use lib.Ieee.{Float}
 use Rattle.buffers.specs.Rows.{all}
 use Rattle.buffers.proofs.Lists.{fit, all-step, all-fails}
 use Rattle.picture_samples.specs.Samples.{entry}
-use Rattle.picture_restore.specs.Restore.{knownRun}
+use Rattle.picture_restore.specs.inner.Known.{knownRun}
 use Rattle.picture_limits.proofs.Places.{turn, square}
 use Rattle.picture_restore.proofs.patch_known.Statement.{statement}
 use Rattle.picture_restore.proofs.patch_known.Tie as tie

@@ -8,7 +8,7 @@ use Rattle.buffers.specs.Rows.{rows}
 use Rattle.buffers.specs.Region.{put}
 use Rattle.buffers.proofs.Lists.{fit, rows-step}
 use Rattle.picture_restore.specs.inner.Guess.{guessedRun}
-use Rattle.picture_limits.specs.Patches.{patchFloats}
+use Rattle.picture_limits.specs.Places.{patchFloats}
 use Rattle.picture_limits.proofs.Places.{turn, square}
 use Rattle.picture_restore.proofs.Guesses.{length-guessedRun}
 use Rattle.picture_restore.proofs.restore_line.Statement.{statement}

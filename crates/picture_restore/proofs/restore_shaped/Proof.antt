@@ -9,15 +9,17 @@ use lib.Dec.{leb}
 use lib.ListN.{length}
 use Rattle.buffers.specs.Region.{put}
 use Rattle.buffers.proofs.Regions.{put-over}
-use Rattle.picture_restore.specs.declared.Restored.the-variants.{Picture}
+use Rattle.picture_restore.specs.declared.Restored.the-variants.{Picture, Refused}
 use Rattle.picture_limits.specs.declared.Refusal.the-variants.{Output, Sample}
 use Rattle.picture_samples.specs.Samples.{sampleBits, entry}
-use Rattle.picture_limits.specs.Patches.{patchFloats}
-use Rattle.picture_restore.specs.Restore.{unless, known, restored, bytesFrom}
+use Rattle.picture_limits.specs.Places.{patchFloats}
+use Rattle.picture_limits.specs.Refusal.{unless}
+use Rattle.picture_restore.specs.Restore.{known, restored, bytesFrom}
 use Rattle.picture_limits.proofs.Places.{length-picture}
 use Rattle.picture_limits.proofs.Shapes.{Accepted, shaped-says}
 use Rattle.picture_samples.proofs.Table.{entry-of}
-use Rattle.picture_restore.proofs.Known.{known-same}
+use Rattle.picture_restore.proofs.Known.{known-same, known-cut}
+use Rattle.picture_restore.proofs.Ladder.{decided, agrees}
 use Rattle.picture_restore.proofs.Guesses.{guessed-of, guessed-bytes}
 use Rattle.picture_restore.proofs.restore_shaped.Statement.{statement}
 use Rattle.picture_restore.proofs.restore_shaped.Tie as tie
@@ -28,19 +30,24 @@ accepted c = let a = c .args in shaped-says (a .s) (a .grid-h) (a .grid-w) (leng
 -- what is left to decide
 decision : (c : tie.Start) → let a = c .args in let p = a .s .«patch_size» in
     restored (a .s) (a .patches .now) (a .grid-h) (a .grid-w) (length (a .out .now))
-    ≡ unless (leb (a .grid-h * p * (a .grid-w * p) * 3) (length (a .out .now))) Output
-    (unless (known sampleBits p (a .grid-h * a .grid-w) (a .patches .now)) Sample (Picture (a .grid-h * p) (a .grid-w * p)))
-unfolding restored
-decision c = rw (c .pre)
+    ≡ unless (leb (a .grid-h * p * (a .grid-w * p) * 3) (length (a .out .now))) (Refused Output)
+    (unless (known sampleBits p (a .patches .now)) (Refused Sample) (Picture (a .grid-h * p) (a .grid-w * p)))
+decision c =
+    let a = c .args in
+    agrees (a .s) (a .patches .now) (a .grid-h) (a .grid-w) (length (a .out .now))
+    ∙ ap (decided (a .s) (a .patches .now) (a .grid-h) (a .grid-w) (length (a .out .now))) (c .pre)
 
 answer : (c : tie.After-all-known) → let a = c .before .before .before .before .before .before .args in
-    c .all-known .result ≡ known sampleBits (a .s .«patch_size») (a .grid-h * a .grid-w) (a .patches .now)
+    c .all-known .result ≡ known sampleBits (a .s .«patch_size») (a .patches .now)
 answer c =
     let s = c .before .before .before .before .before .before in
     let a = s .args in
     let t = c .before .before .samples in
-    c .all-known .ensures ∙ known-same (entry (t .result)) sampleBits (entry-of (t .result) (t .ensures)) (a .s .«patch_size») (a .tokens) (a .patches .now)
-    ∙ ap (λ (n : ℕ). known sampleBits (a .s .«patch_size») n (a .patches .now)) (accepted s .tokens)
+    let p = a .s .«patch_size» in
+    let k = accepted s in
+    c .all-known .ensures
+    ∙ sym (known-cut (entry (t .result)) p (a .tokens) (a .patches .now) (k .samples ∙ ap (λ (n : ℕ). n * patchFloats p) (sym (k .tokens))))
+    ∙ known-same (entry (t .result)) sampleBits (entry-of (t .result) (t .ensures)) p (a .patches .now)
 
 bytes : (gh gw p : ℕ) → gh * p * (gw * p) * 3 ≡ gh * (p * (gw * (p * 3)))
 bytes gh gw p = simp mul-assoc

@@ -12,7 +12,7 @@ use lib.Ieee.{Float, nan, binary32, toBits}
 use Rattle.buffers.specs.Rows.{all}
 use Rattle.buffers.proofs.Lists.{all-step, all-fails}
 use Rattle.picture_samples.specs.Samples.{byteOf, entry}
-use Rattle.picture_restore.specs.Restore.{knownRun}
+use Rattle.picture_restore.specs.inner.Known.{knownRun}
 use Rattle.picture_restore.proofs.run_known.Statement.{statement}
 use Rattle.picture_restore.proofs.run_known.Tie as tie
 

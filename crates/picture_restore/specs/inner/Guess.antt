@@ -7,7 +7,7 @@ use lib.Ieee.{Float, nan, binary32, add, mul, ofBits, toBits}
 use Rattle.buffers.specs.Rows.{tab, rows}
 use Rattle.picture_samples.specs.Samples.{value, entry}
 use Rattle.picture_samples.specs.inner.Clean.{Clean}
-use Rattle.picture_limits.specs.Patches.{patchFloats}
+use Rattle.picture_limits.specs.Places.{patchFloats}
 
 -- 255 times the deviation, and 255 times the mean
 abbrev pub slope : ℕ → Float

@@ -3,7 +3,8 @@ use mathlib.Core.Path.{_≡_, sym, ap, _∙_}
 use Prim.Native.Nat.{ℕ, _+_, _*_, _≤_}
 use native.Mathlib.Omega.{arith}
 use borrow.Author.Needs.{needs}
-use Rattle.buffers.specs.Region.{region, over, zero32, cleared}
+use Rattle.buffers.specs.Region.{region, over, cleared}
+use Rattle.number_floats.specs.Constants.{zero32}
 use Rattle.buffers.specs.Rows.{tab}
 use Rattle.encoder_settings.specs.declared.EncoderSettings.{EncoderSettings}
 use Rattle.encoder_settings.specs.declared.Checked.the-variants.{Accepted}

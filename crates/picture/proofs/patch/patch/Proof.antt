@@ -5,7 +5,7 @@ use native.Mathlib.Nat.{le-div-iff-mul-le, div-lt-iff-lt-mul, add-sub-cancel-lef
 use native.Mathlib.Omega.{arith}
 use borrow.Author.Tests.{le-leb, lt-leb}
 use lib.ListN.{length}
-use Rattle.picture_limits.specs.Patches.{patchFloats}
+use Rattle.picture_limits.specs.Places.{patchFloats}
 use Rattle.picture.specs.Part.{patchPart}
 use Rattle.picture_limits.proofs.Places.{square, times, turn}
 use borrow.Author.Needs.{needs}

@@ -10,7 +10,7 @@ use lib.ListN.{length}
 use Rattle.buffers.specs.Region.{over}
 use Rattle.picture_limits.specs.Settings.{allowed, sided, align}
 use Rattle.picture_limits.specs.Sides.{resized, gridOf}
-use Rattle.picture_limits.specs.Patches.{patchFloats}
+use Rattle.picture_limits.specs.Places.{patchFloats}
 use Rattle.picture.specs.Preprocess.{floatsOf, preprocessed}
 use Rattle.picture.proofs.Accepts.{Accepts, accepted, written}
 use Rattle.picture_limits.proofs.Places.{square, times}

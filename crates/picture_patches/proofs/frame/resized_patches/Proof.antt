@@ -13,7 +13,7 @@ use lib.Ieee.{binary32, ofBits}
 use Rattle.buffers.specs.Region.{put}
 use Rattle.buffers.proofs.Lists.{and-left, and-right}
 use Rattle.buffers.proofs.Regions.{put-over}
-use Rattle.picture_limits.specs.Patches.{patchFloats}
+use Rattle.picture_limits.specs.Places.{patchFloats}
 use Rattle.picture_limits.proofs.Sides.{sided-says, spans}
 use Rattle.picture_samples.specs.Samples.{sample, sampleTable, value, entry}
 use Rattle.picture_samples.proofs.Table.{entry-of, clean-of, value-is}

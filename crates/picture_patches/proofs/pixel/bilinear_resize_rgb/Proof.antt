@@ -16,15 +16,15 @@ use Rattle.picture_resize.proofs.Nears.{near-held, row-in}
 use Rattle.picture_patches.proofs.pixel.bilinear_resize_rgb.Statement.{statement}
 use Rattle.picture_patches.proofs.pixel.bilinear_resize_rgb.Tie as tie
 
-sided-is : (c : tie.Else1) → sided (c .before .before .before .args .src-h) (c .before .before .before .args .src-w) ≡ true
+sided-is : (c : tie.Else1) → sided (c .before .before .before .args .h) (c .before .before .before .args .w) ≡ true
 sided-is c = sym (c .before .sides-allowed .ensures) ∙ not-false _ (c .if1 .left)
 
 -- no product of sides wraps
-area : (c : tie.Else1) → c .before .before .before .args .src-h * c .before .before .before .args .src-w ≤ 67108864
+area : (c : tie.Else1) → c .before .before .before .args .h * c .before .before .before .args .w ≤ 67108864
 area c =
     let a = c .before .before .before .args in
-    let d = sided-says (a .src-h) (a .src-w) (sided-is c) in
-    times (a .src-h) (a .src-w) 8192 8192 (d .1) (d .3)
+    let d = sided-says (a .h) (a .w) (sided-is c) in
+    times (a .h) (a .w) 8192 8192 (d .1) (d .3)
 
 sides-allowed-requires : tie.Need-sides-allowed-requires
 sides-allowed-requires c κs = search needs
@@ -48,7 +48,7 @@ unfolding resizedByte
 returns-3 c = simp (sided-is (c .before .before), eq-eqb _ _ (c .before .if2 .left), le-ltb _ _ (c .if3 .taken))
 
 -- the sides are above zero
-pos : (c : tie.Else3) → (0 < c .before .before .before .before .before .args .src-h) × (0 < c .before .before .before .before .before .args .src-w)
+pos : (c : tie.Else3) → (0 < c .before .before .before .before .before .args .h) × (0 < c .before .before .before .before .before .args .w)
 pos c = let d = sided-says _ _ (sided-is (c .before .before)) in (d .0, d .2)
 
 near-of-requires : tie.Need-near-of-requires
@@ -61,10 +61,10 @@ mix-of-requires : tie.Need-mix-of-requires
 mix-of-requires c κs =
     let e = c .before .before in
     let a = e .before .before .before .before .before .args in
-    let y = near-held (c .before .near-of .result) (a .src-h) (a .dst-h) (a .dy) (c .before .near-of .ensures) (pos e .0) in
-    let x = near-held (c .near-of2 .result) (a .src-w) (a .dst-w) (a .dx) (c .near-of2 .ensures) (pos e .1) in
+    let y = near-held (c .before .near-of .result) (a .h) (a .th) (a .dy) (c .before .near-of .ensures) (pos e .0) in
+    let x = near-held (c .near-of2 .result) (a .w) (a .tw) (a .dx) (c .near-of2 .ensures) (pos e .1) in
     let g = e .before .if2 .left in
-    (row-in _ (a .src-h) (a .src-w) _ g (y .0), row-in _ (a .src-h) (a .src-w) _ g (y .1), x .0, x .1, e .if3 .left)
+    (row-in _ (a .h) (a .w) _ g (y .0), row-in _ (a .h) (a .w) _ g (y .1), x .0, x .1, e .if3 .left)
 
 returns-4 : tie.Need-returns-4
 unfolding resizedByte
@@ -73,8 +73,8 @@ returns-4 c =
     let a = e .before .before .before .before .before .args in
     simp (sided-is (e .before .before), eq-eqb _ _ (e .before .if2 .left), lt-ltb _ _ (e .if3 .left))
     (c .mix-of .ensures
-    ∙ ap (λ (n : Near). mix (a .src .now) (a .src-w) n (c .before .near-of2 .result) (a .c)) (c .before .before .near-of .ensures)
-    ∙ ap (λ (n : Near). mix (a .src .now) (a .src-w) (near (a .src-h) (a .dst-h) (a .dy)) n (a .c)) (c .before .near-of2 .ensures))
+    ∙ ap (λ (n : Near). mix (a .src .now) (a .w) n (c .before .near-of2 .result) (a .c)) (c .before .before .near-of .ensures)
+    ∙ ap (λ (n : Near). mix (a .src .now) (a .w) (near (a .h) (a .th) (a .dy)) n (a .c)) (c .before .near-of2 .ensures))
 
 pub bilinear-resize-rgb-spec : {M : Type 1} → statement M
 bilinear-resize-rgb-spec =

@@ -7,7 +7,7 @@ use mathlib.Core.List.{List, _++_}
 use lib.ListN.{length, take, replicate, length-replicate}
 use lib.Seq.{length-take-le}
 use lib.Ieee.{Float}
-use Rattle.buffers.specs.Region.{zero32}
+use Rattle.number_floats.specs.Constants.{zero32}
 use Rattle.picture_limits.specs.declared.PictureSettings.{PictureSettings}
 use Rattle.picture.specs.declared.Preprocessed.{Preprocessed}
 use Rattle.picture.specs.declared.Preprocessed.the-variants as P
