@@ -2,12 +2,12 @@
 use mathlib.Core.Path.{_≡_, sym, ap, _∙_}
 use mathlib.Core.Bool.{true}
 use mathlib.Core.List.{List}
-use Prim.Native.Nat.{ℕ, _+_, _*_, _^_, _≤_, _<_}
+use Prim.Native.Nat.{ℕ, _+_, _*_, _≤_, _<_}
 use native.Mathlib.Omega.{arith}
-use lib.ListN.{length}
+use lib.ListN.{length, getD}
 use Rattle.buffers.specs.Rows.{tab}
 use Rattle.buffers.proofs.Lists.{fit, tab-ext}
-use Rattle.picture_patches.specs.declared.frame.Frame.{Frame}
+use Rattle.picture_patches.specs.declared.rows.Frame.{Frame}
 use Rattle.picture_resize.specs.Resize.{pixel, resizedAt}
 use Rattle.picture_samples.specs.Samples.{value}
 use Rattle.picture_patches.specs.Patches.{patchRow}
@@ -15,17 +15,24 @@ use Rattle.picture_patches.specs.inner.Frame.{Framed, seen}
 use Rattle.buffers.specs.Lent.{Bytes}
 use Rattle.picture_resize.proofs.Same.{pixel-same}
 
-module _ (f : Frame) (rgb : List ℕ) (F : Framed f (length rgb)) (b : Bytes rgb) (e : f .plain ≡ true) where
-  pub plain-same : (k : ℕ → ℕ → ℕ) (r x c : ℕ) → r < f .th → x + f .p ≤ f .tw → tab (f .p) (λ j. value k c (pixel rgb (f .w) r (x + j) c)) ≡ patchRow (f .p) (seen k f rgb) r x c
-  plain-same k r x c hr hx =
-      let g = F .plain e in
-      tab-ext (f .p) _ _ (λ j hj.
-      ap (value k c)
-      (sym (pixel-same rgb (f .h) (f .w) r (x + j) c b (omega (arith, F .tall-high)) (omega (arith, F .wide-high)) (omega (arith, g .0)) (omega (arith, g .1)))
-      ∙ sym (ap (λ (n : ℕ). resizedAt rgb (f .h) (f .w) n (f .tw) r (x + j) c) (g .0) ∙ ap (λ (n : ℕ). resizedAt rgb (f .h) (f .w) (f .h) n r (x + j) c) (g .1))))
+-- the pixels of a row stand 3 apart
+apart : (rgb : List ℕ) (w r x c j : ℕ) → getD rgb ((r * w + x) * 3 + c + j * 3) 0 ≡ pixel rgb w r (x + j) c
+apart rgb w r x c j =
+    let e : (r * w + x) * 3 + c + j * 3 ≡ (r * w + (x + j)) * 3 + c = omega arith in
+    ap (λ (k : ℕ). getD rgb k 0) e
 
-  pub plain-in : (r x : ℕ) → r < f .th → x + f .p ≤ f .tw → (r * f .w + x + f .p) * 3 ≤ length rgb
-  plain-in r x hr hx =
+module _ (f : Frame) (rgb : List ℕ) (F : Framed f (length rgb)) (e : f .plain ≡ true) (r x c : ℕ) (hr : r < f .th) (hx : x + f .p ≤ f .tw) where
+  pub plain-in : c < 3 → (j : ℕ) → j < f .p → (r * f .w + x) * 3 + c + j * 3 < length rgb
+  plain-in hc j hj =
       let g = F .plain e in
       let h : r < f .h = omega (arith, g .0) in
       omega (arith, F .bytes, g .1, fit (f .w) h)
+
+  pub plain-same : Bytes rgb → (k : ℕ → ℕ → ℕ) → tab (f .p) (λ j. value k c (getD rgb ((r * f .w + x) * 3 + c + j * 3) 0)) ≡ patchRow (f .p) (seen k f rgb) r x c
+  plain-same b k =
+      let g = F .plain e in
+      tab-ext (f .p) _ _ (λ j hj.
+      ap (value k c)
+      (apart rgb (f .w) r x c j
+      ∙ sym (pixel-same rgb (f .h) (f .w) r (x + j) c b (omega (arith, F .tall-high)) (omega (arith, F .wide-high)) (omega (arith, g .0)) (omega (arith, g .1)))
+      ∙ sym (ap (λ (n : ℕ). resizedAt rgb (f .h) (f .w) n (f .tw) r (x + j) c) (g .0) ∙ ap (λ (n : ℕ). resizedAt rgb (f .h) (f .w) (f .h) n r (x + j) c) (g .1))))

@@ -1,4 +1,4 @@
--- `patches::frame::patches_fit` meets its contract. Each test that passes bounds the products of the next. Assumes nothing.
+-- `picture_patches::frame::patches_fit` meets its contract. Each test that passes bounds the products of the next. Assumes nothing.
 use mathlib.Core.Path.{_≡_, sym, _∙_}
 use mathlib.Core.Bool.{true, false, _&&_}
 use Prim.Native.Nat.{_*_, _/_, _≤_}

@@ -1,8 +1,8 @@
--- `patches::frame::resized_patches` meets its contract: what the loops write by the table are the samples. Assumes nothing.
-use mathlib.Core.Path.{_≡_, refl, sym, ap, _∙_}
-use mathlib.Core.Bool.{true, _&&_}
+-- `picture_patches::frame::resized_patches` meets its contract: what the loops write by the table are the samples. Assumes nothing.
+use mathlib.Core.Path.{_≡_, sym, ap, _∙_}
+use mathlib.Core.Bool.{_&&_}
 use mathlib.Core.List.{List}
-use Prim.Native.Nat.{ℕ, _*_, _/_, _≤_, _<_}
+use Prim.Native.Nat.{ℕ, _/_, _≤_, _<_}
 use native.Mathlib.Nat.{mul-assoc, div-mul-le-self}
 use native.Mathlib.Omega.{arith}
 use borrow.Author.Needs.{needs}
@@ -17,7 +17,7 @@ use Rattle.picture_limits.specs.Places.{patchFloats}
 use Rattle.picture_limits.proofs.Sides.{sided-says, spans}
 use Rattle.picture_samples.specs.Samples.{sample, sampleTable, value, entry}
 use Rattle.picture_samples.proofs.Table.{entry-of, clean-of, value-is}
-use Rattle.picture_patches.specs.declared.frame.Frame.{Frame}
+use Rattle.picture_patches.specs.declared.rows.Frame.{Frame}
 use Rattle.picture_resize.specs.Resize.{resizedAt}
 use Rattle.picture_patches.specs.Patches.{patches}
 use Rattle.picture_patches.specs.inner.Frame.{Framed}
@@ -29,7 +29,7 @@ use Rattle.picture_patches.proofs.frame.resized_patches.Statement.{stat
 use Rattle.picture_patches.proofs.frame.resized_patches.Tie as tie
 
 abbrev frame : ℕ → ℕ → ℕ → ℕ → ℕ → Frame
-frame h w th tw p = record { h = h; w = w; th = th; tw = tw; p = p; plain = eqb th h && eqb tw w }
+frame h w th tw p = record { h = h; w = w; th = th; tw = tw; p = p; gh = th / p; gw = tw / p; plain = eqb th h && eqb tw w }
 
 framed : (len h w th tw p room : ℕ) → Fits len h w th tw p room → Framed (frame h w th tw p) len
 framed len h w th tw p room f =
@@ -43,6 +43,10 @@ framed len h w th tw p room f =
       target-tall = f .tall;
       target-wide = f .wide;
       patch-high = f .patch-high;
+      grid-tall = div-mul-le-self th p;
+      grid-wide = div-mul-le-self tw p;
+      grid-tall-high = spans th p (f .patch-low) (f .tall) .low;
+      grid-wide-high = spans tw p (f .patch-low) (f .wide) .low;
       plain = λ q. (eqb-true _ _ (and-left (eqb th h) (eqb tw w) q), eqb-true _ _ (and-right (eqb th h) (eqb tw w) q));
     }
 
@@ -61,14 +65,14 @@ returns : tie.Need-returns
 unfolding patchesOver
 returns c = rw (sym (c .before .patches-fit .ensures) ∙ not-true _ (c .if1 .taken))
 
+div-gh : tie.Need-div-gh
+div-gh c = omega (arith, passed c .patch-low)
+
+div-gw : tie.Need-div-gw
+div-gw c = omega (arith, passed c .patch-low)
+
 samples-requires : tie.Need-samples-requires
 samples-requires c κs = search needs
-
-div-framed-patches : tie.Need-div-framed-patches
-div-framed-patches c = omega (arith, passed (c .before) .patch-low)
-
-div-framed-patches-2 : tie.Need-div-framed-patches-2
-div-framed-patches-2 c = omega (arith, passed (c .before) .patch-low)
 
 framed-patches-requires : tie.Need-framed-patches-requires
 framed-patches-requires c κs =
@@ -76,9 +80,6 @@ framed-patches-requires c κs =
     let f = passed (c .before .before .before) in (
       framed _ _ _ _ _ _ _ f,
       clean-of _ (c .before .before .samples .ensures),
-      div-mul-le-self (a .th) (a .p),
-      div-mul-le-self (a .tw) (a .p),
-      spans (a .tw) (a .p) (f .patch-low) (f .wide) .low,
       omega (arith, f .space, mul-assoc (a .th / a .p) (a .tw / a .p) (patchFloats (a .p))),
     )
 
@@ -106,9 +107,9 @@ resized-patches-spec =
     (tie.spec
     patches-fit-requires
     returns
+    div-gh
+    div-gw
     samples-requires
-    div-framed-patches
-    div-framed-patches-2
     framed-patches-requires
     same-length
     returns-2)

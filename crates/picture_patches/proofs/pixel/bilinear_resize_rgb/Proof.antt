@@ -1,15 +1,13 @@
--- `patches::pixel::bilinear_resize_rgb` meets its contract. Assumes nothing.
+-- `picture_patches::pixel::bilinear_resize_rgb` meets its contract. Assumes nothing.
 use mathlib.Core.Path.{_≡_, sym, ap, _∙_}
-use mathlib.Core.Bool.{Bool, true, false, _&&_, cond}
-use mathlib.Core.List.{List}
-use Prim.Native.Nat.{ℕ, _*_, _≤_, _<_}
+use mathlib.Core.Bool.{true}
+use Prim.Native.Nat.{_*_, _≤_, _<_}
 use native.Mathlib.Omega.{arith}
 use borrow.Author.Needs.{needs}
 use borrow.Author.Tests.{not-true, not-false, eq-eqb, ne-eqb, lt-ltb, le-ltb}
-use lib.ListN.{length}
 use Rattle.picture_resize.specs.declared.Near.{Near}
 use Rattle.picture_limits.specs.Settings.{sided}
-use Rattle.picture_resize.specs.Resize.{near, mix, resizedAt, resizedByte}
+use Rattle.picture_resize.specs.Resize.{near, mix, resizedByte}
 use Rattle.picture_limits.proofs.Places.{times}
 use Rattle.picture_limits.proofs.Sides.{sided-says}
 use Rattle.picture_resize.proofs.Nears.{near-held, row-in}

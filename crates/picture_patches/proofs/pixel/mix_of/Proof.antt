@@ -1,5 +1,4 @@
--- `patches::pixel::mix_of` meets its contract. Assumes nothing.
-use mathlib.Core.Path.{_≡_}
+-- `picture_patches::pixel::mix_of` meets its contract. Assumes nothing.
 use native.Mathlib.Omega.{arith}
 use Rattle.picture_resize.specs.Resize.{mix}
 use borrow.Author.Needs.{needs}

@@ -1,4 +1,4 @@
--- `patches::pixel::pixel_of` meets its contract. Assumes nothing.
+-- `picture_patches::pixel::pixel_of` meets its contract. Assumes nothing.
 use Rattle.picture_resize.specs.Resize.{whole}
 use borrow.Author.Needs.{needs}
 use Rattle.picture_patches.proofs.pixel.pixel_of.Statement.{statement}

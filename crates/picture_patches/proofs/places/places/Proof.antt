@@ -1,6 +1,6 @@
--- `patches::frame::places` meets its contract. Assumes nothing.
-use mathlib.Core.Path.{_≡_, refl, sym, ap, _∙_}
-use Prim.Native.Nat.{ℕ, _+_, _-_, _≤_, _<_}
+-- `picture_patches::places::places` meets its contract. Assumes nothing.
+use mathlib.Core.Path.{_≡_, refl, ap, _∙_}
+use Prim.Native.Nat.{ℕ, _-_, _≤_}
 use native.Mathlib.Omega.{arith}
 use borrow.Author.Needs.{needs}
 use lib.ListN.{length, length-set}
@@ -9,8 +9,8 @@ use Rattle.buffers.specs.Region.{put}
 use Rattle.buffers.proofs.Lists.{tab-step}
 use Rattle.picture_resize.specs.declared.Near.{Near}
 use Rattle.picture_resize.specs.Resize.{near}
-use Rattle.picture_patches.proofs.frame.places.Statement.{statement}
-use Rattle.picture_patches.proofs.frame.places.Tie as tie
+use Rattle.picture_patches.proofs.places.places.Statement.{statement}
+use Rattle.picture_patches.proofs.places.places.Tie as tie
 
 abbrev Inv-loop : tie.InvT-loop
 Inv-loop from to at lows₀ parts₀ j₀ lows parts j =

@@ -1,6 +1,6 @@
--- `patches::frame::mixed_row` meets its contract. Assumes nothing.
-use mathlib.Core.Path.{_≡_, refl, sym, ap, _∙_}
-use Prim.Native.Nat.{ℕ, _+_, _*_, _-_, _≤_, _<_}
+-- `picture_patches::rows::mixed_row` meets its contract. Assumes nothing.
+use mathlib.Core.Path.{_≡_, refl, ap, _∙_}
+use Prim.Native.Nat.{ℕ, _+_, _-_, _≤_}
 use native.Mathlib.Omega.{arith}
 use borrow.Author.Needs.{needs}
 use lib.ListN.{length, length-set}
@@ -11,8 +11,8 @@ use Rattle.picture_resize.specs.declared.Near.{Near}
 use Rattle.picture_resize.specs.Resize.{near, mix}
 use Rattle.picture_samples.specs.Samples.{value, entry}
 use Rattle.picture_resize.proofs.Nears.{near-held, row-in}
-use Rattle.picture_patches.proofs.frame.mixed_row.Statement.{statement}
-use Rattle.picture_patches.proofs.frame.mixed_row.Tie as tie
+use Rattle.picture_patches.proofs.rows.mixed_row.Statement.{statement}
+use Rattle.picture_patches.proofs.rows.mixed_row.Tie as tie
 
 abbrev Inv-loop : tie.InvT-loop
 Inv-loop rgb r x c at out₀ t lows parts p w tw y j₀ out j =

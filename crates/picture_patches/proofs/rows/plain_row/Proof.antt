@@ -1,5 +1,5 @@
--- `patches::frame::plain_row` meets its contract. Assumes nothing.
-use mathlib.Core.Path.{_≡_, refl, sym, ap, _∙_}
+-- `picture_patches::rows::plain_row` meets its contract. Assumes nothing.
+use mathlib.Core.Path.{_≡_, refl, ap, _∙_}
 use Prim.Native.Nat.{ℕ, _+_, _*_, _-_, _≤_, _<_}
 use native.Mathlib.Omega.{arith}
 use borrow.Author.Needs.{needs}
@@ -7,42 +7,33 @@ use lib.ListN.{length, getD, length-set}
 use Rattle.buffers.specs.Rows.{tab}
 use Rattle.buffers.specs.Region.{put}
 use Rattle.buffers.proofs.Lists.{tab-step}
-use Rattle.picture_resize.specs.Resize.{pixel}
 use Rattle.picture_samples.specs.Samples.{value, entry}
-use Rattle.picture_patches.proofs.frame.plain_row.Statement.{statement}
-use Rattle.picture_patches.proofs.frame.plain_row.Tie as tie
+use Rattle.picture_patches.proofs.rows.plain_row.Statement.{statement}
+use Rattle.picture_patches.proofs.rows.plain_row.Tie as tie
 
 abbrev Inv-loop : tie.InvT-loop
-Inv-loop rgb w p r x c at out₀ t from j₀ out j =
-    (j ≤ p) × (length out ≡ length out₀) × (out ≡ put out₀ at (tab j (λ k. value (entry t) c (pixel rgb w r (x + k) c)))) × (from ≡ (r * w + x) * 3 + c)
+Inv-loop rgb from n c at out₀ t j₀ out j =
+    (j ≤ n) × (length out ≡ length out₀) × (out ≡ put out₀ at (tab j (λ k. value (entry t) c (getD rgb (from + k * 3) 0))))
 
 abbrev μ-loop : tie.MeasureT-loop
-μ-loop rgb w p r x c at out₀ t from j₀ out j = p - j
-
-mul-from : tie.Need-mul-from Inv-loop μ-loop
-mul-from c = search needs
-
-add-from : tie.Need-add-from Inv-loop μ-loop
-add-from c = search needs
-
-mul-from-2 : tie.Need-mul-from-2 Inv-loop μ-loop
-mul-from-2 c = search needs
-
-add-from-2 : tie.Need-add-from-2 Inv-loop μ-loop
-add-from-2 c = search needs
+μ-loop rgb from n c at out₀ t j₀ out j = n - j
 
 loop-holds : tie.Need-loop-holds Inv-loop μ-loop
 unfolding put tab
-loop-holds c = (omega arith, refl, refl, refl)
+loop-holds c = (omega arith, refl, refl)
+
+-- the byte that is read lies inside
+inside : (c : tie.In-loop Inv-loop μ-loop) → let s = c .before .before .before .before in s .args .from + c .before .loop .j * 3 < length (s .args .rgb .now)
+inside c = c .before .before .before .before .pre .0 (c .before .loop .j) (c .loop-test .taken)
 
 mul-sample-of : tie.Need-mul-sample-of Inv-loop μ-loop
-mul-sample-of c = search needs
+mul-sample-of c = omega (arith, inside c)
 
 add-sample-of : tie.Need-add-sample-of Inv-loop μ-loop
-add-sample-of c = search needs
+add-sample-of c = omega (arith, inside c)
 
 shared-slice-read-sample-of : tie.Need-shared-slice-read-sample-of Inv-loop μ-loop
-shared-slice-read-sample-of c = search needs
+shared-slice-read-sample-of c = inside (c .before)
 
 sample-of-requires : tie.Need-sample-of-requires Inv-loop μ-loop
 sample-of-requires c κs = search needs
@@ -65,13 +56,10 @@ loop-less c = search needs
 loop-again : tie.Need-loop-again Inv-loop μ-loop
 loop-again c =
     let a = c .before .before .before .before .before .before .args in
-    let l = c .before .before .before .loop in
-    let f : ℕ → _ = λ k. value (entry (a .t .now)) (a .c) (pixel (a .rgb .now) (a .w) (a .r) (a .x + k) (a .c)) in
-    let e : (a .r * a .w + a .x) * 3 + a .c + l .j * 3 ≡ (a .r * a .w + (a .x + l .j)) * 3 + a .c = omega arith in (
+    let l = c .before .before .before .loop in (
       omega arith,
       simp length-set (l .inv .1),
-      tab-step (a .out .now) (l .out) (a .at) (l .j) f (c .sample-of .result) (l .inv .2) (c .sample-of .ensures ∙ ap (λ (k : ℕ). value (entry (a .t .now)) (a .c) (getD (a .rgb .now) k 0)) e),
-      refl,
+      tab-step (a .out .now) (l .out) (a .at) (l .j) (λ k. value (entry (a .t .now)) (a .c) (getD (a .rgb .now) (a .from + k * 3) 0)) (c .sample-of .result) (l .inv .2) (c .sample-of .ensures),
     )
 
 same-length : tie.Need-same-length Inv-loop μ-loop
@@ -80,8 +68,8 @@ same-length c = c .before .loop .inv .1
 returns : tie.Need-returns Inv-loop μ-loop
 returns c =
     let a = c .before .before .before .before .args in
-    let e : c .before .loop .j ≡ a .p = omega arith in
-    c .before .loop .inv .2 ∙ ap (λ (n : ℕ). put (a .out .now) (a .at) (tab n (λ k. value (entry (a .t .now)) (a .c) (pixel (a .rgb .now) (a .w) (a .r) (a .x + k) (a .c))))) e
+    let e : c .before .loop .j ≡ a .n = omega arith in
+    c .before .loop .inv .2 ∙ ap (λ (n : ℕ). put (a .out .now) (a .at) (tab n (λ k. value (entry (a .t .now)) (a .c) (getD (a .rgb .now) (a .from + k * 3) 0)))) e
 
 pub plain-row-spec : {M : Type 1} → statement M
 plain-row-spec =
@@ -89,10 +77,6 @@ plain-row-spec =
     (tie.spec
     Inv-loop
     μ-loop
-    mul-from
-    add-from
-    mul-from-2
-    add-from-2
     loop-holds
     mul-sample-of
     add-sample-of

@@ -1,13 +1,10 @@
--- `patches::frame::framed_patches` meets its contract. Assumes nothing.
-use mathlib.Core.Path.{_≡_, refl, sym, ap, _∙_}
-use Prim.Native.Nat.{_+_, _≤_}
+-- `picture_patches::nest::framed_patches` meets its contract. Assumes nothing.
 use native.Mathlib.Omega.{arith}
 use borrow.Author.Needs.{needs}
-use lib.ListN.{length, length-replicate}
-use Rattle.picture_patches.specs.inner.Frame.{Placed, Ready}
+use lib.ListN.{length-replicate}
 use Rattle.picture_patches.proofs.Stored.{stored}
-use Rattle.picture_patches.proofs.frame.framed_patches.Statement.{statement}
-use Rattle.picture_patches.proofs.frame.framed_patches.Tie as tie
+use Rattle.picture_patches.proofs.nest.framed_patches.Statement.{statement}
+use Rattle.picture_patches.proofs.nest.framed_patches.Tie as tie
 
 slice-aggregate-places : tie.Need-slice-aggregate-places
 slice-aggregate-places c = search needs
@@ -45,7 +42,7 @@ all-patches-requires c κs =
     let k = c .before .before .before .before .before .before .before .before .before .before .places in
     let l = c .before .before .before .before .before .places2 in
     let d = stored (a .f .h) (a .f .th) (a .f .w) (a .f .tw) _ _ _ _ _ _ (f .target-tall) (f .target-wide) (simp length-replicate (omega arith)) (simp length-replicate (omega arith)) (k .ensures .0) (l .ensures .0) (k .ensures .1) (l .ensures .1) in
-    (record { frame = f; table = g .1; down = d .0; across = d .1 }, g .2, g .3, g .4, g .5)
+    (record { frame = f; table = g .1; down = d .0; across = d .1 }, g .2)
 
 same-length : tie.Need-same-length
 same-length c = search needs

@@ -1,20 +1,18 @@
--- `patches::frame::patch_at` meets its contract. Assumes nothing.
-use mathlib.Core.Path.{_≡_, refl, sym, ap, _∙_}
-use Prim.Native.Nat.{ℕ, _+_, _*_, _-_, _≤_, _<_}
-use native.Mathlib.Nat.{mul-le-mul-right}
+-- `picture_patches::nest::patch_at` meets its contract. Assumes nothing.
+use mathlib.Core.Path.{_≡_, refl, ap, _∙_}
+use Prim.Native.Nat.{ℕ, _+_, _*_, _-_, _≤_}
 use native.Mathlib.Omega.{arith}
-use borrow.Author.Needs.{needs}
 use lib.ListN.{length}
 use Rattle.buffers.specs.Rows.{rows}
 use Rattle.buffers.specs.Region.{put}
-use Rattle.buffers.proofs.Lists.{fit, length-tab, rows-step}
+use Rattle.buffers.proofs.Lists.{fit, rows-step}
 use Rattle.picture_samples.specs.Samples.{entry}
-use Rattle.picture_patches.specs.Patches.{patchRow, patchChannel, patchAt, patchLine}
+use Rattle.picture_patches.specs.Patches.{patchChannel}
 use Rattle.picture_patches.specs.inner.Frame.{seen}
 use Rattle.picture_limits.proofs.Places.{turn, square}
-use Rattle.picture_patches.proofs.Patches.{length-channel, length-patch, length-line}
-use Rattle.picture_patches.proofs.frame.patch_at.Statement.{statement}
-use Rattle.picture_patches.proofs.frame.patch_at.Tie as tie
+use Rattle.picture_patches.proofs.Patches.{length-channel}
+use Rattle.picture_patches.proofs.nest.patch_at.Statement.{statement}
+use Rattle.picture_patches.proofs.nest.patch_at.Tie as tie
 
 abbrev Inv-loop : tie.InvT-loop
 Inv-loop rgb f r x at out₀ t lows parts p n c₀ o₀ out c o =

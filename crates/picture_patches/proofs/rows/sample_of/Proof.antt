@@ -1,8 +1,8 @@
--- `patches::frame::sample_of` meets its contract: a clean table has no NaN's pattern. Assumes nothing.
+-- `picture_patches::rows::sample_of` meets its contract: a clean table has no NaN's pattern. Assumes nothing.
 use native.Mathlib.Omega.{arith}
 use borrow.Author.Needs.{needs}
-use Rattle.picture_patches.proofs.frame.sample_of.Statement.{statement}
-use Rattle.picture_patches.proofs.frame.sample_of.Tie as tie
+use Rattle.picture_patches.proofs.rows.sample_of.Statement.{statement}
+use Rattle.picture_patches.proofs.rows.sample_of.Tie as tie
 
 mul-result : tie.Need-mul-result
 mul-result c = search needs

@@ -1,4 +1,4 @@
--- `patches::frame::near_at` meets its contract. Assumes nothing.
+-- `picture_patches::places::near_at` meets its contract. Assumes nothing.
 use mathlib.Core.Path.{_≡_, ap, _∙_}
 use Prim.Native.Nat.{ℕ, _+_, _-_, _≤_, _<_, min}
 use native.Mathlib.Omega.{arith}
@@ -8,8 +8,8 @@ use lib.Ieee.{Float}
 use Rattle.picture_resize.specs.declared.Near.{Near}
 use Rattle.picture_resize.specs.Resize.{near}
 use Rattle.picture_resize.proofs.Nears.{low-in}
-use Rattle.picture_patches.proofs.frame.near_at.Statement.{statement}
-use Rattle.picture_patches.proofs.frame.near_at.Tie as tie
+use Rattle.picture_patches.proofs.places.near_at.Statement.{statement}
+use Rattle.picture_patches.proofs.places.near_at.Tie as tie
 
 near-is : (m : Near) (low high : ℕ) (part : Float) → low ≡ m .low → high ≡ m .high → part ≡ m .part → _≡_ {A = Near} (record { low = low; high = high; part = part }) m
 near-is m low high part a b e =
