@@ -7,7 +7,8 @@ use native.Mathlib.Nat.{mul-assoc, mul-pos}
 use native.Mathlib.Omega.{arith}
 use borrow.Author.Tests.{le-leb, eq-eqb}
 use lib.Dec.{T, leb}
-use lib.ListN.{length, getD}
+use lib.ListN.{length, getD, take}
+use lib.Seq.{take-at}
 use lib.Ieee.{Float, nan, binary32, fits, toBits, ofBits}
 use lib.Ieee.Bits.{ofBits-toBits}
 use Rattle.buffers.specs.Region.{over}
@@ -21,8 +22,8 @@ use Rattle.picture_limits.specs.Sides.{resized, gridOf}
 use Rattle.picture_samples.specs.Samples.{sample, sampleBits, byteOf}
 use Rattle.picture_limits.specs.Places.{patchFloats, picture, samplePlace}
 use Rattle.picture_limits.specs.Shape.{gridAllowed}
-use Rattle.picture.specs.Preprocess.{floatsOf, preprocessed, resizedPixel, resizedBytes, patchesOf}
-use Rattle.picture_restore.specs.Restore.{known, bytesFrom, restored, bytesOf, bytesLeft}
+use Rattle.picture.specs.Preprocess.{floatsOf, preprocessed, resizedPixel, resizedBytes, patchesOf, patchesLeft}
+use Rattle.picture_restore.specs.Restore.{known, bytesFrom, restored, bytesOf, bytesLeft, bytesOut}
 use Rattle.picture_samples.proofs.Table.{value-is}
 use Rattle.picture_samples.proofs.Finds.{pattern-back}
 use Rattle.picture_restore.proofs.Known.{known-at}
@@ -35,7 +36,7 @@ use Rattle.picture_resize.proofs.Same.{byte-below, pixel-same, picture-same}
 use Rattle.buffers.specs.Lent.{Bytes, Floats}
 use Rattle.buffers.proofs.Bytes.{bytes-tab, bytes-rows}
 use Rattle.picture_limits.specs.Refusal.{unless}
-use Rattle.picture.specs.Undo.{Undo, OwnBytes, Asked, Source, Eight}
+use Rattle.picture.specs.Undo.{Undo, UndoCalls, OwnBytes, Asked, Source, Eight}
 use Rattle.picture.proofs.Spans.{spanned, spans}
 use Rattle.picture.proofs.Given.{known-of, bytes-of, samples, given-is}
 
@@ -47,13 +48,13 @@ decides s l gh gw room a = simp (a .settings, a .grid, eq-eqb _ _ (a .samples), 
 
 -- ---- 1
 -- in any room that is enough
-pub record Returned (s : PictureSettings) (rgb : List ℕ) (h w gh gw room : ℕ) : Type 0 where
+pub record Back (s : PictureSettings) (rgb : List ℕ) (h w gh gw room : ℕ) : Type 0 where
   pub answer : restored s (patchesOf s rgb h w) gh gw room ≡ Restored.Picture (resized s h) (resized s w)
   pub bytes : bytesOf s (patchesOf s rgb h w) gh gw ≡ resizedBytes s rgb h w
 
-pub returned : (s : PictureSettings) (rgb : List ℕ) (h w gh gw n room room′ : ℕ) → preprocessed s (length rgb) h w room ≡ Preprocessed.Patches gh gw n
-    → resized s h * resized s w * 3 ≤ room′ → Returned s rgb h w gh gw room′
-returned s rgb h w gh gw n room room′ e r =
+pub back : (s : PictureSettings) (rgb : List ℕ) (h w gh gw n room room′ : ℕ) → preprocessed s (length rgb) h w room ≡ Preprocessed.Patches gh gw n
+    → resized s h * resized s w * 3 ≤ room′ → Back s rgb h w gh gw room′
+back s rgb h w gh gw n room room′ e r =
     let p = s .«patch_size» in
     let t = acceptance s (length rgb) h w room gh gw n e in
     let q = t .asks in
@@ -79,11 +80,37 @@ returned s rgb h w gh gw n room room′ e r =
 
 pub undo : Undo
 undo s rgb h w gh gw n room old e r =
-    let u = returned s rgb h w gh gw n room (length old) e r in
+    let u = back s rgb h w gh gw n room (length old) e r in
     record {
       answer = u .answer;
       bytes = u .bytes;
       output = ap (λ (x : Restored). bytesLeft x (bytesOf s (patchesOf s rgb h w) gh gw) old) (u .answer) ∙ ap (λ (x : List ℕ). over x old) (u .bytes);
+    }
+
+-- the count, and the front of what was left
+pub patches-count : (s : PictureSettings) (rgb : List ℕ) (h w room gh gw n : ℕ) → preprocessed s (length rgb) h w room ≡ Preprocessed.Patches gh gw n
+    → n ≡ length (patchesOf s rgb h w)
+patches-count s rgb h w room gh gw n e =
+    let p = s .«patch_size» in
+    acceptance s (length rgb) h w room gh gw n e .count
+    ∙ mul-assoc (gridOf s h) (gridOf s w) (patchFloats p)
+    ∙ sym (length-patches p (λ y x c. sample c (resizedPixel s rgb h w y x c)) (gridOf s h) (gridOf s w))
+
+pub patches-front : (s : PictureSettings) (rgb : List ℕ) (h w room gh gw n : ℕ) (old : List Float) → preprocessed s (length rgb) h w room ≡ Preprocessed.Patches gh gw n
+    → take n (patchesLeft (preprocessed s (length rgb) h w room) (patchesOf s rgb h w) old) ≡ patchesOf s rgb h w
+patches-front s rgb h w room gh gw n old e =
+    ap (λ (x : Preprocessed). take n (patchesLeft x (patchesOf s rgb h w) old)) e
+    ∙ take-at (patchesOf s rgb h w) _ _ (sym (patches-count s rgb h w room gh gw n e))
+
+pub undo-calls : UndoCalls
+undo-calls s rgb h w gh gw n out old e r =
+    let u = undo s rgb h w gh gw n (length out) old e r in
+    let f = patches-front s rgb h w (length out) gh gw n out e in
+    record {
+      count = patches-count s rgb h w (length out) gh gw n e;
+      front = f;
+      answer = ap (λ (l : List Float). restored s l gh gw (length old)) f ∙ u .answer;
+      output = ap (λ (l : List Float). bytesOut s l gh gw old) f ∙ u .output;
     }
 
 -- ---- 2

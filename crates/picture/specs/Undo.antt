@@ -1,10 +1,10 @@
 -- Patches can be undone: what restore gives back of what preprocess wrote, and which floats it refuses.
--- Three statements, proved in proofs/Undo.antt. Assumes nothing.
+-- Three statements, the first also of what the calls leave; proofs/Undo.antt proves them. Assumes nothing.
 use mathlib.Core.Path.{_≡_}
 use mathlib.Core.Bool.{true, _&&_}
 use mathlib.Core.List.{List}
 use Prim.Native.Nat.{ℕ, _*_, _%_, _≤_}
-use lib.ListN.{length}
+use lib.ListN.{length, take}
 use lib.Ieee.{Float}
 use Rattle.buffers.specs.Region.{over}
 use Rattle.buffers.specs.Lent.{Bytes, Floats}
@@ -16,7 +16,7 @@ use Rattle.picture_limits.specs.Settings.{allowed, align}
 use Rattle.picture_limits.specs.Sides.{resized}
 use Rattle.picture_limits.specs.Shape.{gridAllowed}
 use Rattle.picture_limits.specs.Places.{patchFloats}
-use Rattle.picture.specs.Preprocess.{preprocessed, resizedBytes, patchesOf}
+use Rattle.picture.specs.Preprocess.{preprocessed, resizedBytes, patchesOf, patchesOut}
 use Rattle.picture_restore.specs.Restore.{restored, bytesOf, bytesOut}
 
 -- ---- 1. From the patches and the grid of an accepted picture the resized bytes come back
@@ -32,6 +32,20 @@ Undo = (s : PictureSettings) (rgb : List ℕ) (h w gh gw n room : ℕ) (old : Li
     → preprocessed s (length rgb) h w room ≡ Preprocessed.Patches gh gw n
     → resized s h * resized s w * 3 ≤ length old
     → Undone s rgb h w gh gw old
+
+-- The same of what the calls leave: the count that preprocess reports is the length of its patches, the front of its
+-- output has them, and restore of that front gives the resized bytes
+pub record Returned (s : PictureSettings) (rgb : List ℕ) (h w gh gw n : ℕ) (out : List Float) (old : List ℕ) : Type 0 where
+  pub count : n ≡ length (patchesOf s rgb h w)
+  pub front : take n (patchesOut s rgb h w out) ≡ patchesOf s rgb h w
+  pub answer : restored s (take n (patchesOut s rgb h w out)) gh gw (length old) ≡ Restored.Picture (resized s h) (resized s w)
+  pub output : bytesOut s (take n (patchesOut s rgb h w out)) gh gw old ≡ over (resizedBytes s rgb h w) old
+
+abbrev pub UndoCalls : Type 0
+UndoCalls = (s : PictureSettings) (rgb : List ℕ) (h w gh gw n : ℕ) (out : List Float) (old : List ℕ)
+    → preprocessed s (length rgb) h w (length out) ≡ Preprocessed.Patches gh gw n
+    → resized s h * resized s w * 3 ≤ length old
+    → Returned s rgb h w gh gw n out old
 
 -- ---- 2. Where nothing was resized these are the sweep's own bytes
 

@@ -30,7 +30,7 @@ use Rattle.picture_limits.proofs.Places.{times, length-picture}
 use Rattle.picture.proofs.Accepts.{acceptance}
 use Rattle.buffers.proofs.Bytes.{bytes-append, no-bytes, one-byte, bytes-tab, bytes-rows}
 use Rattle.picture.proofs.Spans.{spanned}
-use Rattle.picture.proofs.Undo.{returned, own-bytes}
+use Rattle.picture.proofs.Undo.{back, own-bytes}
 use Rattle.picture_limits.proofs.Unique.{one}
 use Rattle.unpatch_form.specs.Words.{word, _>>=_, onePiece, end, joined, behind}
 use Rattle.unpatch_form.specs.Decimal.{decimal}
@@ -197,7 +197,7 @@ module _ (t : List ℕ) (q : Request) (gh gw n : ℕ) (inside : form t ≡ some 
       let fits : resized s h * resized s w * 3 ≤ gh * p * (gw * p) * 3 = rw (gt, gd) (le-refl (resized s h * resized s w * 3)) in
       let o = allowed-says s (a .asks .settings) in
       let g = grid-side-says s (gridOf s w) (o .patch-low) (wide .allowed) in
-      let u = returned s (q .rgb) h w gh gw n (floatsOf s h w) (gh * p * (gw * p) * 3) call fits in
+      let u = back s (q .rgb) h w gh gw n (floatsOf s h w) (gh * p * (gw * p) * 3) call fits in
       record {
         text =
             ap answered inside ∙ ap (preprocessedText s (q .rgb) h w) call

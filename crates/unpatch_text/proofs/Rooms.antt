@@ -1,9 +1,9 @@
 -- Rooms that are enough, and what preprocess and restore answer with them where no side is above 64. Assumes nothing.
-use mathlib.Core.Path.{_≡_, refl, sym, _∙_}
+use mathlib.Core.Path.{_≡_, refl}
 use mathlib.Core.Bool.{_&&_}
 use mathlib.Core.List.{List}
 use Prim.Native.Nat.{ℕ, _*_, _≤_}
-use native.Mathlib.Nat.{le-refl, div-mul-le-self, mul-assoc}
+use native.Mathlib.Nat.{le-refl, div-mul-le-self}
 use native.Mathlib.Omega.{arith}
 use borrow.Author.Tests.{le-leb}
 use lib.Dec.{leb, eqb}
@@ -21,11 +21,10 @@ use Rattle.picture_limits.specs.Settings.{align, allowed}
 use Rattle.picture_limits.specs.Sides.{resized, gridOf}
 use Rattle.picture_limits.specs.Places.{patchFloats}
 use Rattle.picture_limits.specs.Shape.{gridAllowed}
-use Rattle.picture.specs.Preprocess.{floatsOf, preprocessed, resizedPixel, patchesOf, patchesLeft}
+use Rattle.picture.specs.Preprocess.{floatsOf, preprocessed, patchesOf}
 use Rattle.picture_restore.specs.Restore.{known, restored, bytesOf, bytesLeft}
-use Rattle.picture_samples.specs.Samples.{sample, sampleBits}
+use Rattle.picture_samples.specs.Samples.{sampleBits}
 use Rattle.picture_limits.proofs.Places.{times, length-picture}
-use Rattle.picture_patches.proofs.Patches.{length-patches}
 use Rattle.picture_limits.proofs.Sides.{side-le}
 use Rattle.picture_limits.proofs.Refusals.{passed}
 use Rattle.picture_limits.proofs.Shapes.{Grids, grids-say}
@@ -125,10 +124,3 @@ ran-short s rgb h w i = go (preprocessed s (length rgb) h w (floatsOf s h w)) re
     go (P.Patches gh gw n) e =
         let t = acceptance s (length rgb) h w (floatsOf s h w) gh gw n e in
         restored-short s (patchesOf s rgb h w) gh gw (rw (t .tall) (grid-span s h i)) (rw (t .wide) (grid-span s w i)) (bytesOf s (patchesOf s rgb h w) gh gw) (gh * s .«patch_size» * (gw * s .«patch_size») * 3)
-
--- the patches, at the front of what was left
-pub patches-front : (s : PictureSettings) (rgb : List ℕ) (h w room gh gw n : ℕ) (old : List Float) → preprocessed s (length rgb) h w room ≡ P.Patches gh gw n
-    → take n (patchesLeft (preprocessed s (length rgb) h w room) (patchesOf s rgb h w) old) ≡ patchesOf s rgb h w
-patches-front s rgb h w room gh gw n old e =
-    let t = acceptance s (length rgb) h w room gh gw n e in
-    rw (e, t .count) (take-at (patchesOf s rgb h w) _ _ (length-patches (s .«patch_size») (λ y x c. sample c (resizedPixel s rgb h w y x c)) (gridOf s h) (gridOf s w) ∙ sym (mul-assoc (gridOf s h) (gridOf s w) (patchFloats (s .«patch_size»)))))

@@ -22,7 +22,8 @@ use Rattle.unpatch_text.specs.Answer.{restoredText, preprocessedText, ra
 use Rattle.unpatch_text.specs.inner.Steps.{Shown}
 use Rattle.unpatch_text.proofs.Writes.{wrote-as}
 use Rattle.unpatch_text.proofs.Short.{refused-short}
-use Rattle.unpatch_text.proofs.Rooms.{preprocess-room, grid-span, floats-le, patches-front, Back, Small, bytes-fit, restore-room, back-says, back-small, bytes-back}
+use Rattle.picture.proofs.Undo.{patches-front}
+use Rattle.unpatch_text.proofs.Rooms.{preprocess-room, grid-span, floats-le, Back, Small, bytes-fit, restore-room, back-says, back-small, bytes-back}
 use Rattle.unpatch_text.proofs.run.run.Statement.{statement}
 use Rattle.unpatch_text.proofs.run.run.Tie as tie
 use Rattle.unpatch_text.proofs.run.run.Reads as reads
