@@ -3,3 +3,4 @@ pub mod Lists
 pub mod Steps
 pub mod Rooms
 pub mod Bytes
+pub mod Unique

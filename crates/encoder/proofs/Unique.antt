@@ -5,7 +5,7 @@ use Prim.Native.Nat.{ℕ, _*_, _/_}
 use native.Mathlib.Omega.{arith}
 use lib.ListN.{length}
 use lib.Ieee.{Float}
-use Rattle.picture_limits.proofs.Unique.{one}
+use Rattle.number_floats.proofs.Unique.{one}
 use Rattle.encoder_settings.specs.declared.EncoderSettings.{EncoderSettings}
 use Rattle.encoder_settings.specs.declared.Checked.{Checked}
 use Rattle.encoder_settings.specs.declared.Checked.the-variants as C

@@ -1,3 +1,4 @@
 pub mod Keys
 pub mod Attends
 pub mod Rooms
+pub mod Unique

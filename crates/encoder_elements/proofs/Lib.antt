@@ -1,3 +1,4 @@
 pub mod Lengths
 pub mod Rooms
 pub mod Constants
+pub mod Unique

@@ -3,3 +3,4 @@ pub mod Fills
 pub mod Pieces
 pub mod Products
 pub mod Rooms
+pub mod Unique

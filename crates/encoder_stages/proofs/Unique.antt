@@ -4,7 +4,7 @@ use mathlib.Core.List.{List}
 use Prim.Native.Nat.{ℕ}
 use lib.ListN.{length}
 use lib.Ieee.{Float}
-use Rattle.picture_limits.proofs.Unique.{one}
+use Rattle.number_floats.proofs.Unique.{one}
 use Rattle.encoder_settings.specs.declared.EncoderSettings.{EncoderSettings}
 use Rattle.encoder_settings.specs.declared.Checked.{Checked}
 use Rattle.encoder_stages.specs.Vectors.{ranOf, leftOf}

@@ -3,3 +3,4 @@ pub mod Sizes
 pub mod Bound
 pub mod Patterns
 pub mod Values
+pub mod Unique

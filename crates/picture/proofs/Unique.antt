@@ -7,7 +7,7 @@ use lib.Ieee.{Float}
 use Rattle.picture_limits.specs.declared.PictureSettings.{PictureSettings}
 use Rattle.picture.specs.declared.Preprocessed.{Preprocessed}
 use Rattle.picture_restore.specs.declared.Restored.{Restored}
-use Rattle.picture_limits.proofs.Unique.{one}
+use Rattle.number_floats.proofs.Unique.{one}
 use Rattle.picture_samples.specs.Samples.{sampleTable}
 use Rattle.picture_resize.specs.declared.Near.{Near}
 use Rattle.picture_resize.specs.Resize.{near, blend, toByte, resizedByte}

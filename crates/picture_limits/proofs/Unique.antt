@@ -1,16 +1,14 @@
 -- Any two results that satisfy the contract of a public function are equal. Assumes nothing.
-use mathlib.Core.Path.{_≡_, sym, _∙_}
-use mathlib.Core.Bool.{Bool}
+use mathlib.Core.Path.{_≡_}
+use mathlib.Core.Bool.{Bool, _&&_}
 use Prim.Native.Nat.{ℕ}
+use Rattle.number_floats.proofs.Unique.{one}
 use Rattle.picture_limits.specs.declared.PictureSettings.{PictureSettings}
 use Rattle.picture_limits.specs.declared.Refusal.{Refusal}
 use Rattle.picture_limits.specs.declared.Shape.{Shape}
 use Rattle.picture_limits.specs.Refusal.{number}
 use Rattle.picture_limits.specs.Settings.{allowed, sided}
-use Rattle.picture_limits.specs.Shape.{shaped}
-
-pub one : {A : Type 0} (x : A) {a b : A} → a ≡ x → b ≡ x → a ≡ b
-one x p q = p ∙ sym q
+use Rattle.picture_limits.specs.Shape.{gridAllowed, shaped}
 
 pub shape-unique : (s : PictureSettings) (gh gw n : ℕ) (a b : Shape) → a ≡ shaped s gh gw n → b ≡ shaped s gh gw n → a ≡ b
 shape-unique s gh gw n a b = one _
@@ -23,3 +21,6 @@ number-unique r a b = one _
 
 pub sided-unique : (h w : ℕ) (a b : Bool) → a ≡ sided h w → b ≡ sided h w → a ≡ b
 sided-unique h w a b = one _
+
+pub grid-allowed-unique : (s : PictureSettings) (gh gw : ℕ) (a b : Bool) → a ≡ (allowed s && (gridAllowed s gh && gridAllowed s gw)) → b ≡ (allowed s && (gridAllowed s gh && gridAllowed s gw)) → a ≡ b
+grid-allowed-unique s gh gw a b = one _

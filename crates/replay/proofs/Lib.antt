@@ -2,3 +2,4 @@ pub mod Turns
 pub mod Cuts
 pub mod Counted
 pub mod Lines
+pub mod Unique

@@ -3,3 +3,4 @@ pub mod Decimals
 pub mod Hexes
 pub mod Fields
 pub mod Limits
+pub mod Unique

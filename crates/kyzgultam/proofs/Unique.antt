@@ -1,0 +1,53 @@
+-- Any two results that satisfy the contract of a public function are equal. Assumes nothing.
+use mathlib.Core.Path.{_≡_}
+use mathlib.Core.List.{List}
+use Prim.Native.Nat.{ℕ}
+use lib.ListN.{length}
+use lib.Ieee.{Float}
+use Rattle.picture.specs.Preprocess.{preprocessed, patchesOut}
+use Rattle.picture_restore.specs.Restore.{restored, bytesOut}
+use Rattle.kyzgultam.specs.Face.{inner, innerEncoder, preprocessReport, restoreReport, forwardReport, lengthsReport, placeOf}
+use Rattle.encoder_settings.specs.Lengths.{neededOf}
+use Rattle.encoder.specs.Forward.{encodedOf, outOf, scratchOf}
+use Rattle.kyzgultam.specs.declared.EncoderSettings.{EncoderSettings}
+use Rattle.kyzgultam.specs.declared.ForwardReport.{ForwardReport}
+use Rattle.kyzgultam.specs.declared.LengthsReport.{LengthsReport}
+use Rattle.kyzgultam.specs.declared.PatchPlace.{PatchPlace}
+use Rattle.kyzgultam.specs.declared.PictureSettings.{PictureSettings}
+use Rattle.kyzgultam.specs.declared.PreprocessReport.{PreprocessReport}
+use Rattle.kyzgultam.specs.declared.RestoreReport.{RestoreReport}
+use Rattle.number_floats.proofs.Unique.{one}
+
+abbrev pub Preprocesses : PictureSettings → List ℕ → ℕ → ℕ → List Float → PreprocessReport → List Float → Type 0
+Preprocesses s rgb height width out r out′ =
+    (r ≡ preprocessReport (preprocessed (inner s) (length rgb) height width (length out)))
+    × (out′ ≡ patchesOut (inner s) rgb height width out)
+
+pub kz-preprocess-unique : (s : PictureSettings) (rgb : List ℕ) (height width : ℕ) (out : List Float) (r r′ : PreprocessReport) (out′ out″ : List Float)
+    → Preprocesses s rgb height width out r out′ → Preprocesses s rgb height width out r′ out″ → (r ≡ r′) × (out′ ≡ out″)
+kz-preprocess-unique s rgb height width out r r′ out′ out″ a b = (one _ (a .0) (b .0), one _ (a .1) (b .1))
+
+abbrev pub Restores : PictureSettings → List Float → ℕ → ℕ → List ℕ → RestoreReport → List ℕ → Type 0
+Restores s patches gh gw out r out′ =
+    (r ≡ restoreReport (restored (inner s) patches gh gw (length out)))
+    × (out′ ≡ bytesOut (inner s) patches gh gw out)
+
+pub kz-restore-unique : (s : PictureSettings) (patches : List Float) (gh gw : ℕ) (out : List ℕ) (r r′ : RestoreReport) (out′ out″ : List ℕ)
+    → Restores s patches gh gw out r out′ → Restores s patches gh gw out r′ out″ → (r ≡ r′) × (out′ ≡ out″)
+kz-restore-unique s patches gh gw out r r′ out′ out″ a b = (one _ (a .0) (b .0), one _ (a .1) (b .1))
+
+pub kz-patch-unique : (patches : List Float) (p i : ℕ) (r r′ : PatchPlace) → r ≡ placeOf (length patches) p i → r′ ≡ placeOf (length patches) p i → r ≡ r′
+kz-patch-unique patches p i r r′ = one _
+
+abbrev pub Forwards : EncoderSettings → List Float → ℕ → ℕ → List Float → List Float → List Float → List Float → List Float → ForwardReport → List Float → List Float → Type 0
+Forwards s patches gh gw weights cos sin scratch out r out′ scratch′ =
+    (r ≡ forwardReport (encodedOf (innerEncoder s) gh gw weights cos sin patches (length out) (length scratch)))
+    × (out′ ≡ outOf (innerEncoder s) gh gw weights cos sin patches (length scratch) out)
+    × (scratch′ ≡ scratchOf (innerEncoder s) gh gw weights cos sin patches (length out) scratch)
+
+pub kz-forward-unique : (s : EncoderSettings) (patches : List Float) (gh gw : ℕ) (weights cos sin scratch out : List Float) (r r′ : ForwardReport) (out′ out″ : List Float) (scratch′ scratch″ : List Float)
+    → Forwards s patches gh gw weights cos sin scratch out r out′ scratch′ → Forwards s patches gh gw weights cos sin scratch out r′ out″ scratch″ → (r ≡ r′) × (out′ ≡ out″) × (scratch′ ≡ scratch″)
+kz-forward-unique s patches gh gw weights cos sin scratch out r r′ out′ out″ scratch′ scratch″ a b = (one _ (a .0) (b .0), one _ (a .1) (b .1), one _ (a .2) (b .2))
+
+pub kz-lengths-unique : (s : EncoderSettings) (gh gw : ℕ) (r r′ : LengthsReport) → r ≡ lengthsReport (neededOf (innerEncoder s) gh gw) → r′ ≡ lengthsReport (neededOf (innerEncoder s) gh gw) → r ≡ r′
+kz-lengths-unique s gh gw r r′ = one _
