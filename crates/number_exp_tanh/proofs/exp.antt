@@ -1,3 +1,4 @@
 pub mod Twos
 pub mod Range
 pub mod Terms
+pub mod Zeros

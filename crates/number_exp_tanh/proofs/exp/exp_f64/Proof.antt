@@ -1,4 +1,4 @@
--- `exps::exp::exp_f64` meets its contract: k is at most 152 in size (`exp/Range.antt`), so 2 ^ k is an f64. Assumes nothing.
+-- `number_exp_tanh::exp::exp_f64` meets its contract: k is at most 152 in size (`exp/Range.antt`), so 2 ^ k is an f64. Assumes nothing.
 use mathlib.Core.Path.{_≡_, sym, ap, ap₂, _∙_, subst}
 use borrow.Author.Needs.{needs}
 use lib.Ieee.{Float, binary64, mul}

@@ -1,4 +1,4 @@
--- `exps::exp::k_of` meets its contract. Assumes nothing.
+-- `number_exp_tanh::exp::k_of` meets its contract. Assumes nothing.
 use borrow.Author.Needs.{needs}
 use lib.Ieee.{nanBits}
 use Rattle.number_exp_tanh.proofs.exp.k_of.Statement.{statement}

@@ -1,4 +1,4 @@
--- `exps::exp::r_of` meets its contract. Assumes nothing.
+-- `number_exp_tanh::exp::r_of` meets its contract. Assumes nothing.
 use borrow.Author.Needs.{needs}
 use lib.Ieee.{nanBits}
 use Rattle.number_exp_tanh.proofs.exp.r_of.Statement.{statement}

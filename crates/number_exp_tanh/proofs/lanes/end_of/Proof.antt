@@ -1,4 +1,4 @@
--- `exps::lanes::end_of` meets its contract: between the ends k is bounded, and E is F narrowed. Assumes nothing.
+-- `number_exp_tanh::lanes::end_of` meets its contract: between the ends k is bounded, and E is F narrowed. Assumes nothing.
 use mathlib.Core.Path.{_≡_, sym, ap, ap₂, _∙_, subst}
 use mathlib.Core.Bool.{true}
 use borrow.Author.Needs.{needs}

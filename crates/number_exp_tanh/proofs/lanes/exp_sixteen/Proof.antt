@@ -1,4 +1,4 @@
--- `exps::lanes::exp_sixteen` meets its contract. Assumes nothing.
+-- `number_exp_tanh::lanes::exp_sixteen` meets its contract. Assumes nothing.
 use mathlib.Core.Path.{_≡_, ap, _∙_}
 use mathlib.Core.List.{List}
 use Prim.Native.Nat.{ℕ}

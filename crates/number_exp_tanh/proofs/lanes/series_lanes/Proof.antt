@@ -1,4 +1,4 @@
--- `exps::lanes::series_lanes` meets its contract. The invariant is that of `series_of`, in each lane. Assumes nothing.
+-- `number_exp_tanh::lanes::series_lanes` meets its contract. The invariant is that of `series_of`, in each lane. Assumes nothing.
 use mathlib.Core.Path.{_≡_, refl, sym, ap, _∙_}
 use mathlib.Core.List.{List}
 use Prim.Native.Nat.{ℕ, _-_, _≤_, _<_}

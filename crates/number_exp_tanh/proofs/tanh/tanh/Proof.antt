@@ -1,4 +1,4 @@
--- `exps::tanh::tanh` meets its contract. Assumes nothing.
+-- `number_exp_tanh::tanh::tanh` meets its contract. Assumes nothing.
 use mathlib.Core.Path.{_≡_, ap, _∙_}
 use borrow.Author.Needs.{needs}
 use lib.Ieee.{binary32, toBits}
