@@ -6,6 +6,7 @@ use native.Mathlib.Nat.{div-le-self}
 use native.Mathlib.Omega.{arith}
 use borrow.Author.Tests.{leb-true, eqb-true}
 use lib.Dec.{leb, eqb}
+use Rattle.buffers.proofs.Lists.{and-left}
 use Rattle.buffers.proofs.Rooms.{and-parts}
 use Rattle.picture_limits.specs.Settings as P
 use Rattle.picture_limits.specs.Settings.{within}
@@ -114,3 +115,8 @@ counted s t o b h k =
       inners = times t (s .«intermediate_size») 4194304 8192 h (b .inner-high);
       texts = times o (s .«text_hidden_size») 4194304 8192 l (b .text-high);
     }
+
+-- allowed settings have allowed picture settings, so that a shape's own 1 is never reached
+pub picture-allowed : (s : EncoderSettings) → allowed s ≡ true → P.allowed (s .picture) ≡ true
+unfolding allowed
+picture-allowed s e = and-left (P.allowed (s .picture)) (ranged s && (eqb (s .«head_dim» % 4) 0 && (eqb (s .«num_heads» * s .«head_dim») (s .«hidden_size») && scalingAllowed s))) e

@@ -1,3 +1,4 @@
 pub mod Weights
 pub mod Settings
+pub mod Lengths
 pub mod inner

@@ -1,4 +1,5 @@
 // What a forward call may be handed, and how long each of its buffers has to be.
+pub mod lengths;
 pub mod settings;
 
 use picture_limits::PictureSettings;
@@ -13,6 +14,18 @@ pub struct EncoderSettings {
     pub intermediate_size: usize,
     pub text_hidden_size: usize,
     pub scaling: f32,
+}
+
+// How many floats each buffer of a forward call has to have, or a refusal.
+pub enum Needed {
+    Lengths {
+        patches: usize,
+        weights: usize,
+        tables: usize,
+        scratch: usize,
+        out: usize,
+    },
+    Refused(Refusal),
 }
 
 // What the settings and the lengths say: the tokens, of which count are left, or a refusal.

@@ -10,6 +10,8 @@ use Rattle.picture_limits.specs.Places.{patchFloats}
 use Rattle.picture.specs.Preprocess as Pre
 use Rattle.picture_restore.specs.Restore as Res
 use Rattle.encoder_settings.specs.declared.EncoderSettings as E
+use Rattle.encoder_settings.specs.declared.Needed.{Needed}
+use Rattle.encoder_settings.specs.Lengths as Len
 use Rattle.encoder.specs.declared.Encoded.{Encoded}
 use Rattle.encoder.specs.Forward as Fwd
 use Rattle.kyzgultam.specs.declared.PictureSettings as K
@@ -18,6 +20,7 @@ use Rattle.kyzgultam.specs.declared.RestoreReport.{RestoreReport}
 use Rattle.kyzgultam.specs.declared.PatchPlace.{PatchPlace}
 use Rattle.kyzgultam.specs.declared.EncoderSettings as KE
 use Rattle.kyzgultam.specs.declared.ForwardReport.{ForwardReport}
+use Rattle.kyzgultam.specs.declared.LengthsReport.{LengthsReport}
 
 abbrev pub inner : K.PictureSettings → P.PictureSettings
 inner s = record { «patch_size» = s .«patch_size»; «spatial_merge_size» = s .«spatial_merge_size»; «image_size» = s .«image_size» }
@@ -44,6 +47,9 @@ restoreReport a = record { number = Res.number a; height = Res.height a; width =
 
 abbrev pub forwardReport : Encoded → ForwardReport
 forwardReport a = record { number = Fwd.number a; tokens = Fwd.tokens a }
+
+abbrev pub lengthsReport : Needed → LengthsReport
+lengthsReport a = record { number = Len.number a; patches = Len.patches a; weights = Len.weights a; tables = Len.tables a; scratch = Len.scratch a; out = Len.out a }
 
 -- place i·3p² and length 3p² in patches of length n, where p is in 1..32 and the whole patch lies inside
 unfoldable pub placeOf : ℕ → ℕ → ℕ → PatchPlace

@@ -1,13 +1,15 @@
 // The C face: thin functions over `picture` and `encoder`, with structs of their own, so that what users linked stays
 // as it is when the settings inside grow.
 use encoder::Encoded;
+use encoder_settings::Needed;
 use picture::Preprocessed;
 use picture_restore::Restored;
 ghost use mathlib.Core.Path.{_≡_};
 ghost use lib.ListN.{length};
 ghost use Rattle.picture.specs.Preprocess.{preprocessed, patchesOut};
 ghost use Rattle.picture_restore.specs.Restore.{restored, bytesOut};
-ghost use Rattle.kyzgultam.specs.Face.{inner, innerEncoder, preprocessReport, restoreReport, forwardReport, placeOf};
+ghost use Rattle.kyzgultam.specs.Face.{inner, innerEncoder, preprocessReport, restoreReport, forwardReport, lengthsReport, placeOf};
+ghost use Rattle.encoder_settings.specs.Lengths.{neededOf};
 ghost use Rattle.encoder.specs.Forward.{encodedOf, outOf, scratchOf};
 
 #[repr(C)]
@@ -55,6 +57,17 @@ pub struct EncoderSettings {
 pub struct ForwardReport {
     pub number: u32,
     pub tokens: usize,
+}
+
+// How many floats each buffer of a forward call has to have; each rotary table has `tables`.
+#[repr(C)]
+pub struct LengthsReport {
+    pub number: u32,
+    pub patches: usize,
+    pub weights: usize,
+    pub tables: usize,
+    pub scratch: usize,
+    pub out: usize,
 }
 
 fn settings(s: PictureSettings) -> picture_limits::PictureSettings
@@ -189,6 +202,37 @@ pub extern "C" fn kz_forward(
         Encoded::Refused(r) => ForwardReport {
             number: picture_limits::settings::number(r),
             tokens: 0,
+        },
+    }
+}
+
+#[no_mangle]
+pub extern "C" fn kz_lengths(s: EncoderSettings, grid_h: usize, grid_w: usize) -> LengthsReport
+    ensures { λ r. ⌜ r ≡ lengthsReport (neededOf (innerEncoder s) «grid_h» «grid_w») ⌝ }
+{
+    let found = encoder_settings::lengths::needed(encoder_settings(s), grid_h, grid_w);
+    match found {
+        Needed::Lengths {
+            patches,
+            weights,
+            tables,
+            scratch,
+            out,
+        } => LengthsReport {
+            number: 0,
+            patches,
+            weights,
+            tables,
+            scratch,
+            out,
+        },
+        Needed::Refused(r) => LengthsReport {
+            number: picture_limits::settings::number(r),
+            patches: 0,
+            weights: 0,
+            tables: 0,
+            scratch: 0,
+            out: 0,
         },
     }
 }

@@ -3,6 +3,7 @@ use crate::PictureSettings;
 use crate::Refusal;
 use crate::Shape;
 ghost use mathlib.Core.Path.{_≡_};
+ghost use mathlib.Core.Bool.{_&&_};
 ghost use Rattle.picture_limits.specs.Refusal as S;
 ghost use Rattle.picture_limits.specs.Settings.{allowed, sided};
 ghost use Rattle.picture_limits.specs.inner.Divides.{Divides};
@@ -51,6 +52,16 @@ fn grid_side_allowed(s: PictureSettings, g: usize) -> bool
     let p = s.patch_size;
     let m = s.spatial_merge_size;
     ((1 <= g) & (g <= s.image_size / p)) & (g % m == 0)
+}
+
+// Whether settings and grid are allowed: numbers 1 and 6 do not apply.
+pub fn grid_allowed(s: PictureSettings, grid_h: usize, grid_w: usize) -> bool
+    ensures { λ r. ⌜ r ≡ (allowed s && (gridAllowed s «grid_h» && gridAllowed s «grid_w»)) ⌝ }
+{
+    if !settings_allowed(s) {
+        return false;
+    }
+    grid_side_allowed(s, grid_h) & grid_side_allowed(s, grid_w)
 }
 
 // What restore and forward ask of settings, grid and patches: numbers 1, 6 and 7, in that order.
