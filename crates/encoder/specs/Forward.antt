@@ -1,16 +1,22 @@
 -- What a forward call answers, and what it leaves in the output and in the scratch, for every input. Assumes nothing.
+use mathlib.Core.Path.{_≡_}
+use mathlib.Core.Bool.{_&&_}
 use mathlib.Core.List.{List}
-use Prim.Native.Nat.{ℕ}
+use Prim.Native.Nat.{ℕ, _*_, _/_}
+use lib.Dec.{eqb, leb}
 use lib.ListN.{length}
 use lib.Ieee.{Float}
 use Rattle.buffers.specs.Region.{over, cleared}
 use Rattle.picture_limits.specs.declared.Refusal.the-variants.{NotFinite}
 use Rattle.picture_limits.specs.Refusal as R
+use Rattle.picture_limits.specs.Refusal.{unless, reported}
+use Rattle.picture_limits.specs.Places.{patchFloats}
+use Rattle.picture_limits.specs.Shape.{gridAllowed}
 use Rattle.encoder_settings.specs.declared.EncoderSettings.{EncoderSettings}
 use Rattle.encoder_settings.specs.declared.Checked.{Checked}
 use Rattle.encoder_settings.specs.declared.Checked.the-variants as C
-use Rattle.encoder_settings.specs.Settings.{checkedOf}
-use Rattle.encoder_steps.specs.Run.{Run, stopped, went}
+use Rattle.encoder_settings.specs.Settings.{allowed, mergeArea, weightFloats, tableFloats, scratchFloats, checkedOf}
+use Rattle.encoder_steps.specs.Run.{Run, stopped, went, ran}
 use Rattle.encoder_stages.specs.Forward.{forwardRun}
 use Rattle.encoder.specs.declared.Encoded.{Encoded}
 use Rattle.encoder.specs.declared.Encoded.the-variants.{Tokens, Refused}
@@ -59,3 +65,22 @@ number (Refused r) = R.number r
 abbrev pub tokens : Encoded → ℕ
 tokens (Tokens o) = o
 tokens (Refused r) = 0
+
+-- and these for every call: the first number of 1, 6, 7, 9, 10, 5, 11, 12 that applies, else 0
+unfoldable pub forwardNumber : EncoderSettings → ℕ → ℕ → List Float → List Float → List Float → List Float → ℕ → ℕ → ℕ
+forwardNumber s gh gw w cos sin x out scratch =
+    let t = gh * gw in
+    let o = t / mergeArea (s .picture) in
+    unless (allowed s) 1
+    (unless (gridAllowed (s .picture) gh && gridAllowed (s .picture) gw) 6
+    (unless (eqb (length x) (t * patchFloats (s .picture .«patch_size»))) 7
+    (unless (eqb (length w) (weightFloats s)) 9
+    (unless (eqb (length cos) (tableFloats s) && eqb (length sin) (tableFloats s)) 10
+    (unless (leb (o * s .«text_hidden_size») out) 5
+    (unless (leb (scratchFloats s t o) scratch) 11
+    (unless (ran (forwardRun s gh gw w cos sin x)) 12
+    0)))))))
+
+pub record Numbered (s : EncoderSettings) (gh gw : ℕ) (w cos sin x : List Float) (out scratch : ℕ) (a : Encoded) : Type 0 where
+  pub number-is : number a ≡ forwardNumber s gh gw w cos sin x out scratch
+  pub tokens-is : tokens a ≡ reported (number a) (gh * gw / mergeArea (s .picture))

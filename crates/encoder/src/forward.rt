@@ -1,7 +1,7 @@
 // From patches to token vectors.
 ghost use mathlib.Core.Path.{_≡_};
 ghost use lib.ListN.{length};
-ghost use Rattle.encoder.specs.Forward.{encodedOf, outOf, scratchOf};
+ghost use Rattle.encoder.specs.Forward.{encodedOf, outOf, scratchOf, Numbered};
 use crate::Encoded;
 use buffers::clear_at;
 use buffers::copy;
@@ -22,9 +22,10 @@ pub fn forward(
     scratch: &mut [f32],
     out: &mut [f32],
 ) -> Encoded
-    ensures { λ r. ⌜ r ≡ encodedOf s «grid_h» «grid_w» (now (weights .entry)) (now («rope_cos» .entry)) (now («rope_sin» .entry)) (now (patches .entry)) (length (now (out .entry))) (length (now (scratch .entry))) ⌝ }
-    ensures { λ r. ⌜ now (out .exit) ≡ outOf s «grid_h» «grid_w» (now (weights .entry)) (now («rope_cos» .entry)) (now («rope_sin» .entry)) (now (patches .entry)) (length (now (scratch .entry))) (now (out .entry)) ⌝ }
-    ensures { λ r. ⌜ now (scratch .exit) ≡ scratchOf s «grid_h» «grid_w» (now (weights .entry)) (now («rope_cos» .entry)) (now («rope_sin» .entry)) (now (patches .entry)) (length (now (out .entry))) (now (scratch .entry)) ⌝ }
+    ensures answer { λ r. ⌜ r ≡ encodedOf s «grid_h» «grid_w» (now (weights .entry)) (now («rope_cos» .entry)) (now («rope_sin» .entry)) (now (patches .entry)) (length (now (out .entry))) (length (now (scratch .entry))) ⌝ }
+    ensures output { λ _. ⌜ now (out .exit) ≡ outOf s «grid_h» «grid_w» (now (weights .entry)) (now («rope_cos» .entry)) (now («rope_sin» .entry)) (now (patches .entry)) (length (now (scratch .entry))) (now (out .entry)) ⌝ }
+    ensures work { λ _. ⌜ now (scratch .exit) ≡ scratchOf s «grid_h» «grid_w» (now (weights .entry)) (now («rope_cos» .entry)) (now («rope_sin» .entry)) (now (patches .entry)) (length (now (out .entry))) (now (scratch .entry)) ⌝ }
+    ensures numbers { λ r. ⌜ Numbered s «grid_h» «grid_w» (now (weights .entry)) (now («rope_cos» .entry)) (now («rope_sin» .entry)) (now (patches .entry)) (length (now (out .entry))) (length (now (scratch .entry))) r ⌝ }
 {
     let room = out.len();
     let ran = token_vectors(

@@ -8,6 +8,7 @@ use Rattle.picture_limits.specs.declared.PictureSettings.{PictureSettings}
 use Rattle.picture_limits.specs.declared.Refusal.the-variants.{Setting, Output, WeightsLength, TableLength, Scratch}
 use Rattle.picture_limits.specs.declared.Shape.{Shape}
 use Rattle.picture_limits.specs.declared.Shape.the-variants.{Shaped, Unshaped}
+use Rattle.picture_limits.specs.Refusal as R
 use Rattle.picture_limits.specs.Refusal.{unless}
 use Rattle.picture_limits.specs.Settings as P
 use Rattle.picture_limits.specs.Settings.{within}
@@ -47,6 +48,19 @@ tableFloats s = most (s .picture) * most (s .picture) * s .«head_dim»
 abbrev pub scratchFloats : EncoderSettings → ℕ → ℕ → ℕ
 scratchFloats s t o =
     7 * (t * s .«hidden_size») + 2 * (t * s .«intermediate_size») + t + 2 * (o * s .«text_hidden_size»)
+
+-- the paper's number of what was checked, and the counts of tokens: 0 of a refusal
+abbrev pub number : Checked → ℕ
+number (Accepted t o) = 0
+number (Refused r) = R.number r
+
+abbrev pub tokens : Checked → ℕ
+tokens (Accepted t o) = t
+tokens (Refused r) = 0
+
+abbrev pub tokensLeft : Checked → ℕ
+tokensLeft (Accepted t o) = o
+tokensLeft (Refused r) = 0
 
 -- 9, 10, 5, 11, for t tokens of which o are left
 unfoldable pub lengths : EncoderSettings → ℕ → ℕ → ℕ → ℕ → ℕ → ℕ → ℕ → Checked

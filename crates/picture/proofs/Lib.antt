@@ -1,5 +1,6 @@
 pub mod Places
 pub mod Accepts
+pub mod Numbers
 pub mod Spans
 pub mod Given
 pub mod Undo

@@ -1,4 +1,5 @@
 -- What preprocess answers and writes, for every input. Assumes nothing.
+use mathlib.Core.Path.{_≡_}
 use mathlib.Core.List.{List}
 use Prim.Native.Nat.{ℕ, _*_}
 use lib.Dec.{leb, eqb}
@@ -10,7 +11,7 @@ use Rattle.picture_limits.specs.declared.Refusal.the-variants.{Setting, Side, R
 use Rattle.picture.specs.declared.Preprocessed.{Preprocessed}
 use Rattle.picture.specs.declared.Preprocessed.the-variants.{Patches, Refused}
 use Rattle.picture_limits.specs.Refusal as R
-use Rattle.picture_limits.specs.Refusal.{unless}
+use Rattle.picture_limits.specs.Refusal.{unless, reported}
 use Rattle.picture_limits.specs.Settings.{allowed, sided, align}
 use Rattle.picture_limits.specs.Sides.{resized, gridOf}
 use Rattle.picture_resize.specs.Resize.{resizedAt}
@@ -66,3 +67,19 @@ gridW (Refused r) = 0
 abbrev pub floats : Preprocessed → ℕ
 floats (Patches gh gw n) = n
 floats (Refused r) = 0
+
+-- and these for every call: the first number of 1, 2, 3, 4, 5 that applies, else 0
+unfoldable pub preprocessNumber : PictureSettings → ℕ → ℕ → ℕ → ℕ → ℕ
+preprocessNumber s len h w room =
+    unless (allowed s) 1
+    (unless (sided h w) 2
+    (unless (eqb len (h * w * 3)) 3
+    (unless (leb (align s) (s .«image_size»)) 4
+    (unless (leb (floatsOf s h w) room) 5
+    0))))
+
+pub record Numbered (s : PictureSettings) (len h w room : ℕ) (a : Preprocessed) : Type 0 where
+  pub number-is : number a ≡ preprocessNumber s len h w room
+  pub grid-h-is : gridH a ≡ reported (number a) (gridOf s h)
+  pub grid-w-is : gridW a ≡ reported (number a) (gridOf s w)
+  pub floats-is : floats a ≡ reported (number a) (floatsOf s h w)

@@ -9,7 +9,7 @@ ghost use mathlib.Core.Path.{_≡_};
 ghost use Prim.Native.Nat.{_≤_, _<_};
 ghost use lib.ListN.{length};
 ghost use Rattle.picture_limits.specs.Sides.{side};
-ghost use Rattle.picture.specs.Preprocess.{preprocessed, patchesOut};
+ghost use Rattle.picture.specs.Preprocess.{preprocessed, patchesOut, Numbered};
 
 // A side x rounded up to a multiple of a, cut to n, rounded down to a multiple of a.
 fn side_of(a: usize, n: usize, x: usize) -> usize
@@ -33,6 +33,7 @@ pub fn pixtral_preprocess(
 ) -> Preprocessed
     ensures answer { λ r. ⌜ r ≡ preprocessed s (length (now (rgb .entry))) height width (length (now (out .entry))) ⌝ }
     ensures output { λ _. ⌜ now (out .exit) ≡ patchesOut s (now (rgb .entry)) height width (now (out .entry)) ⌝ }
+    ensures numbers { λ r. ⌜ Numbered s (length (now (rgb .entry))) height width (length (now (out .entry))) r ⌝ }
 {
     if !settings_allowed(s) {
         return Preprocessed::Refused(Refusal::Setting);

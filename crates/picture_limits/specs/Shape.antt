@@ -6,9 +6,19 @@ use Rattle.picture_limits.specs.declared.PictureSettings.{PictureSetting
 use Rattle.picture_limits.specs.declared.Refusal.the-variants.{Setting, Grid, PatchesLength}
 use Rattle.picture_limits.specs.declared.Shape as D
 use Rattle.picture_limits.specs.declared.Shape.the-variants.{Shaped, Unshaped}
+use Rattle.picture_limits.specs.Refusal as R
 use Rattle.picture_limits.specs.Refusal.{unless}
 use Rattle.picture_limits.specs.Settings.{within, allowed}
 use Rattle.picture_limits.specs.Places.{patchFloats}
+
+-- the paper's number of a shape, and its tokens: 0 of a refusal
+abbrev pub number : D.Shape → ℕ
+number (Shaped t) = 0
+number (Unshaped r) = R.number r
+
+abbrev pub tokens : D.Shape → ℕ
+tokens (Shaped t) = t
+tokens (Unshaped r) = 0
 
 -- P, the most patches along a side
 abbrev pub most : PictureSettings → ℕ

@@ -1,4 +1,5 @@
 -- What restore answers and writes, for every input. Assumes nothing.
+use mathlib.Core.Path.{_≡_}
 use mathlib.Core.Bool.{Bool, _&&_}
 use mathlib.Core.List.{List}
 use Prim.Native.Nat.{ℕ, _*_, _/_, _%_}
@@ -12,7 +13,7 @@ use Rattle.picture_limits.specs.declared.Refusal.the-variants.{Setting, Output,
 use Rattle.picture_restore.specs.declared.Restored.{Restored}
 use Rattle.picture_restore.specs.declared.Restored.the-variants.{Picture, Refused}
 use Rattle.picture_limits.specs.Refusal as R
-use Rattle.picture_limits.specs.Refusal.{unless}
+use Rattle.picture_limits.specs.Refusal.{unless, reported}
 use Rattle.picture_limits.specs.Settings.{allowed}
 use Rattle.picture_limits.specs.Shape.{gridAllowed}
 use Rattle.picture_samples.specs.Samples.{sampleBits, byteOf}
@@ -62,3 +63,18 @@ height (Refused r) = 0
 abbrev pub width : Restored → ℕ
 width (Picture h w) = w
 width (Refused r) = 0
+
+-- and these for every call: the first number of 1, 6, 7, 5, 8 that applies, else 0
+unfoldable pub restoreNumber : PictureSettings → List Float → ℕ → ℕ → ℕ → ℕ
+restoreNumber s l gh gw room =
+    unless (allowed s) 1
+    (unless (gridAllowed s gh && gridAllowed s gw) 6
+    (unless (eqb (length l) (gh * gw * patchFloats (s .«patch_size»))) 7
+    (unless (leb (gh * s .«patch_size» * (gw * s .«patch_size») * 3) room) 5
+    (unless (known sampleBits (s .«patch_size») l) 8
+    0))))
+
+pub record Numbered (s : PictureSettings) (l : List Float) (gh gw room : ℕ) (a : Restored) : Type 0 where
+  pub number-is : number a ≡ restoreNumber s l gh gw room
+  pub height-is : height a ≡ reported (number a) (gh * s .«patch_size»)
+  pub width-is : width a ≡ reported (number a) (gw * s .«patch_size»)

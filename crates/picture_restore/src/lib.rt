@@ -16,7 +16,7 @@ ghost use Rattle.picture_samples.specs.Samples.{entry};
 ghost use Rattle.picture_restore.specs.inner.Known.{knownRun, knownPatch, knownPatches};
 ghost use Rattle.picture_restore.specs.inner.Guess.{Guessed, guessedPixel, guessedRun, guessedLine, guessedBand, guessedBytes};
 ghost use Rattle.picture_limits.specs.Shape.{shaped};
-ghost use Rattle.picture_restore.specs.Restore.{restored, bytesOut};
+ghost use Rattle.picture_restore.specs.Restore.{restored, bytesOut, Numbered};
 
 pub enum Restored {
     Picture { height: usize, width: usize },
@@ -195,6 +195,7 @@ pub fn restore(
 ) -> Restored
     ensures answer { λ r. ⌜ r ≡ restored s (now (patches .entry)) «grid_h» «grid_w» (length (now (out .entry))) ⌝ }
     ensures output { λ _. ⌜ now (out .exit) ≡ bytesOut s (now (patches .entry)) «grid_h» «grid_w» (now (out .entry)) ⌝ }
+    ensures numbers { λ r. ⌜ Numbered s (now (patches .entry)) «grid_h» «grid_w» (length (now (out .entry))) r ⌝ }
 {
     let found = shape(s, grid_h, grid_w, patches.len());
     match found {

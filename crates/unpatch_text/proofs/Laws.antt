@@ -31,7 +31,7 @@ use Rattle.picture.proofs.Accepts.{acceptance}
 use Rattle.buffers.proofs.Bytes.{bytes-append, no-bytes, one-byte, bytes-tab, bytes-rows}
 use Rattle.picture.proofs.Spans.{spanned}
 use Rattle.picture.proofs.Undo.{back, own-bytes}
-use Rattle.picture_limits.proofs.Unique.{one}
+use Rattle.number_floats.proofs.Unique.{one}
 use Rattle.unpatch_form.specs.Words.{word, _>>=_, onePiece, end, joined, behind}
 use Rattle.unpatch_form.specs.Decimal.{decimal}
 use Rattle.unpatch_form.specs.Hex.{nibble, pair, hexPairs, hexBytes}

@@ -37,7 +37,7 @@ returns c =
     let e = c .before .before .before .before .before .before .before .before .before .before .encoder-settings .ensures in
     let answer : c .before .before .before .before .before .before .before .forward .result ≡ encodedOf (innerEncoder (a .s)) (a .grid-h) (a .grid-w) (a .weights .now) (a .rope-cos .now) (a .rope-sin .now) (a .patches .now) (length (a .out .now)) (length (a .scratch .now)) = k .0 ∙ ap (λ (s : EncoderSettings). encodedOf s (a .grid-h) (a .grid-w) (a .weights .now) (a .rope-cos .now) (a .rope-sin .now) (a .patches .now) (length (a .out .now)) (length (a .scratch .now))) e in
     let output = k .1 .0 ∙ ap (λ (s : EncoderSettings). outOf s (a .grid-h) (a .grid-w) (a .weights .now) (a .rope-cos .now) (a .rope-sin .now) (a .patches .now) (length (a .scratch .now)) (a .out .now)) e in
-    let work = k .1 .1 ∙ ap (λ (s : EncoderSettings). scratchOf s (a .grid-h) (a .grid-w) (a .weights .now) (a .rope-cos .now) (a .rope-sin .now) (a .patches .now) (length (a .out .now)) (a .scratch .now)) e in
+    let work = k .1 .1 .0 ∙ ap (λ (s : EncoderSettings). scratchOf s (a .grid-h) (a .grid-w) (a .weights .now) (a .rope-cos .now) (a .rope-sin .now) (a .patches .now) (length (a .out .now)) (a .scratch .now)) e in
     (sym (ap forwardReport (sym answer ∙ c .before .found .given .1)), (output, work))
 
 same-length-3 : tie.Need-same-length-3
@@ -53,7 +53,7 @@ returns-2 c =
     let e = c .before .before .before .before .before .before .before .before .before .before .before .encoder-settings .ensures in
     let answer : c .before .before .before .before .before .before .before .before .forward .result ≡ encodedOf (innerEncoder (a .s)) (a .grid-h) (a .grid-w) (a .weights .now) (a .rope-cos .now) (a .rope-sin .now) (a .patches .now) (length (a .out .now)) (length (a .scratch .now)) = k .0 ∙ ap (λ (s : EncoderSettings). encodedOf s (a .grid-h) (a .grid-w) (a .weights .now) (a .rope-cos .now) (a .rope-sin .now) (a .patches .now) (length (a .out .now)) (length (a .scratch .now))) e in
     let output = k .1 .0 ∙ ap (λ (s : EncoderSettings). outOf s (a .grid-h) (a .grid-w) (a .weights .now) (a .rope-cos .now) (a .rope-sin .now) (a .patches .now) (length (a .scratch .now)) (a .out .now)) e in
-    let work = k .1 .1 ∙ ap (λ (s : EncoderSettings). scratchOf s (a .grid-h) (a .grid-w) (a .weights .now) (a .rope-cos .now) (a .rope-sin .now) (a .patches .now) (length (a .out .now)) (a .scratch .now)) e in
+    let work = k .1 .1 .0 ∙ ap (λ (s : EncoderSettings). scratchOf s (a .grid-h) (a .grid-w) (a .weights .now) (a .rope-cos .now) (a .rope-sin .now) (a .patches .now) (length (a .out .now)) (a .scratch .now)) e in
     (ap (λ (n : ℕ). record { number = n; tokens = 0 }) (c .number .ensures) ∙ sym (ap forwardReport (sym answer ∙ c .before .before .found2 .given .1)), (output, work))
 
 pub kz-forward-spec : {M : Type 1} → statement M

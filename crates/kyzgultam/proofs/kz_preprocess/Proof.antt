@@ -34,7 +34,7 @@ called c =
     let e = c .before .before .settings .ensures in
     let k = c .pixtral-preprocess .ensures in (
       sym (k .0 ∙ ap (λ (s : PictureSettings). preprocessed s (length (a .rgb .now)) (a .height) (a .width) (length old)) e),
-      k .1 ∙ ap (λ (s : PictureSettings). patchesLeft (preprocessed s (length (a .rgb .now)) (a .height) (a .width) (length old)) (patchesOf s (a .rgb .now) (a .height) (a .width)) old) e,
+      k .1 .0 ∙ ap (λ (s : PictureSettings). patchesLeft (preprocessed s (length (a .rgb .now)) (a .height) (a .width) (length old)) (patchesOf s (a .rgb .now) (a .height) (a .width)) old) e,
     )
 
 same-length : tie.Need-same-length

@@ -34,7 +34,7 @@ called c =
     let e = c .before .before .settings .ensures in
     let k = c .restore .ensures in (
       sym (k .0 ∙ ap (λ (s : PictureSettings). restored s (a .patches .now) (a .grid-h) (a .grid-w) (length old)) e),
-      k .1 ∙ ap (λ (s : PictureSettings). bytesLeft (restored s (a .patches .now) (a .grid-h) (a .grid-w) (length old)) (bytesOf s (a .patches .now) (a .grid-h) (a .grid-w)) old) e,
+      k .1 .0 ∙ ap (λ (s : PictureSettings). bytesLeft (restored s (a .patches .now) (a .grid-h) (a .grid-w) (length old)) (bytesOf s (a .patches .now) (a .grid-h) (a .grid-w)) old) e,
     )
 
 same-length : tie.Need-same-length

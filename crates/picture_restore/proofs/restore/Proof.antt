@@ -1,4 +1,4 @@
--- `restore::restore` meets its contract: a shape that is refused is the answer, and one that is accepted is restored. Assumes nothing.
+-- `picture_restore::restore` meets its contract: a shape that is refused is the answer, and one that is accepted is restored. Assumes nothing.
 use mathlib.Core.Path.{_≡_, sym, ap, _∙_}
 use borrow.Author.Needs.{needs}
 use lib.ListN.{length}
@@ -7,6 +7,7 @@ use Rattle.picture_restore.specs.declared.Restored.the-variants.{Refused
 use Rattle.picture_limits.specs.Shape.{shaped}
 use Rattle.picture_restore.specs.Restore.{restored}
 use Rattle.picture_restore.proofs.Ladder.{decided, agrees}
+use Rattle.picture_restore.proofs.Numbers.{settled}
 use Rattle.picture_restore.proofs.restore.Statement.{statement}
 use Rattle.picture_restore.proofs.restore.Tie as tie
 
@@ -34,13 +35,19 @@ answer c =
     ∙ ap (decided (a .s) (a .patches .now) (a .grid-h) (a .grid-w) (length (a .out .now))) (refused c)
 
 returns : tie.Need-returns
-returns c = let e = answer (c .before) in (rw e, rw e)
+returns c =
+    let a = c .before .before .before .before .before .before .args in
+    let e = answer (c .before) in
+    settled (a .s) (a .patches .now) (a .grid-h) (a .grid-w) (length (a .out .now)) (sym e) (rw e)
 
 same-length : tie.Need-same-length
 same-length c = c .before .before .restore-shaped .kept .1 .1 .1 .1 .1 .0
 
 returns-2 : tie.Need-returns-2
-returns-2 c = c .before .before .restore-shaped .ensures
+returns-2 c =
+    let k = c .before .before .restore-shaped .ensures in
+    let a = c .before .before .before .before .before .before .before .before .before .before .args in
+    settled (a .s) (a .patches .now) (a .grid-h) (a .grid-w) (length (a .out .now)) (k .0) (k .1)
 
 pub restore-spec : {M : Type 1} → statement M
 restore-spec =

@@ -1,4 +1,4 @@
--- `restore::restore_line` meets its contract. The invariant: row i of the patches passed is written. Assumes nothing.
+-- `picture_restore::restore_line` meets its contract. The invariant: row i of the patches passed is written. Assumes nothing.
 use mathlib.Core.Path.{_≡_, ap, _∙_}
 use Prim.Native.Nat.{ℕ, _+_, _*_, _-_, _≤_}
 use native.Mathlib.Omega.{arith}

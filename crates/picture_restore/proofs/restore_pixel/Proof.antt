@@ -1,4 +1,4 @@
--- `restore::restore_pixel` meets its contract: three stores are one write of three bytes. Assumes nothing.
+-- `picture_restore::restore_pixel` meets its contract: three stores are one write of three bytes. Assumes nothing.
 use mathlib.Core.Path.{_≡_, ap, _∙_}
 use mathlib.Core.List.{List}
 use Prim.Native.Nat.{ℕ, suc, _+_, _*_}

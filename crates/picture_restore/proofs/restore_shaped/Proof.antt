@@ -1,4 +1,4 @@
--- `restore::restore_shaped` meets its contract: with the shape accepted, the room and then the samples decide. Assumes nothing.
+-- `picture_restore::restore_shaped` meets its contract: with the shape accepted, the room and then the samples decide. Assumes nothing.
 use mathlib.Core.Path.{_≡_, sym, ap, _∙_}
 use Prim.Native.Nat.{ℕ, _*_, _≤_}
 use native.Mathlib.Nat.{mul-assoc}

@@ -1,4 +1,4 @@
--- `restore::run_known` meets its contract. The invariant: the samples passed are known. Assumes nothing.
+-- `picture_restore::run_known` meets its contract. The invariant: the samples passed are known. Assumes nothing.
 use mathlib.Core.Path.{_≡_, sym, ap, _∙_}
 use mathlib.Core.Bool.{Bool, true}
 use mathlib.Core.List.{List}

@@ -20,6 +20,7 @@ use Rattle.encoder_stages.specs.Vectors.{ranBy, leftBy, ranOf, leftOf}
 use Rattle.encoder_steps.proofs.Fronts.{front-is, front-cleared}
 use Rattle.encoder.specs.declared.Encoded.the-variants.{Refused}
 use Rattle.encoder.specs.Forward.{encodedBy, outBy, scratchBy, encodedOf, outOf, scratchOf}
+use Rattle.encoder.proofs.Numbers.{numbered}
 use Rattle.encoder.proofs.Leaves.{copied-over, went-says, went-by}
 use Rattle.encoder.proofs.forward.forward.Statement.{statement}
 use Rattle.encoder.proofs.forward.forward.Tie as tie
@@ -78,7 +79,10 @@ returns c =
       went-by y encodedBy,
       (
         c .before .before .before .before .before .before .copy .ensures ∙ ap (λ v. copied v (a .out .now)) f ∙ copied-over (y .l) (a .out .now) (omega (arith, y .long, y .out-holds)) ∙ went-by y (λ k r. outBy k r (a .out .now)),
-        w ∙ ap (λ v. put v 0 z) q ∙ front-cleared (y .l) (a .scratch .now) e (y .long) (y .scratch-holds) ∙ went-by y (λ k r. scratchBy k (a .scratch .now)),
+        (
+          w ∙ ap (λ v. put v 0 z) q ∙ front-cleared (y .l) (a .scratch .now) e (y .long) (y .scratch-holds) ∙ went-by y (λ k r. scratchBy k (a .scratch .now)),
+          numbered (a .s) (a .grid-h) (a .grid-w) (a .weights .now) (a .rope-cos .now) (a .rope-sin .now) (a .patches .now) (length (a .out .now)) (length (a .scratch .now)) _ (went-by y encodedBy),
+        ),
       ),
     )
 
@@ -93,7 +97,7 @@ returns-2 c =
     let k = checkedOf (a .s) (a .grid-h) (a .grid-w) (length (a .patches .now)) (length (a .weights .now)) (length (a .rope-cos .now)) (length (a .rope-sin .now)) (length (a .out .now)) (length (a .scratch .now)) in
     let r = forwardRun (a .s) (a .grid-h) (a .grid-w) (a .weights .now) (a .rope-cos .now) (a .rope-sin .now) (a .patches .now) in
     let y = stood k r (c .before .ran2 .given .0 .0) (a .out .now) (a .scratch .now) (sym (n .ensures .0) ∙ c .before .ran2 .given .1) in
-    (y .0, (y .1, n .ensures .1 ∙ y .2))
+    (y .0, (y .1, (n .ensures .1 ∙ y .2, numbered (a .s) (a .grid-h) (a .grid-w) (a .weights .now) (a .rope-cos .now) (a .rope-sin .now) (a .patches .now) (length (a .out .now)) (length (a .scratch .now)) _ (y .0))))
 
 pub forward-spec : {M : Type 1} → statement M
 forward-spec =

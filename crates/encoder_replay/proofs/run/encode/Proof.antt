@@ -33,7 +33,7 @@ whole c =
     let f = d .before .before .before .before .before .before in
     let a = f .before .before .before .before .before .before .before .before .before .args in
     let e = f .forward .ensures in
-    answered (a .s) (a .gh) (a .gw) (a .weights .now) (a .cos .now) (a .sin .now) (a .patches .now) (a .scratch .now) (a .out .now) _ _ (f .forward .result) (d .hash-floats .result) (c .hash-floats2 .result) (e .0) (e .1 .0) (e .1 .1) (d .hash-floats .ensures) (c .hash-floats2 .ensures)
+    answered (a .s) (a .gh) (a .gw) (a .weights .now) (a .cos .now) (a .sin .now) (a .patches .now) (a .scratch .now) (a .out .now) _ _ (f .forward .result) (d .hash-floats .result) (c .hash-floats2 .result) (e .0) (e .1 .0) (e .1 .1 .0) (d .hash-floats .ensures) (c .hash-floats2 .ensures)
 
 forward-requires : tie.Need-forward-requires
 forward-requires c κs = search needs

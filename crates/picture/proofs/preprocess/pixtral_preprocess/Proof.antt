@@ -13,6 +13,7 @@ use Rattle.picture_limits.specs.Sides.{resized, gridOf}
 use Rattle.picture_limits.specs.Places.{patchFloats}
 use Rattle.picture.specs.Preprocess.{floatsOf, preprocessed}
 use Rattle.picture.proofs.Accepts.{Accepts, accepted, written}
+use Rattle.picture.proofs.Numbers.{settled}
 use Rattle.picture_limits.proofs.Places.{square, times}
 use Rattle.picture_limits.proofs.Sides.{Allowed, allowed-says, sided-says, side-le, Spans, spans}
 use Rattle.picture_patches.specs.Resized.{resizedPatches, fits}
@@ -64,7 +65,7 @@ settings-allowed-requires c κs = search needs
 
 returns : tie.Need-returns
 unfolding preprocessed
-returns c = let e : allowed (c .before .before .before .before .args .s) ≡ false = sym (c .before .settings-allowed .ensures) ∙ not-true _ (c .if1 .taken) in (simp e, simp e)
+returns c = let e : allowed (c .before .before .before .before .args .s) ≡ false = sym (c .before .settings-allowed .ensures) ∙ not-true _ (c .if1 .taken) in let a = c .before .before .before .before .args in settled (a .s) (length (a .rgb .now)) (a .height) (a .width) (length (a .out .now)) (simp e) (simp e)
 
 sides-allowed-requires : tie.Need-sides-allowed-requires
 sides-allowed-requires c κs = search needs
@@ -74,7 +75,8 @@ unfolding preprocessed
 returns-2 c =
     let e = settings (c .before .before) in
     let g : sided (c .before .before .before .before .before .before .args .height) (c .before .before .before .before .before .before .args .width) ≡ false = sym (c .before .sides-allowed .ensures) ∙ not-true _ (c .if2 .taken) in
-    (simp (e, g), simp (e, g))
+    let a = c .before .before .before .before .before .before .args in
+    settled (a .s) (length (a .rgb .now)) (a .height) (a .width) (length (a .out .now)) (simp (e, g)) (simp (e, g))
 
 mul-if3 : tie.Need-mul-if3
 mul-if3 c = let a = c .before .before .before .before .before .before .args in let t = sided-says (a .height) (a .width) (sides c) in omega (arith, times (a .height) (a .width) 8192 8192 (t .1) (t .3))
@@ -88,7 +90,8 @@ returns-3 c =
     let e = settings (c .before .before .before) in
     let g = sides (c .before) in
     let k = ne-eqb _ _ (c .if3 .taken) in
-    (simp (e, g, k), simp (e, g, k))
+    let a = c .before .before .before .before .before .before .before .args in
+    settled (a .s) (length (a .rgb .now)) (a .height) (a .width) (length (a .out .now)) (simp (e, g, k)) (simp (e, g, k))
 
 mul-a : tie.Need-mul-a
 mul-a c = let s = c .before .before .before .before .before .before .before .before .args .s in let k = known (c .before .before .before .before) in omega (arith, times (s .«patch_size») (s .«spatial_merge_size») 32 4 (k .patch-high) (k .merge-high))
@@ -100,7 +103,8 @@ returns-4 c =
     let g = sides (c .before .before .before) in
     let k = eq-eqb _ _ (c .before .before .if3 .left) in
     let l = lt-leb _ _ (c .if4 .taken) in
-    (simp (e, g, k, l), simp (e, g, k, l))
+    let a = c .before .before .before .before .before .before .before .before .before .args in
+    settled (a .s) (length (a .rgb .now)) (a .height) (a .width) (length (a .out .now)) (simp (e, g, k, l)) (simp (e, g, k, l))
 
 side-of-requires : tie.Need-side-of-requires
 side-of-requires c κs =
@@ -148,7 +152,7 @@ returns-5 c =
     let k = eq-eqb _ _ (c .before .before .before .before .before .if3 .left) in
     let l = le-leb _ _ (c .before .before .before .if4 .left) in
     let o = lt-leb (floatsOf (a .s) (a .height) (a .width)) (length (a .out .now)) (omega (arith, c .if5 .taken, counted (c .before))) in
-    (simp (e, g, k, l, o), simp (e, g, k, l, o))
+    settled (a .s) (length (a .rgb .now)) (a .height) (a .width) (length (a .out .now)) (simp (e, g, k, l, o)) (simp (e, g, k, l, o))
 
 -- what is handed on fits
 handed : (c : tie.Else5) → let a = c .before .before .before .before .before .before .before .before .before .before .before .before .args in
@@ -181,14 +185,14 @@ returns-6 c =
     let p = a .s .«patch_size» in
     let q = asked e in
     let y = e .before .before .side-of .ensures in
-    let x = e .before .side-of2 .ensures in (
-      cc (accepted (a .s) (length (a .rgb .now)) (a .height) (a .width) (length (a .out .now)) q, y, x),
-      c .before .before .resized-patches .ensures
-          ∙ W.written (a .rgb .now) (a .height) (a .width) _ _ p (a .out .now) (handed e)
-          ∙ ap (λ (t : ℕ). over (resizedPatches (a .rgb .now) (a .height) (a .width) t (e .before .side-of2 .result) p) (a .out .now)) y
-          ∙ ap (λ (t : ℕ). over (resizedPatches (a .rgb .now) (a .height) (a .width) (resized (a .s) (a .height)) t p) (a .out .now)) x
-          ∙ written (a .s) (a .rgb .now) (a .height) (a .width) (a .out .now) q,
-    )
+    let x = e .before .side-of2 .ensures in
+    settled (a .s) (length (a .rgb .now)) (a .height) (a .width) (length (a .out .now))
+    (cc (accepted (a .s) (length (a .rgb .now)) (a .height) (a .width) (length (a .out .now)) q, y, x))
+    (c .before .before .resized-patches .ensures
+    ∙ W.written (a .rgb .now) (a .height) (a .width) _ _ p (a .out .now) (handed e)
+    ∙ ap (λ (t : ℕ). over (resizedPatches (a .rgb .now) (a .height) (a .width) t (e .before .side-of2 .result) p) (a .out .now)) y
+    ∙ ap (λ (t : ℕ). over (resizedPatches (a .rgb .now) (a .height) (a .width) (resized (a .s) (a .height)) t p) (a .out .now)) x
+    ∙ written (a .s) (a .rgb .now) (a .height) (a .width) (a .out .now) q)
 
 pub pixtral-preprocess-spec : {M : Type 1} → statement M
 pixtral-preprocess-spec =

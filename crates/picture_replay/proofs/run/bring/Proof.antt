@@ -27,7 +27,7 @@ whole c =
     let p = c .before .before .before .before in
     let a = p .before .before .before .before .args in
     let e = p .restore .ensures in
-    answered (a .s) (a .patches .now) (a .grid-h) (a .grid-w) (a .out .now) _ (p .restore .result) (c .hash-bytes .result) (e .0) (e .1) (c .hash-bytes .ensures)
+    answered (a .s) (a .patches .now) (a .grid-h) (a .grid-w) (a .out .now) _ (p .restore .result) (c .hash-bytes .result) (e .0) (e .1 .0) (c .hash-bytes .ensures)
 
 restore-requires : tie.Need-restore-requires
 restore-requires c κs = search needs

@@ -27,7 +27,7 @@ whole c =
     let p = c .before .before .before .before in
     let a = p .before .before .before .before .args in
     let e = p .pixtral-preprocess .ensures in
-    answered (a .s) (a .rgb .now) (a .height) (a .width) (a .out .now) _ (p .pixtral-preprocess .result) (c .hash-floats .result) (e .0) (e .1) (c .hash-floats .ensures)
+    answered (a .s) (a .rgb .now) (a .height) (a .width) (a .out .now) _ (p .pixtral-preprocess .result) (c .hash-floats .result) (e .0) (e .1 .0) (c .hash-floats .ensures)
 
 pixtral-preprocess-requires : tie.Need-pixtral-preprocess-requires
 pixtral-preprocess-requires c κs = search needs
@@ -55,7 +55,7 @@ unfolding left
 returns c =
     let d = c .before .before .before in
     let p = d .before .before .before .before in
-    (ap (λ (a : Preprocessed). madeFrom a (d .hash-floats .result)) (sym (c .before .found .given .1)) ∙ whole d, p .pixtral-preprocess .ensures .1)
+    (ap (λ (a : Preprocessed). madeFrom a (d .hash-floats .result)) (sym (c .before .found .given .1)) ∙ whole d, p .pixtral-preprocess .ensures .1 .0)
 
 same-length-2 : tie.Need-same-length-2
 same-length-2 c = search needs
@@ -68,7 +68,7 @@ returns-2 c =
       ap (λ (n : ℕ). record { number = n; «grid_h» = 0; «grid_w» = 0; floats = 0; hash = d .hash-floats .result }) (c .number .ensures)
           ∙ ap (λ (a : Preprocessed). madeFrom a (d .hash-floats .result)) (sym (c .before .before .found2 .given .1))
           ∙ whole d,
-      p .pixtral-preprocess .ensures .1,
+      p .pixtral-preprocess .ensures .1 .0,
     )
 
 pub make-spec : {M : Type 1} → statement M

@@ -1,4 +1,4 @@
--- `restore::byte::byte_for` meets its contract: a sample's byte can only be its guess, and a NaN has none. Assumes nothing.
+-- `picture_restore::byte::byte_for` meets its contract: a sample's byte can only be its guess, and a NaN has none. Assumes nothing.
 use mathlib.Core.Path.{sym, ap, _∙_, subst}
 use native.Mathlib.Omega.{arith}
 use borrow.Author.Needs.{needs}

@@ -1,4 +1,4 @@
--- `restore::byte::guess` meets its contract: its sums are the definition's. Assumes nothing.
+-- `picture_restore::byte::guess` meets its contract: its sums are the definition's. Assumes nothing.
 use borrow.Author.Needs.{needs}
 use Rattle.picture_restore.specs.inner.Guess.{guessed}
 use Rattle.picture_restore.proofs.byte.guess.Statement.{statement}

@@ -75,7 +75,7 @@ text c =
     let rgb = a .rgb .now in
     let p = a .s .«patch_size» in
     let e : preprocessed (a .s) (length rgb) (a .height) (a .width) (floatsOf (a .s) (a .height) (a .width)) ≡ P.Patches (f .0) (f .1) (f .2) = sym (preprocess-room (a .s) (length rgb) (a .height) (a .width) room (fits (a .s) (a .height) (a .width) (c .before .before .before .before .before .before .before .before .pre .0))) ∙ answer c in
-    let t : lent c ≡ patchesOf (a .s) rgb (a .height) (a .width) = ap (λ (z : List Float). take (f .2) z) (c .before .before .before .before .pixtral-preprocess .ensures .1) ∙ patches-front (a .s) rgb (a .height) (a .width) room (f .0) (f .1) (f .2) _ (answer c) in
+    let t : lent c ≡ patchesOf (a .s) rgb (a .height) (a .width) = ap (λ (z : List Float). take (f .2) z) (c .before .before .before .before .pixtral-preprocess .ensures .1 .0) ∙ patches-front (a .s) rgb (a .height) (a .width) room (f .0) (f .1) (f .2) _ (answer c) in
     ap (preprocessedText (a .s) rgb (a .height) (a .width)) e ∙ sym (ap (λ (z : List Float). restoredText (a .s) (f .0) (f .1) (bytesOf (a .s) z (f .0) (f .1)) (restored (a .s) z (f .0) (f .1) (f .0 * p * (f .1 * p) * 3))) t)
 
 -- ---- where restore gives a picture
@@ -240,7 +240,7 @@ returns-3 c =
     let g = sides b in
     let m = a .s .«spatial_merge_size» in
     let e : restored (a .s) (lent k) (f .0) (f .1) _ ≡ R.Picture (g .0) (g .1) = sym (restore-room (a .s) (lent k) (f .0) (f .1) (length (replicate {A = ℕ} 12288 0)) (bytes-fit (a .s .«patch_size») (f .0) (f .1) (tall k) (wide k))) ∙ seen b in
-    let t = ap (λ (z : List ℕ). take (g .0 * (g .1 * 3)) z) (c .before .before .before .before .before .before .before .before .before .restore .ensures .1) ∙ bytes-back (a .s) (lent k) (f .0) (f .1) _ (g .0) (g .1) _ (seen b) in
+    let t = ap (λ (z : List ℕ). take (g .0 * (g .1 * 3)) z) (c .before .before .before .before .before .before .before .before .before .restore .ensures .1 .0) ∙ bytes-back (a .s) (lent k) (f .0) (f .1) _ (g .0) (g .1) _ (seen b) in
     wrote-as (ap (λ (z : List ℕ). gridLine (f .0) (f .1) (f .0 * f .1 / (m * m)) ++ rowLines (g .0) (g .1 * 3) z) t ∙ sym (text k ∙ ap (restoredText (a .s) (f .0) (f .1) (bytesOf (a .s) (lent k) (f .0) (f .1))) e)) (c .before .before .show .ensures)
 
 pub run-spec : {M : Type 1} → statement M
