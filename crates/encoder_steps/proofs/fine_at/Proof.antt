@@ -1,4 +1,4 @@
--- `steps::fine_at` meets its contract. Assumes nothing.
+-- `encoder_steps::fine_at` meets its contract. Assumes nothing.
 use borrow.Author.Needs.{needs}
 use Rattle.encoder_steps.specs.inner.Step.{fineAt}
 use Rattle.encoder_steps.proofs.fine_at.Statement.{statement}

@@ -1,4 +1,4 @@
--- `steps::fine_rows` meets its contract. Assumes nothing.
+-- `encoder_steps::fine_rows` meets its contract. Assumes nothing.
 use mathlib.Core.Path.{sym, ap, _∙_}
 use Prim.Native.Nat.{_+_, _*_}
 use native.Mathlib.Omega.{arith}

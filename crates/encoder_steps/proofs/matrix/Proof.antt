@@ -1,4 +1,4 @@
--- `steps::matrix` meets its contract. Assumes nothing.
+-- `encoder_steps::matrix` meets its contract. Assumes nothing.
 use mathlib.Core.Bool.{_&&_}
 use mathlib.Core.Path.{_≡_, refl, sym, ap, _∙_}
 use Prim.Native.Nat.{_+_, _*_}

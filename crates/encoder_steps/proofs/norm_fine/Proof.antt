@@ -1,4 +1,4 @@
--- `steps::norm_fine` meets its contract. Assumes nothing.
+-- `encoder_steps::norm_fine` meets its contract. Assumes nothing.
 use mathlib.Core.Bool.{_&&_}
 use mathlib.Core.Path.{ap}
 use borrow.Author.Needs.{needs}

@@ -1,4 +1,4 @@
--- `resize::blend_byte` meets its contract: its sum is the definition's. Assumes nothing.
+-- `picture_resize::blend_byte` meets its contract: its sum is the definition's. Assumes nothing.
 use mathlib.Core.Path.{_≡_}
 use borrow.Author.Needs.{needs}
 use Rattle.picture_resize.specs.Resize.{blend}

@@ -1,4 +1,4 @@
--- `resize::byte_of` meets its contract. Assumes nothing.
+-- `picture_resize::byte_of` meets its contract. Assumes nothing.
 use mathlib.Core.Path.{_≡_, refl, sym, ap, _∙_}
 use mathlib.Core.Bool.{Bool, true, false, not, cond, _&&_}
 use mathlib.Core.List.{List, [], _∷_, _++_}

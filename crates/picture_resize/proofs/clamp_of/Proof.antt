@@ -1,4 +1,4 @@
--- `resize::clamp_of` meets its contract. Assumes nothing.
+-- `picture_resize::clamp_of` meets its contract. Assumes nothing.
 use lib.Ieee.{ofBits, lt}
 use borrow.Author.Needs.{needs}
 use Rattle.picture_resize.proofs.clamp_of.Statement.{statement}

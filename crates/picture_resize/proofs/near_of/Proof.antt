@@ -1,4 +1,4 @@
--- `resize::near_of` meets its contract. Assumes nothing.
+-- `picture_resize::near_of` meets its contract. Assumes nothing.
 use mathlib.Core.Path.{_≡_, refl, sym, ap, _∙_}
 use Prim.Native.Nat.{ℕ, _+_, _*_, _-_, _≤_, _<_, min}
 use native.Mathlib.Omega.{arith}

@@ -1,4 +1,4 @@
--- `resize::whole_of` meets its contract. Assumes nothing.
+-- `picture_resize::whole_of` meets its contract. Assumes nothing.
 use Rattle.picture_resize.specs.Resize.{whole}
 use borrow.Author.Needs.{needs}
 use Rattle.picture_resize.proofs.whole_of.Statement.{statement}

@@ -1,4 +1,4 @@
--- `samples::samples` meets its contract: its constant is the table. Assumes nothing.
+-- `picture_samples::samples` meets its contract: its constant is the table. Assumes nothing.
 use mathlib.Core.Path.{_≡_}
 use Rattle.picture_samples.proofs.Table.{table, table-is}
 use Rattle.picture_samples.proofs.samples.Statement.{statement}

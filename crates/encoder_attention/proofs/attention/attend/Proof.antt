@@ -1,4 +1,4 @@
--- `attention::attention::attend` meets its contract. Assumes nothing.
+-- `encoder_attention::attention::attend` meets its contract. Assumes nothing.
 use mathlib.Core.Path.{_≡_, sym, ap, _∙_}
 use Prim.Native.Nat.{_*_}
 use native.Mathlib.Omega.{arith}

@@ -1,4 +1,4 @@
--- `attention::attention::attend_head` meets its contract. Assumes nothing.
+-- `encoder_attention::attention::attend_head` meets its contract. Assumes nothing.
 use mathlib.Core.Path.{_≡_, ap, _∙_}
 use Prim.Native.Nat.{ℕ, _+_, _*_}
 use native.Mathlib.Omega.{arith}

@@ -1,4 +1,4 @@
--- `attention::attention::inverse` meets its contract. Assumes nothing.
+-- `encoder_attention::attention::inverse` meets its contract. Assumes nothing.
 use Rattle.encoder_attention.proofs.attention.inverse.Statement.{statement}
 use Rattle.encoder_attention.proofs.attention.inverse.Tie as tie
 

@@ -1,4 +1,4 @@
--- `attention::attention::larger` meets its contract. Assumes nothing.
+-- `encoder_attention::attention::larger` meets its contract. Assumes nothing.
 use Rattle.encoder_attention.proofs.attention.larger.Statement.{statement}
 use Rattle.encoder_attention.proofs.attention.larger.Tie as tie
 

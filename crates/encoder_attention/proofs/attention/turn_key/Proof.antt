@@ -1,4 +1,4 @@
--- `attention::attention::turn_key` meets its contract: what it reads lies apart from what it has written. Assumes nothing.
+-- `encoder_attention::attention::turn_key` meets its contract: what it reads lies apart from what it has written. Assumes nothing.
 use mathlib.Core.Path.{_≡_, refl, ap, _∙_}
 use mathlib.Core.List.{List}
 use Prim.Native.Nat.{ℕ, _+_, _*_, _-_, _≤_, _<_}

@@ -1,4 +1,4 @@
--- `attention::attention::turn_keys` meets its contract: the columns are filled one after another. Assumes nothing.
+-- `encoder_attention::attention::turn_keys` meets its contract: the columns are filled one after another. Assumes nothing.
 use mathlib.Core.Path.{_≡_, refl, ap, _∙_}
 use mathlib.Core.List.{List}
 use Prim.Native.Nat.{ℕ, _+_, _*_, _-_, _≤_, _<_}

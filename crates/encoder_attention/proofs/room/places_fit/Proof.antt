@@ -1,4 +1,4 @@
--- `attention::room::places_fit` meets its contract. Assumes nothing.
+-- `encoder_attention::room::places_fit` meets its contract. Assumes nothing.
 use borrow.Author.Needs.{needs}
 use Rattle.encoder_attention.proofs.room.places_fit.Statement.{statement}
 use Rattle.encoder_attention.proofs.room.places_fit.Tie as tie

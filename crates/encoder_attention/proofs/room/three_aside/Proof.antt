@@ -1,4 +1,4 @@
--- `attention::room::three_aside` meets its contract. Assumes nothing.
+-- `encoder_attention::room::three_aside` meets its contract. Assumes nothing.
 use borrow.Author.Needs.{needs}
 use Rattle.encoder_attention.proofs.room.three_aside.Statement.{statement}
 use Rattle.encoder_attention.proofs.room.three_aside.Tie as tie

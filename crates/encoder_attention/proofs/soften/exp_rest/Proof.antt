@@ -1,4 +1,4 @@
--- `attention::soften::exp_rest` meets its contract. Assumes nothing.
+-- `encoder_attention::soften::exp_rest` meets its contract. Assumes nothing.
 use mathlib.Core.Path.{_≡_, ap, _∙_}
 use Prim.Native.Nat.{_-_, _≤_}
 use native.Mathlib.Omega.{arith}

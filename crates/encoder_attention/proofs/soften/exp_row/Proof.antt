@@ -1,4 +1,4 @@
--- `attention::soften::exp_row` meets its contract: sixteen by sixteen, and the rest behind them. Assumes nothing.
+-- `encoder_attention::soften::exp_row` meets its contract: sixteen by sixteen, and the rest behind them. Assumes nothing.
 use mathlib.Core.Path.{_≡_, refl, ap, _∙_}
 use mathlib.Core.List.{List}
 use Prim.Native.Nat.{ℕ, _+_, _-_, _≤_}

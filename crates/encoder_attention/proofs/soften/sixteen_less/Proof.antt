@@ -1,4 +1,4 @@
--- `attention::soften::sixteen_less` meets its contract. Assumes nothing.
+-- `encoder_attention::soften::sixteen_less` meets its contract. Assumes nothing.
 use mathlib.Core.Path.{_≡_, refl}
 use Prim.Native.Nat.{_+_, _-_, _≤_}
 use native.Mathlib.Omega.{arith}

@@ -1,4 +1,4 @@
--- `attention::soften::store_sixteen` meets its contract. Assumes nothing.
+-- `encoder_attention::soften::store_sixteen` meets its contract. Assumes nothing.
 use mathlib.Core.Path.{_≡_, refl, ap, _∙_}
 use Prim.Native.Nat.{ℕ, _-_, _≤_}
 use native.Mathlib.Omega.{arith}

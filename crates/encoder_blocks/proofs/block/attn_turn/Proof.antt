@@ -1,4 +1,4 @@
--- `blocks::block::attn_turn` meets its contract. Assumes nothing.
+-- `encoder_blocks::block::attn_turn` meets its contract. Assumes nothing.
 use borrow.Author.Needs.{needs}
 use Rattle.encoder_blocks.proofs.Lives.{attn-turn}
 use Rattle.encoder_blocks.proofs.block.attn_turn.Statement.{statement}

@@ -1,4 +1,4 @@
--- `blocks::block::norm1` meets its contract. Assumes nothing.
+-- `encoder_blocks::block::norm1` meets its contract. Assumes nothing.
 use mathlib.Core.Path.{ap, _∙_}
 use native.Mathlib.Omega.{arith}
 use borrow.Author.Needs.{needs}

@@ -1,4 +1,4 @@
--- `blocks::block::norm2` meets its contract. Assumes nothing.
+-- `encoder_blocks::block::norm2` meets its contract. Assumes nothing.
 use mathlib.Core.Path.{ap, _∙_}
 use Prim.Native.Nat.{_+_, _*_}
 use native.Mathlib.Omega.{arith}

@@ -1,4 +1,4 @@
--- `blocks::block::pixtral_block_forward` meets its contract. Assumes nothing.
+-- `encoder_blocks::block::pixtral_block_forward` meets its contract. Assumes nothing.
 use mathlib.Core.Path.{_∙_}
 use Rattle.encoder_blocks.proofs.Lives.{block-run}
 use Rattle.encoder_blocks.proofs.block.pixtral_block_forward.Statement.{statement}

@@ -1,4 +1,4 @@
--- `blocks::block::rotate_fine` meets its contract. Assumes nothing.
+-- `encoder_blocks::block::rotate_fine` meets its contract. Assumes nothing.
 use Prim.Native.Nat.{ℕ}
 use borrow.Author.Needs.{needs}
 use Rattle.buffers.specs.Region.{region}

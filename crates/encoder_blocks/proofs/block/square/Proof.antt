@@ -1,4 +1,4 @@
--- `blocks::block::square` meets its contract. Assumes nothing.
+-- `encoder_blocks::block::square` meets its contract. Assumes nothing.
 use Prim.Native.Nat.{_+_, _*_}
 use native.Mathlib.Omega.{arith}
 use borrow.Author.Needs.{needs}

@@ -1,4 +1,4 @@
--- `blocks::layers::each_layer` meets its contract. Assumes nothing.
+-- `encoder_blocks::layers::each_layer` meets its contract. Assumes nothing.
 use mathlib.Core.Path.{_≡_, refl, ap, _∙_}
 use Prim.Native.Nat.{ℕ, _+_, _*_, _-_, _≤_}
 use native.Mathlib.Nat.{suc-mul}

@@ -1,4 +1,4 @@
--- `blocks::layers::layers` meets its contract. Assumes nothing.
+-- `encoder_blocks::layers::layers` meets its contract. Assumes nothing.
 use mathlib.Core.Path.{sym, ap, _∙_}
 use Prim.Native.Nat.{_≤_}
 use native.Mathlib.Omega.{arith}

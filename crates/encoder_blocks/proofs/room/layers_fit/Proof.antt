@@ -1,4 +1,4 @@
--- `blocks::room::layers_fit` meets its contract. Assumes nothing.
+-- `encoder_blocks::room::layers_fit` meets its contract. Assumes nothing.
 use mathlib.Core.Path.{sym, _∙_}
 use borrow.Author.Needs.{needs}
 use Rattle.encoder_blocks.specs.inner.Room.{layersFit}

@@ -1,4 +1,4 @@
--- `blocks::room::lengths_fit` meets its contract. Assumes nothing.
+-- `encoder_blocks::room::lengths_fit` meets its contract. Assumes nothing.
 use native.Mathlib.Omega.{arith}
 use borrow.Author.Needs.{needs}
 use Rattle.encoder_blocks.specs.inner.Room.{lengthsFit}

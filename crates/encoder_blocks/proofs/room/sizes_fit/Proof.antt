@@ -1,4 +1,4 @@
--- `blocks::room::sizes_fit` meets its contract. Assumes nothing.
+-- `encoder_blocks::room::sizes_fit` meets its contract. Assumes nothing.
 use Prim.Native.Nat.{_*_, _≤_}
 use native.Mathlib.Nat.{mul-le-mul}
 use native.Mathlib.Omega.{arith}

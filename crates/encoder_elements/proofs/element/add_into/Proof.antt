@@ -1,4 +1,4 @@
--- `elements::element::add_into` meets its contract. Assumes nothing.
+-- `encoder_elements::element::add_into` meets its contract. Assumes nothing.
 use mathlib.Core.Path.{sym, _∙_}
 use Rattle.encoder_elements.proofs.Rooms.{pair-says}
 use borrow.Author.Needs.{needs}

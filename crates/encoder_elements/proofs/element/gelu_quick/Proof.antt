@@ -1,4 +1,4 @@
--- `elements::element::gelu_quick` meets its contract. Assumes nothing.
+-- `encoder_elements::element::gelu_quick` meets its contract. Assumes nothing.
 use borrow.Author.Needs.{needs}
 use Rattle.encoder_elements.specs.Element.{geluOf}
 use Rattle.encoder_elements.proofs.element.gelu_quick.Statement.{statement}

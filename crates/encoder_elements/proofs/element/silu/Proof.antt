@@ -1,4 +1,4 @@
--- `elements::element::silu` meets its contract. Assumes nothing.
+-- `encoder_elements::element::silu` meets its contract. Assumes nothing.
 use borrow.Author.Needs.{needs}
 use Rattle.encoder_elements.specs.Element.{siluOf}
 use Rattle.encoder_elements.proofs.element.silu.Statement.{statement}

@@ -1,4 +1,4 @@
--- `elements::room::pair_fits` meets its contract. Assumes nothing.
+-- `encoder_elements::room::pair_fits` meets its contract. Assumes nothing.
 use borrow.Author.Needs.{needs}
 use Rattle.encoder_elements.specs.inner.Room.{pairFits}
 use Rattle.encoder_elements.proofs.room.pair_fits.Statement.{statement}

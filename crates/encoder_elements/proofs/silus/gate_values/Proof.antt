@@ -1,4 +1,4 @@
--- `elements::silus::gate_values` meets its contract: sixteen by sixteen, and the rest behind them. Assumes nothing.
+-- `encoder_elements::silus::gate_values` meets its contract: sixteen by sixteen, and the rest behind them. Assumes nothing.
 use mathlib.Core.Path.{_≡_, ap, _∙_}
 use mathlib.Core.List.{List}
 use Prim.Native.Nat.{ℕ, _+_, _-_, _≤_}

@@ -1,4 +1,4 @@
--- `elements::silus::gate_wide` meets its contract. Assumes nothing.
+-- `encoder_elements::silus::gate_wide` meets its contract. Assumes nothing.
 use mathlib.Core.Path.{_≡_, ap, _∙_}
 use mathlib.Core.List.{List}
 use Prim.Native.Nat.{ℕ, _+_, _-_, _≤_}

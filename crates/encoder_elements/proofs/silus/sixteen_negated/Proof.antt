@@ -1,4 +1,4 @@
--- `elements::silus::sixteen_negated` meets its contract. Assumes nothing.
+-- `encoder_elements::silus::sixteen_negated` meets its contract. Assumes nothing.
 use mathlib.Core.Path.{_≡_, refl}
 use Prim.Native.Nat.{_+_, _-_, _≤_}
 use native.Mathlib.Omega.{arith}

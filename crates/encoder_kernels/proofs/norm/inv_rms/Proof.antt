@@ -1,4 +1,4 @@
--- `kernels::norm::inv_rms` meets its contract. Assumes nothing.
+-- `encoder_kernels::norm::inv_rms` meets its contract. Assumes nothing.
 use denote.Floats.{passes}
 use borrow.Author.Tests.{le-leb}
 use native.Mathlib.Omega.{arith}

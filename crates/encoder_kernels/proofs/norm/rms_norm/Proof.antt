@@ -1,4 +1,4 @@
--- `kernels::norm::rms_norm` meets its contract. Assumes nothing.
+-- `encoder_kernels::norm::rms_norm` meets its contract. Assumes nothing.
 use mathlib.Core.Path.{sym, _∙_}
 use Rattle.encoder_kernels.proofs.Rooms.{norm-says}
 use borrow.Author.Needs.{needs}

@@ -1,4 +1,4 @@
--- `kernels::rotate::rotate` meets its contract. Assumes nothing.
+-- `encoder_kernels::rotate::rotate` meets its contract. Assumes nothing.
 use mathlib.Core.Path.{sym, _∙_}
 use Rattle.encoder_kernels.proofs.Rooms.{rotate-says}
 use borrow.Author.Needs.{needs}

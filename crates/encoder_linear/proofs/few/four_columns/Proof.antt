@@ -1,4 +1,4 @@
--- `sums::few::four_columns` meets its contract: all four are gathered before any is spread. Assumes nothing.
+-- `encoder_linear::few::four_columns` meets its contract: all four are gathered before any is spread. Assumes nothing.
 use mathlib.Core.Path.{_≡_, ap, _∙_}
 use Prim.Native.Nat.{ℕ, _+_, _*_, _≤_, _<_}
 use native.Mathlib.Omega.{arith}

@@ -1,4 +1,4 @@
--- `sums::lanes::pack` meets its contract. Assumes nothing.
+-- `encoder_linear::lanes::pack` meets its contract. Assumes nothing.
 use mathlib.Core.Path.{_≡_, refl, ap, _∙_}
 use mathlib.Core.List.{List}
 use Prim.Native.Nat.{ℕ, _+_, _*_, _-_, _≤_}

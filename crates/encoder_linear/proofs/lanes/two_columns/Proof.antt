@@ -1,4 +1,4 @@
--- `sums::lanes::two_columns` meets its contract: both are gathered before either is spread. Assumes nothing.
+-- `encoder_linear::lanes::two_columns` meets its contract: both are gathered before either is spread. Assumes nothing.
 use mathlib.Core.Path.{_≡_, refl, ap, _∙_}
 use mathlib.Core.List.{List}
 use Prim.Native.Nat.{ℕ, _+_, _*_, _≤_, _<_}

@@ -1,4 +1,4 @@
--- `sums::linear::columns` meets its contract: columns that were written are not read again. Assumes nothing.
+-- `encoder_linear::linear::columns` meets its contract: columns that were written are not read again. Assumes nothing.
 use mathlib.Core.Path.{_≡_, refl, ap, _∙_}
 use Prim.Native.Nat.{_+_, _-_, _≤_}
 use native.Mathlib.Omega.{arith}

@@ -1,4 +1,4 @@
--- `sums::linear::linear_from` meets its contract. Assumes nothing.
+-- `encoder_linear::linear::linear_from` meets its contract. Assumes nothing.
 use mathlib.Core.Path.{sym, _∙_}
 use Rattle.encoder_linear.proofs.Rooms.{from-says}
 use borrow.Author.Needs.{needs}

@@ -1,4 +1,4 @@
--- `sums::linear::linear_no_bias_forward` meets its contract. Assumes nothing.
+-- `encoder_linear::linear::linear_no_bias_forward` meets its contract. Assumes nothing.
 use mathlib.Core.Path.{sym, _∙_}
 use Rattle.encoder_linear.proofs.Rooms.{linear-says}
 use borrow.Author.Needs.{needs}

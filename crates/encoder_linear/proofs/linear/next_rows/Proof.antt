@@ -1,4 +1,4 @@
--- `sums::linear::next_rows` meets its contract. Assumes nothing.
+-- `encoder_linear::linear::next_rows` meets its contract. Assumes nothing.
 use native.Mathlib.Omega.{arith}
 use borrow.Author.Needs.{needs}
 use Rattle.encoder_linear.proofs.linear.next_rows.Statement.{statement}

@@ -1,4 +1,4 @@
--- `sums::room::from_fits` meets its contract. Assumes nothing.
+-- `encoder_linear::room::from_fits` meets its contract. Assumes nothing.
 use borrow.Author.Needs.{needs}
 use Rattle.encoder_linear.specs.inner.Room.{fromFits}
 use Rattle.encoder_linear.proofs.room.from_fits.Statement.{statement}

@@ -1,4 +1,4 @@
--- `sums::weigh::column` meets its contract. Assumes nothing.
+-- `encoder_linear::weigh::column` meets its contract. Assumes nothing.
 use mathlib.Core.Path.{_≡_, refl, ap, _∙_}
 use Prim.Native.Nat.{_+_, _*_, _-_, _≤_}
 use native.Mathlib.Nat.{suc-mul}

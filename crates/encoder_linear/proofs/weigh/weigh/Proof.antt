@@ -1,4 +1,4 @@
--- `sums::weigh::weigh` meets its contract. Assumes nothing.
+-- `encoder_linear::weigh::weigh` meets its contract. Assumes nothing.
 use mathlib.Core.Path.{sym, _∙_}
 use Rattle.encoder_linear.proofs.Rooms.{weigh-says}
 use borrow.Author.Needs.{needs}

@@ -1,4 +1,4 @@
--- `sums::weigh::weigh_all` meets its contract: the sums sixteen by sixteen, and the rest behind them. Assumes nothing.
+-- `encoder_linear::weigh::weigh_all` meets its contract: the sums sixteen by sixteen, and the rest behind them. Assumes nothing.
 use borrow.Author.Needs.{needs}
 use Prim.Native.Nat.{ℕ, _+_, _*_, _-_, _≤_}
 use native.Mathlib.Nat.{add-assoc}

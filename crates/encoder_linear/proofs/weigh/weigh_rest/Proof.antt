@@ -1,4 +1,4 @@
--- `sums::weigh::weigh_rest` meets its contract. Assumes nothing.
+-- `encoder_linear::weigh::weigh_rest` meets its contract. Assumes nothing.
 use mathlib.Core.Path.{_≡_, sym, ap, _∙_}
 use mathlib.Core.List.{List}
 use Prim.Native.Nat.{ℕ, _+_, _*_, _-_, _≤_, _<_}

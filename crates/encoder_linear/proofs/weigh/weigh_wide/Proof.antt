@@ -1,4 +1,4 @@
--- `sums::weigh::weigh_wide` meets its contract: sixteen sums more, read past those before them. Assumes nothing.
+-- `encoder_linear::weigh::weigh_wide` meets its contract: sixteen sums more, read past those before them. Assumes nothing.
 use borrow.Author.Needs.{needs}
 use Prim.Native.Nat.{ℕ, _+_, _*_, _-_, _≤_, _<_}
 use native.Mathlib.Omega.{arith}

@@ -1,4 +1,4 @@
--- `sums::weigh::wide` meets its contract: each lane is a column of its own. Assumes nothing.
+-- `encoder_linear::weigh::wide` meets its contract: each lane is a column of its own. Assumes nothing.
 use borrow.Author.Needs.{needs}
 use Prim.Native.Nat.{ℕ, _+_, _*_, _-_, _≤_, _<_}
 use native.Mathlib.Omega.{arith}

@@ -1,4 +1,4 @@
--- `demands::settings::lengths` meets its contract. Assumes nothing.
+-- `encoder_settings::settings::lengths` meets its contract. Assumes nothing.
 use lib.Dec.{eqb}
 use borrow.Author.Tests.{le-leb, lt-leb, eq-eqb, ne-eqb, not-true, not-false}
 use mathlib.Core.Path.{_≡_}

@@ -1,4 +1,4 @@
--- `demands::settings::scale_allowed` meets its contract. Assumes nothing.
+-- `encoder_settings::settings::scale_allowed` meets its contract. Assumes nothing.
 use mathlib.Core.Path.{refl}
 use lib.Ieee.{div, lt, ofBits}
 use Rattle.encoder_settings.specs.Settings.{scalingAllowed}

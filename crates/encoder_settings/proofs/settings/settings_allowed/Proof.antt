@@ -1,4 +1,4 @@
--- `demands::settings::settings_allowed` meets its contract. Assumes nothing.
+-- `encoder_settings::settings::settings_allowed` meets its contract. Assumes nothing.
 use borrow.Author.Tests.{not-true, not-false}
 use mathlib.Core.Path.{_≡_, sym, _∙_}
 use mathlib.Core.Bool.{true}

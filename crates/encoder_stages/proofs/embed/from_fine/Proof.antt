@@ -1,4 +1,4 @@
--- `stages::embed::from_fine` meets its contract. Assumes nothing.
+-- `encoder_stages::embed::from_fine` meets its contract. Assumes nothing.
 use Prim.Native.Nat.{_*_}
 use borrow.Author.Needs.{needs}
 use Rattle.encoder_linear.specs.Linear.{linearOf}

@@ -1,4 +1,4 @@
--- `stages::embed::inputs_fine` meets its contract. Assumes nothing.
+-- `encoder_stages::embed::inputs_fine` meets its contract. Assumes nothing.
 use borrow.Author.Needs.{needs}
 use Rattle.encoder_stages.proofs.embed.inputs_fine.Statement.{statement}
 use Rattle.encoder_stages.proofs.embed.inputs_fine.Tie as tie

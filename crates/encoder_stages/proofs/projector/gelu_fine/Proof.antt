@@ -1,4 +1,4 @@
--- `stages::projector::gelu_fine` meets its contract. Assumes nothing.
+-- `encoder_stages::projector::gelu_fine` meets its contract. Assumes nothing.
 use Prim.Native.Nat.{_+_}
 use borrow.Author.Needs.{needs}
 use borrow.Author.Tests.{le-leb}

@@ -1,4 +1,4 @@
--- `stages::projector::projector_forward` meets its contract. Assumes nothing.
+-- `encoder_stages::projector::projector_forward` meets its contract. Assumes nothing.
 use mathlib.Core.Path.{ap, _∙_}
 use Prim.Native.Nat.{_+_, _*_}
 use native.Mathlib.Omega.{arith}

@@ -1,4 +1,4 @@
--- `stages::projector::source` meets its contract. Assumes nothing.
+-- `encoder_stages::projector::source` meets its contract. Assumes nothing.
 use mathlib.Core.Path.{refl}
 use native.Mathlib.Omega.{arith}
 use borrow.Author.Needs.{needs}

@@ -1,4 +1,4 @@
--- `stages::run::run` meets its contract. Assumes nothing.
+-- `encoder_stages::run::run` meets its contract. Assumes nothing.
 use mathlib.Core.Path.{_≡_, sym, ap, _∙_}
 use Prim.Native.Nat.{ℕ, _+_, _*_, _≤_}
 use native.Mathlib.Omega.{arith}

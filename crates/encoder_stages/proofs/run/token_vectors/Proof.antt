@@ -1,4 +1,4 @@
--- `stages::run::token_vectors` meets its contract. Assumes nothing.
+-- `encoder_stages::run::token_vectors` meets its contract. Assumes nothing.
 use mathlib.Core.Path.{sym, ap, _∙_}
 use borrow.Author.Needs.{needs}
 use lib.ListN.{length}

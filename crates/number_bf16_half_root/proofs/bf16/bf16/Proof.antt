@@ -1,4 +1,4 @@
--- `patterns::bf16::bf16` meets its contract: the two masks are a remainder and a cleared part (`lib.Bits`). Assumes nothing.
+-- `number_bf16_half_root::bf16::bf16` meets its contract: the two masks are a remainder and a cleared part (`lib.Bits`). Assumes nothing.
 use mathlib.Core.Path.{_≡_, ap, _∙_}
 use Prim.Native.Nat.{ℕ, _+_, _*_, _/_, _%_, _^_}
 use native.Mathlib.Nat.{mod-lt}

@@ -1,4 +1,4 @@
--- `patterns::bf16::bf16_f32` meets its contract. Assumes nothing.
+-- `number_bf16_half_root::bf16::bf16_f32` meets its contract. Assumes nothing.
 use mathlib.Core.Path.{_≡_, ap, _∙_}
 use borrow.Author.Needs.{needs}
 use lib.Ieee.{binary32, ofBits}

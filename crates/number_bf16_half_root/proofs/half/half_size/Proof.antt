@@ -1,4 +1,4 @@
--- `patterns::half::half_size` meets its contract. Assumes nothing.
+-- `number_bf16_half_root::half::half_size` meets its contract. Assumes nothing.
 use mathlib.Core.Path.{_≡_, refl, sym, ap, _∙_}
 use Prim.Native.Nat.{ℕ, _+_, _-_, _*_, _^_}
 use native.Mathlib.Omega.{arith}

@@ -1,4 +1,4 @@
--- `patterns::half::half_subnormal` meets its contract. The invariant: n is m shifted by as many places as the exponent fell. The measure is the exponent. Assumes nothing.
+-- `number_bf16_half_root::half::half_subnormal` meets its contract. The invariant: n is m shifted by as many places as the exponent fell. The measure is the exponent. Assumes nothing.
 use mathlib.Core.Path.{_≡_, refl, sym, ap, _∙_, subst}
 use mathlib.Core.Logic.{inl, inr}
 use Prim.Native.Nat.{ℕ, suc, _+_, _-_, _*_, _/_, _%_, _^_, _≤_, _<_}

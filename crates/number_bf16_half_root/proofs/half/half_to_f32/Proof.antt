@@ -1,4 +1,4 @@
--- `patterns::half::half_to_f32` meets its contract. Assumes nothing.
+-- `number_bf16_half_root::half::half_to_f32` meets its contract. Assumes nothing.
 use mathlib.Core.Path.{_≡_, ap, ap₂, _∙_}
 use Prim.Native.Nat.{ℕ, _+_, _*_, _/_, _%_, _^_, _<_}
 use native.Mathlib.Omega.{arith}

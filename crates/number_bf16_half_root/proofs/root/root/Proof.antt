@@ -1,4 +1,4 @@
--- `patterns::root::root` meets its contract: of a number, what it returns meets the statement over integers, which one f32 alone does. Assumes nothing.
+-- `number_bf16_half_root::root::root` meets its contract: of a number, what it returns meets the statement over integers, which one f32 alone does. Assumes nothing.
 use mathlib.Core.Path.{_≡_, sym, _∙_}
 use native.Mathlib.Omega.{arith}
 use borrow.Author.Needs.{needs}

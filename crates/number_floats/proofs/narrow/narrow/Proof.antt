@@ -1,4 +1,4 @@
--- `floats::narrow::narrow` meets its contract: what it returns meets the statement over integers, which one f32 alone does. Assumes nothing.
+-- `number_floats::narrow::narrow` meets its contract: what it returns meets the statement over integers, which one f32 alone does. Assumes nothing.
 use mathlib.Core.Path.{_≡_, refl, sym, ap, _∙_, subst}
 use Prim.Native.Nat.{ℕ, _+_, _*_, _/_, _%_, _^_, _≤_, _<_}
 use native.Mathlib.Nat.{lt-of-le-of-lt, not-le-of-lt, le-of-eq}

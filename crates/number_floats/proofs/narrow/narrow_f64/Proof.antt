@@ -1,4 +1,4 @@
--- `floats::narrow::narrow_f64` meets its contract: to the pattern and back is the float itself. Assumes nothing.
+-- `number_floats::narrow::narrow_f64` meets its contract: to the pattern and back is the float itself. Assumes nothing.
 use mathlib.Core.Path.{_≡_, sym, ap, _∙_, subst}
 use borrow.Author.Needs.{needs}
 use lib.Dec.{T}

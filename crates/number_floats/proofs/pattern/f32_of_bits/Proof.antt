@@ -1,4 +1,4 @@
--- `floats::pattern::f32_of_bits` meets its contract. Assumes nothing.
+-- `number_floats::pattern::f32_of_bits` meets its contract. Assumes nothing.
 use mathlib.Core.Path.{subst}
 use Prim.Native.Nat.{ℕ, _≤_, _<_}
 use borrow.Author.Needs.{needs}

@@ -1,4 +1,4 @@
--- `limits::settings::settings_allowed` meets its contract: its tests are the definition's. Assumes nothing.
+-- `picture_limits::settings::settings_allowed` meets its contract: its tests are the definition's. Assumes nothing.
 use borrow.Author.Needs.{needs}
 use Rattle.picture_limits.specs.Settings.{allowed}
 use Rattle.picture_limits.proofs.settings.settings_allowed.Statement.{statement}

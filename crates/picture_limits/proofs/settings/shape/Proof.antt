@@ -1,4 +1,4 @@
--- `limits::settings::shape` meets its contract. Each test that passes bounds the products of the next. Assumes nothing.
+-- `picture_limits::settings::shape` meets its contract. Each test that passes bounds the products of the next. Assumes nothing.
 use mathlib.Core.Path.{_≡_, sym, _∙_}
 use mathlib.Core.Bool.{true, _&&_}
 use native.Mathlib.Omega.{arith}
