@@ -44,7 +44,7 @@ fn processor_seconds() -> f64 {
 /// The fastest forward of each in some rounds; an error where one answer is not the Rust's.
 fn fastest(s: Settings, side: usize, rounds: usize) -> Result<Pair, String> {
     let c = sized(&mut Random(SEED), s, [side, side], 0.05);
-    let m = model(&c.s, &c.weights);
+    let m = model(&c);
     let mut best = [f64::INFINITY; 2];
     for _ in 0..rounds {
         let (mut scratch, mut out) = (c.scratch.clone(), c.out.clone());

@@ -1,8 +1,9 @@
 //! Compares libkyzgultam's kz_forward with the Rust, byte for byte.
 //!
-//! The Rust's functions are cut from its source, with E and T in the place of the platform's exp and tanh
-//! (`run` does it) and one thread. The order of stages that are examined for finite values, and the
-//! refusals, are stated here from the text of the paper.
+//! The Rust's `PixtralEncoder::forward`, the types and all that it calls are cut from its source, with E and T in
+//! the place of the platform's exp and tanh (`run` does it), one thread, and no log and no progress bar. The order of
+//! stages that are examined for finite values, and the refusals, are stated here from the text of the paper; what the
+//! stages come to is compared with the Rust's forward too.
 //!
 //!     encoder            edges, and random calls with a fixed seed
 //!     encoder --bench    times ours and the Rust, on one thread (bench.rs); with --quick, on small grids alone
@@ -18,42 +19,45 @@ mod sample;
 
 #[allow(dead_code)]
 mod rust {
-    pub struct RmsNorm {
-        pub weight: Vec<f32>,
-        pub dim: usize,
-        pub eps: f32,
-    }
-    pub struct LinearNoBias {
-        pub weight: Vec<f32>,
-        pub in_f: usize,
-        pub out_f: usize,
-    }
-    pub struct PixtralAttention {
-        pub q_proj: LinearNoBias,
-        pub k_proj: LinearNoBias,
-        pub v_proj: LinearNoBias,
-        pub o_proj: LinearNoBias,
-        pub num_heads: usize,
-        pub head_dim: usize,
-        pub scaling: f32,
-    }
-    pub struct PixtralMLP {
-        pub gate_proj: LinearNoBias,
-        pub up_proj: LinearNoBias,
-        pub down_proj: LinearNoBias,
-    }
-    pub struct PixtralBlock {
-        pub attention_norm: RmsNorm,
-        pub attn: PixtralAttention,
-        pub ffn_norm: RmsNorm,
-        pub ffn: PixtralMLP,
-    }
-    pub struct MultiModalProjector {
-        pub norm: RmsNorm,
-        pub merging_layer: LinearNoBias,
-        pub linear_1: LinearNoBias,
-        pub linear_2: LinearNoBias,
+    // What stands in the place of what is not cut: the settings that forward reads, the error, log lines and the
+    // progress bar.
+    pub struct PixtralVisionConfig {
+        pub hidden_size: usize,
+        pub patch_size: usize,
         pub spatial_merge_size: usize,
+    }
+
+    #[derive(Debug)]
+    pub enum HerbertError {
+        Backend(String),
+    }
+
+    type Result<T> = std::result::Result<T, HerbertError>;
+
+    macro_rules! debug {
+        ($($words:tt)*) => {};
+    }
+
+    mod indicatif {
+        pub struct ProgressStyle;
+        impl ProgressStyle {
+            pub fn with_template(_: &str) -> Option<Self> {
+                Some(Self)
+            }
+            pub fn progress_chars(self, _: &str) -> Self {
+                self
+            }
+        }
+        pub struct ProgressBar;
+        impl ProgressBar {
+            pub fn new(_: u64) -> Self {
+                Self
+            }
+            pub fn set_style(&self, _: ProgressStyle) {}
+            pub fn set_message(&self, _: String) {}
+            pub fn set_position(&self, _: u64) {}
+            pub fn finish_and_clear(&self) {}
+        }
     }
 
     fn num_threads() -> usize {
@@ -138,18 +142,12 @@ mod rust {
             pixtral_attention_forward(a, h, c, s, p, p.len(), &mut y);
             y
         }
-        pub fn block(b: &PixtralBlock, h: &mut [f32], c: &[f32], s: &[f32], p: &[usize]) {
-            let dim = h.len() / p.len();
-            pixtral_block_forward(b, h, c, s, p, p.len(), dim)
-        }
-        pub fn projector(m: &MultiModalProjector, h: &[f32], t: usize, grid: [usize; 2]) -> Vec<f32> {
-            projector_forward(m, h, t, h.len() / t, grid[0], grid[1])
-        }
     }
 }
 
 use rust::open;
-use rust::{LinearNoBias, MultiModalProjector, PixtralAttention, PixtralBlock, PixtralMLP, RmsNorm};
+use rust::{LinearNoBias, MultiModalProjector, PixtralAttention, PixtralBlock, PixtralEncoder, PixtralMLP};
+use rust::{PixtralOutput, PixtralVisionConfig, RmsNorm};
 
 #[repr(C)]
 #[derive(Clone, Copy, Debug)]
@@ -287,25 +285,20 @@ fn refusal(c: &Call) -> u32 {
     0
 }
 
-struct Model {
-    conv: LinearNoBias,
-    pre: RmsNorm,
-    blocks: Vec<PixtralBlock>,
-    projector: MultiModalProjector,
-}
-
-fn model(s: &Settings, weights: &[f32]) -> Model {
+/// The Rust's encoder of a call's settings, weights and tables.
+fn model(c: &Call) -> PixtralEncoder {
+    let s = &c.s;
     let (h, i, x) = (s.hidden_size, s.intermediate_size, s.text_hidden_size);
     let mut at = 0;
     let mut take = |n: usize| {
         at += n;
-        weights[at - n..at].to_vec()
+        c.weights[at - n..at].to_vec()
     };
     let norm = |weight| RmsNorm { weight, dim: h, eps: 1e-5 };
     let linear = |weight, out_f, in_f| LinearNoBias { weight, in_f, out_f };
     let f = 3 * s.patch_size * s.patch_size;
-    let conv = linear(take(h * f), h, f);
-    let pre = norm(take(h));
+    let patch_conv = linear(take(h * f), h, f);
+    let ln_pre = norm(take(h));
     let mut blocks = Vec::new();
     for _ in 0..s.num_layers {
         let attention_norm = norm(take(h));
@@ -334,7 +327,20 @@ fn model(s: &Settings, weights: &[f32]) -> Model {
         linear_2: linear(take(x * x), x, x),
         spatial_merge_size: s.spatial_merge_size,
     };
-    Model { conv, pre, blocks, projector }
+    PixtralEncoder {
+        config: PixtralVisionConfig {
+            hidden_size: h,
+            patch_size: s.patch_size,
+            spatial_merge_size: s.spatial_merge_size,
+        },
+        patch_conv,
+        ln_pre,
+        blocks,
+        projector,
+        rope_cos: c.cos.clone(),
+        rope_sin: c.sin.clone(),
+        max_patches_per_side: s.image_size / s.patch_size,
+    }
 }
 
 fn positions(c: &Call) -> Vec<usize> {
@@ -343,128 +349,119 @@ fn positions(c: &Call) -> Vec<usize> {
 }
 
 /// The Rust's forward.
-fn forward(c: &Call, m: &Model) -> Vec<f32> {
-    let p = positions(c);
-    let mut h = open::linear(&c.patches, &m.conv);
-    open::bf16(&mut h);
-    h = open::norm(&h, &m.pre);
-    open::bf16(&mut h);
-    for b in &m.blocks {
-        open::block(b, &mut h, &c.cos, &c.sin, &p);
-        open::bf16(&mut h);
-    }
-    open::projector(&m.projector, &h, p.len(), c.grid)
+fn forward(c: &Call, m: &PixtralEncoder) -> PixtralOutput {
+    m.forward(&c.patches, c.grid[0], c.grid[1]).expect("the Rust refuses what is not refused")
 }
 
-/// The stage at which a value is not finite, by its name.
-fn stops(c: &Call, m: &Model) -> Option<&'static str> {
+/// The rows by the stages one after another, or the name of the first at which a value is not finite.
+fn staged(c: &Call, m: &PixtralEncoder) -> Result<Vec<f32>, &'static str> {
     let fine = |name: &'static str, x: &[f32]| if x.iter().all(|v| v.is_finite()) { Ok(()) } else { Err(name) };
-    let run = || -> Result<(), &'static str> {
-        for (name, x) in [("patches", &c.patches), ("weights", &c.weights), ("cos", &c.cos), ("sin", &c.sin)] {
-            fine(name, x)?;
+    for (name, x) in [("patches", &c.patches), ("weights", &c.weights), ("cos", &c.cos), ("sin", &c.sin)] {
+        fine(name, x)?;
+    }
+    let p = positions(c);
+    let (d, dim, t) = (c.s.head_dim, c.s.hidden_size, p.len());
+    let mut h = open::linear(&c.patches, &m.patch_conv);
+    fine("patch projection", &h)?;
+    open::bf16(&mut h);
+    fine("its bf16", &h)?;
+    h = open::norm(&h, &m.ln_pre);
+    fine("ln_pre", &h)?;
+    open::bf16(&mut h);
+    fine("ln_pre's bf16", &h)?;
+    for b in &m.blocks {
+        let x = open::norm(&h, &b.attention_norm);
+        fine("norm", &x)?;
+        let mut q = open::linear(&x, &b.attn.q_proj);
+        fine("q", &q)?;
+        let mut k = open::linear(&x, &b.attn.k_proj);
+        fine("k", &k)?;
+        fine("v", &open::linear(&x, &b.attn.v_proj))?;
+        for (i, at) in p.iter().enumerate() {
+            let (cos, sin) = (&c.cos[at * d..(at + 1) * d], &c.sin[at * d..(at + 1) * d]);
+            for head in 0..c.s.num_heads {
+                let place = i * dim + head * d;
+                open::rotate(&mut q[place..place + d], cos, sin);
+                open::rotate(&mut k[place..place + d], cos, sin);
+            }
         }
-        let p = positions(c);
-        let (d, dim, t) = (c.s.head_dim, c.s.hidden_size, p.len());
-        let mut h = open::linear(&c.patches, &m.conv);
-        fine("patch projection", &h)?;
-        open::bf16(&mut h);
-        fine("its bf16", &h)?;
-        h = open::norm(&h, &m.pre);
-        fine("ln_pre", &h)?;
-        open::bf16(&mut h);
-        fine("ln_pre's bf16", &h)?;
-        for b in &m.blocks {
-            let x = open::norm(&h, &b.attention_norm);
-            fine("norm", &x)?;
-            let mut q = open::linear(&x, &b.attn.q_proj);
-            fine("q", &q)?;
-            let mut k = open::linear(&x, &b.attn.k_proj);
-            fine("k", &k)?;
-            fine("v", &open::linear(&x, &b.attn.v_proj))?;
-            for (i, at) in p.iter().enumerate() {
-                let (cos, sin) = (&c.cos[at * d..(at + 1) * d], &c.sin[at * d..(at + 1) * d]);
+        fine("rotated q", &q)?;
+        fine("rotated k", &k)?;
+        for i in 0..t {
+            for j in 0..t {
                 for head in 0..c.s.num_heads {
-                    let place = i * dim + head * d;
-                    open::rotate(&mut q[place..place + d], cos, sin);
-                    open::rotate(&mut k[place..place + d], cos, sin);
-                }
-            }
-            fine("rotated q", &q)?;
-            fine("rotated k", &k)?;
-            for i in 0..t {
-                for j in 0..t {
-                    for head in 0..c.s.num_heads {
-                        let mut dot = 0.0f32;
-                        for e in 0..d {
-                            dot += q[i * dim + head * d + e] * k[j * dim + head * d + e];
-                        }
-                        fine("scores", &[dot * c.s.scaling])?;
+                    let mut dot = 0.0f32;
+                    for e in 0..d {
+                        dot += q[i * dim + head * d + e] * k[j * dim + head * d + e];
                     }
+                    fine("scores", &[dot * c.s.scaling])?;
                 }
             }
-            // The attention's sums, through an o that hands its input on.
-            let mut one = vec![0.0; dim * dim];
-            (0..dim).for_each(|i| one[i * dim + i] = 1.0);
-            let through = |m: &LinearNoBias| LinearNoBias { weight: m.weight.clone(), in_f: m.in_f, out_f: m.out_f };
-            let plain = PixtralAttention {
-                q_proj: through(&b.attn.q_proj),
-                k_proj: through(&b.attn.k_proj),
-                v_proj: through(&b.attn.v_proj),
-                o_proj: LinearNoBias { weight: one, in_f: dim, out_f: dim },
-                ..b.attn
-            };
-            fine("attention sums", &open::attention(&plain, &x, &c.cos, &c.sin, &p))?;
-            let o = open::attention(&b.attn, &x, &c.cos, &c.sin, &p);
-            fine("o", &o)?;
-            h.iter_mut().zip(&o).for_each(|(a, b)| *a += b);
-            fine("residual", &h)?;
-            let x = open::norm(&h, &b.ffn_norm);
-            fine("second norm", &x)?;
-            let g = open::linear(&x, &b.ffn.gate_proj);
-            fine("gate", &g)?;
-            let u = open::linear(&x, &b.ffn.up_proj);
-            fine("up", &u)?;
-            let a: Vec<f32> = g.iter().zip(&u).map(|(g, u)| open::gate(*g, *u)).collect();
-            fine("silu * up", &a)?;
-            let y = open::linear(&a, &b.ffn.down_proj);
-            fine("down", &y)?;
-            h.iter_mut().zip(&y).for_each(|(a, b)| *a += b);
-            fine("second residual", &h)?;
-            open::bf16(&mut h);
-            fine("bf16", &h)?;
         }
-        let x = open::norm(&h, &m.projector.norm);
-        fine("projector norm", &x)?;
-        // The merge moves values; what follows it is the projector's own, through linear layers cut off one by one.
-        let (merge, gw) = (c.s.spatial_merge_size, c.grid[1]);
-        let mut merged = Vec::new();
-        for bh in 0..c.grid[0] / merge {
-            for bw in 0..gw / merge {
-                for e in 0..dim {
-                    for mh in 0..merge {
-                        for mw in 0..merge {
-                            merged.push(x[((bh * merge + mh) * gw + bw * merge + mw) * dim + e]);
-                        }
+        // The attention's sums, through an o that hands its input on.
+        let mut one = vec![0.0; dim * dim];
+        (0..dim).for_each(|i| one[i * dim + i] = 1.0);
+        let through = |m: &LinearNoBias| LinearNoBias { weight: m.weight.clone(), in_f: m.in_f, out_f: m.out_f };
+        let plain = PixtralAttention {
+            q_proj: through(&b.attn.q_proj),
+            k_proj: through(&b.attn.k_proj),
+            v_proj: through(&b.attn.v_proj),
+            o_proj: LinearNoBias { weight: one, in_f: dim, out_f: dim },
+            ..b.attn
+        };
+        let sums = open::attention(&plain, &x, &c.cos, &c.sin, &p);
+        fine("attention sums", &sums)?;
+        let o = open::linear(&sums, &b.attn.o_proj);
+        fine("o", &o)?;
+        h.iter_mut().zip(&o).for_each(|(a, b)| *a += b);
+        fine("residual", &h)?;
+        let x = open::norm(&h, &b.ffn_norm);
+        fine("second norm", &x)?;
+        let g = open::linear(&x, &b.ffn.gate_proj);
+        fine("gate", &g)?;
+        let u = open::linear(&x, &b.ffn.up_proj);
+        fine("up", &u)?;
+        let a: Vec<f32> = g.iter().zip(&u).map(|(g, u)| open::gate(*g, *u)).collect();
+        fine("silu * up", &a)?;
+        let y = open::linear(&a, &b.ffn.down_proj);
+        fine("down", &y)?;
+        h.iter_mut().zip(&y).for_each(|(a, b)| *a += b);
+        fine("second residual", &h)?;
+        open::bf16(&mut h);
+        fine("bf16", &h)?;
+    }
+    let x = open::norm(&h, &m.projector.norm);
+    fine("projector norm", &x)?;
+    // The merge moves values; what follows it is the projector's own, through linear layers cut off one by one.
+    let (merge, gw) = (c.s.spatial_merge_size, c.grid[1]);
+    let mut merged = Vec::new();
+    for bh in 0..c.grid[0] / merge {
+        for bw in 0..gw / merge {
+            for e in 0..dim {
+                for mh in 0..merge {
+                    for mw in 0..merge {
+                        merged.push(x[((bh * merge + mh) * gw + bw * merge + mw) * dim + e]);
                     }
                 }
             }
         }
-        let a = open::linear(&merged, &m.projector.merging_layer);
-        fine("merging_layer", &a)?;
-        let mut b = open::linear(&a, &m.projector.linear_1);
-        fine("linear_1", &b)?;
-        open::gelu(&mut b);
-        fine("gelu", &b)?;
-        fine("linear_2", &open::linear(&b, &m.projector.linear_2))
-    };
-    run().err()
+    }
+    let a = open::linear(&merged, &m.projector.merging_layer);
+    fine("merging_layer", &a)?;
+    let mut b = open::linear(&a, &m.projector.linear_1);
+    fine("linear_1", &b)?;
+    open::gelu(&mut b);
+    fine("gelu", &b)?;
+    let rows = open::linear(&b, &m.projector.linear_2);
+    fine("linear_2", &rows)?;
+    Ok(rows)
 }
 
 /// What the Rust answers: the number, with the stage at which a value is not finite, or the rows.
 struct Answer {
     number: u32,
     stage: Option<&'static str>,
-    rows: Option<Vec<f32>>,
+    rows: Option<PixtralOutput>,
 }
 
 fn answer(c: &Call) -> Answer {
@@ -472,10 +469,15 @@ fn answer(c: &Call) -> Answer {
     if number != 0 {
         return Answer { number, stage: None, rows: None };
     }
-    let m = model(&c.s, &c.weights);
-    match stops(c, &m) {
-        Some(stage) => Answer { number: 12, stage: Some(stage), rows: None },
-        None => Answer { number: 0, stage: None, rows: Some(forward(c, &m)) },
+    let m = model(c);
+    match staged(c, &m) {
+        Err(stage) => Answer { number: 12, stage: Some(stage), rows: None },
+        Ok(rows) => {
+            let whole = forward(c, &m);
+            let same = bits(&rows) == bits(&whole.hidden_states);
+            assert!(same, "the stages do not come to the Rust's forward: {:?} grid {:?}", c.s, c.grid);
+            Answer { number: 0, stage: None, rows: Some(whole) }
+        }
     }
 }
 
@@ -483,8 +485,8 @@ fn answer(c: &Call) -> Answer {
 fn left(c: &Call, a: &Answer) -> (usize, Vec<f32>, Vec<f32>) {
     let (mut out, mut tokens) = (c.out.clone(), 0);
     if let Some(rows) = &a.rows {
-        tokens = rows.len() / c.s.text_hidden_size;
-        out[..rows.len()].copy_from_slice(rows);
+        tokens = rows.num_tokens;
+        out[..rows.hidden_states.len()].copy_from_slice(&rows.hidden_states);
     }
     let work = if a.number == 0 || a.number == 12 { vec![0.0; c.scratch.len()] } else { c.scratch.clone() };
     (tokens, out, work)
