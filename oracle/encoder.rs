@@ -5,17 +5,19 @@
 //! stages that are examined for finite values, and the refusals, are stated here from the text of the paper; what the
 //! stages come to is compared with the Rust's forward too.
 //!
-//!     encoder            edges, and random calls with a fixed seed
+//!     encoder            edges, a call for each stage (stages.rs), and random calls with a fixed seed
 //!     encoder --bench    times ours and the Rust, on one thread (bench.rs); with --quick, on small grids alone
 //!     encoder --sample   prints the Rust's answers as crates/encoder_replay/stdin holds them
 
-use std::collections::BTreeMap;
+use std::collections::{BTreeMap, BTreeSet};
 use std::io::Write;
 
 #[path = "bench.rs"]
 mod bench;
 #[path = "sample.rs"]
 mod sample;
+#[path = "stages.rs"]
+mod stages;
 
 #[allow(dead_code)]
 mod rust {
@@ -353,9 +355,13 @@ fn forward(c: &Call, m: &PixtralEncoder) -> PixtralOutput {
     m.forward(&c.patches, c.grid[0], c.grid[1]).expect("the Rust refuses what is not refused")
 }
 
-/// The rows by the stages one after another, or the name of the first at which a value is not finite.
-fn staged(c: &Call, m: &PixtralEncoder) -> Result<Vec<f32>, &'static str> {
-    let fine = |name: &'static str, x: &[f32]| if x.iter().all(|v| v.is_finite()) { Ok(()) } else { Err(name) };
+/// The rows by the stages one after another, or the name of the first at which a value is not finite; and the names
+/// of those that were examined.
+fn staged(c: &Call, m: &PixtralEncoder, examined: &mut Vec<&'static str>) -> Result<Vec<f32>, &'static str> {
+    let mut fine = |name: &'static str, x: &[f32]| {
+        examined.push(name);
+        if x.iter().all(|v| v.is_finite()) { Ok(()) } else { Err(name) }
+    };
     for (name, x) in [("patches", &c.patches), ("weights", &c.weights), ("cos", &c.cos), ("sin", &c.sin)] {
         fine(name, x)?;
     }
@@ -387,6 +393,7 @@ fn staged(c: &Call, m: &PixtralEncoder) -> Result<Vec<f32>, &'static str> {
         }
         fine("rotated q", &q)?;
         fine("rotated k", &k)?;
+        let mut scores = Vec::new();
         for i in 0..t {
             for j in 0..t {
                 for head in 0..c.s.num_heads {
@@ -394,10 +401,11 @@ fn staged(c: &Call, m: &PixtralEncoder) -> Result<Vec<f32>, &'static str> {
                     for e in 0..d {
                         dot += q[i * dim + head * d + e] * k[j * dim + head * d + e];
                     }
-                    fine("scores", &[dot * c.s.scaling])?;
+                    scores.push(dot * c.s.scaling);
                 }
             }
         }
+        fine("scores", &scores)?;
         // The attention's sums, through an o that hands its input on.
         let mut one = vec![0.0; dim * dim];
         (0..dim).for_each(|i| one[i * dim + i] = 1.0);
@@ -470,7 +478,7 @@ fn answer(c: &Call) -> Answer {
         return Answer { number, stage: None, rows: None };
     }
     let m = model(c);
-    match staged(c, &m) {
+    match staged(c, &m, &mut Vec::new()) {
         Err(stage) => Answer { number: 12, stage: Some(stage), rows: None },
         Ok(rows) => {
             let whole = forward(c, &m);
@@ -529,7 +537,8 @@ struct Tally {
 }
 
 impl Tally {
-    fn compare(&mut self, c: &Call) {
+    /// The stage that the call stops at.
+    fn compare(&mut self, c: &Call) -> Option<&'static str> {
         let a = answer(c);
         let number = a.number;
         if let Some(stage) = a.stage {
@@ -547,6 +556,22 @@ impl Tally {
                 println!("encoder: {:?} grid {:?}: {report:?}, expected {number} with {tokens}", c.s, c.grid);
             }
         }
+        a.stage
+    }
+
+    /// Whether the stages that are examined, and those that calls stopped at, are those of stages.rs.
+    fn every_stage(&self) -> bool {
+        let calm = &stages::calls(&mut Random(SEED))[0].1;
+        let mut examined = Vec::new();
+        let accepted = staged(calm, &model(calm), &mut examined).is_ok();
+        let reached: BTreeSet<_> = self.stages.keys().copied().collect();
+        let every = accepted
+            && examined == stages::examined(calm.s.num_layers)
+            && reached == stages::reachable().into_iter().collect();
+        if !every {
+            println!("encoder: not the stages of stages.rs: examined {examined:?}, stopped at {reached:?}");
+        }
+        every
     }
 }
 
@@ -685,12 +710,24 @@ fn edges_and_random() -> bool {
         tally.compare(&sized(&mut r, s, grid, 1.0));
     }
     tally.compare(&sized(&mut r, real(4), [2, 2], 0.05));
+    for (stage, c) in stages::calls(&mut r) {
+        let stopped = tally.compare(&c);
+        if stopped != stage {
+            tally.differ += 1;
+            println!("encoder: a call that is to stop at {stage:?} stops at {stopped:?}");
+        }
+    }
+    let all = tally.every_stage();
     eprintln!("encoder: numbers {:?}, stages {:?}", tally.numbers, tally.stages);
     println!(
-        "encoder: {} forward calls compared with the Rust, {} accepted; {} differ",
-        tally.calls, tally.accepted, tally.differ
+        "encoder: {} forward calls compared with the Rust, {} accepted, stopped at {} stages of {}; {} differ",
+        tally.calls,
+        tally.accepted,
+        tally.stages.len(),
+        stages::examined(1).len(),
+        tally.differ
     );
-    tally.differ == 0
+    all && tally.differ == 0
 }
 
 // --- The sample ---
