@@ -1,6 +1,8 @@
 //! A seeded generator, and encoders and pictures made from it.
 #![allow(dead_code)]
 
+pub mod tool;
+
 use kyzgultam::{EncoderSettings, PictureSettings};
 
 pub struct Random(pub u64);
