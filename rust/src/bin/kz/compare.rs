@@ -5,6 +5,7 @@ use crate::fail::Fail;
 use crate::given::Given;
 use crate::netpbm::{ppm, Picture};
 use crate::png::png;
+use crate::shown::shown;
 use crate::{files, paint, say};
 use kyzgultam::{patch, restore};
 
@@ -31,7 +32,7 @@ pub fn run(given: &Given) -> Result<(), Fail> {
     let grid = first.cut(a, &settings)?;
     let other = second.cut(b, &settings)?;
     if grid != other {
-        let (a, b) = (a.display(), b.display());
+        let (a, b) = (shown(a), shown(b));
         return Err(Fail::Refused(format!(
             "{a} has a grid of {}x{} patches and {b} one of {}x{}; compare pictures of one size",
             grid.0, grid.1, other.0, other.1
@@ -56,7 +57,7 @@ pub fn run(given: &Given) -> Result<(), Fail> {
         let netpbm = out.extension().is_some_and(|e| e == "ppm");
         let bytes = if netpbm { ppm } else { png }(map.height, map.width, &map.rgb);
         files::write(&out, &bytes, given.force)?;
-        say(format_args!("{}: the patches that differ are red", out.display()));
+        say(format_args!("{}: the patches that differ are red", shown(&out)));
     }
     Ok(())
 }

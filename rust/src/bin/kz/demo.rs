@@ -5,6 +5,7 @@ use crate::given::Given;
 use crate::model::{refused_settings, Model};
 use crate::netpbm::{ppm, Picture};
 use crate::png::png;
+use crate::shown::shown;
 use crate::{files, paint, say, sweep};
 use std::path::PathBuf;
 use std::time::Instant;
@@ -39,7 +40,7 @@ pub fn run(given: &Given) -> Result<(), Fail> {
     let write = |name: &str, bytes: Vec<u8>, words: String| {
         let file = folder.join(name);
         files::write(&file, &bytes, given.force)?;
-        say(format_args!("{:<24} {words}", file.display()));
+        say(format_args!("{:<24} {words}", shown(&file)));
         Ok::<(), Fail>(())
     };
     let picture = |p: &Picture| png(p.height, p.width, &p.rgb);

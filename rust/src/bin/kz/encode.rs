@@ -4,9 +4,11 @@ use crate::fail::Fail;
 use crate::given::Given;
 use crate::model::{refused_settings, Model};
 use crate::progress::Progress;
+use crate::shown::shown;
 use crate::{files, netpbm};
 use kyzgultam::{pixtral_preprocess, PictureSettings, Refusal};
 use std::collections::BTreeMap;
+use std::ffi::{OsStr, OsString};
 use std::path::{Path, PathBuf};
 
 pub const ENCODE: &str = "\
@@ -67,13 +69,13 @@ pub fn encode(given: &Given) -> Result<(), Fail> {
     let (mut cutter, mut scratch) = (Cutter::default(), vec![]);
     each(given, &folder, &names, |file, name| {
         let grid = cutter.cut(file, &model.settings.picture)?;
-        let out = folder.join(format!("{name}.{}x{}.tokens", grid.0 / merge, grid.1 / merge));
+        let out = folder.join(ending(name, format!(".{}x{}.tokens", grid.0 / merge, grid.1 / merge)));
         files::vacant(&out, given.force)?;
         let tokens = model.forward(&cutter.patches, grid, &mut scratch);
         let tokens = tokens.map_err(|refusal| Fail::call(file, refusal, model.advice(refusal)))?;
         files::write(&out, &files::bytes(&tokens), given.force)?;
         let (count, text) = (grid.0 * grid.1 / (merge * merge), model.settings.text_hidden_size);
-        Ok(format!("{}: {count} tokens of {text} floats", out.display()))
+        Ok(format!("{}: {count} tokens of {text} floats", shown(&out)))
     })
 }
 
@@ -85,36 +87,42 @@ pub fn patches(given: &Given) -> Result<(), Fail> {
     let mut cutter = Cutter::default();
     each(given, &folder, &names, |file, name| {
         let grid = cutter.cut(file, &settings)?;
-        let out = folder.join(format!("{name}.{}x{}.patches", grid.0, grid.1));
+        let out = folder.join(ending(name, format!(".{}x{}.patches", grid.0, grid.1)));
         files::write(&out, &files::bytes(&cutter.patches), given.force)?;
-        Ok(format!("{}: {} patches of {} floats", out.display(), grid.0 * grid.1, 3 * settings.patch_size.pow(2)))
+        Ok(format!("{}: {} patches of {} floats", shown(&out), grid.0 * grid.1, 3 * settings.patch_size.pow(2)))
     })
 }
 
 /// The sweeps' names without folder and ending. Two alike would be written to one file.
-fn names(sweeps: &[PathBuf]) -> Result<Vec<String>, Fail> {
+fn names(sweeps: &[PathBuf]) -> Result<Vec<OsString>, Fail> {
     if sweeps.is_empty() {
         return Err(Fail::usage("no SWEEP.ppm is given"));
     }
     let mut seen = BTreeMap::new();
     let mut names = Vec::new();
     for sweep in sweeps {
-        let name = sweep.file_stem().unwrap_or(sweep.as_os_str()).to_string_lossy().into_owned();
-        if let Some(other) = seen.insert(name.clone(), sweep) {
-            let (a, b) = (other.display(), sweep.display());
+        let stem = sweep.file_stem().ok_or_else(|| Fail::usage(format!("{}: is no name of a file", shown(sweep))))?;
+        if let Some(other) = seen.insert(stem, sweep) {
+            let (a, b) = (shown(other), shown(sweep));
             return Err(Fail::usage(format!("{a} and {b} would be written to the same file; give them apart")));
         }
-        names.push(name);
+        names.push(stem.to_os_string());
     }
     Ok(names)
+}
+
+fn ending(name: &OsStr, ending: String) -> OsString {
+    let mut name = name.to_os_string();
+    name.push(ending);
+    name
 }
 
 /// Does the work for each sweep. One that is refused is named, and the others are still done.
 fn each(
     given: &Given,
     folder: &Path,
-    names: &[String],
-    mut work: impl FnMut(&Path, &str) -> Result<String, Fail>,
+    names: &[OsString],
+    mut work: impl FnMut(&Path, &OsStr) -> Result<String, Fail>,
 ) -> Result<(), Fail> {
     files::folder(folder)?;
     let mut progress = Progress::new(given.files.len());

@@ -1,5 +1,6 @@
 //! Why a command ended early, in words for the person who gave it.
 
+use crate::shown::shown;
 use kyzgultam::Refusal;
 use std::fmt;
 use std::path::Path;
@@ -17,7 +18,7 @@ impl Fail {
     }
 
     pub fn file(file: &Path, words: impl fmt::Display) -> Fail {
-        Fail::Refused(format!("{}: {words}", file.display()))
+        Fail::Refused(format!("{}: {words}", shown(file)))
     }
 
     /// A call's refusal, about a file.

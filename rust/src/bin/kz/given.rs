@@ -1,12 +1,44 @@
 //! What stands on the command line after the command.
 
 use crate::fail::Fail;
+use crate::shown::shown;
 use kyzgultam::{EncoderSettings, PictureSettings};
 use std::ffi::{OsStr, OsString};
+use std::os::unix::ffi::OsStrExt;
 use std::path::PathBuf;
 
 /// The options without a value.
 const BARE: [&str; 2] = ["--force", "--quick"];
+
+/// Whether a word is an option, known or not. A single - is a name.
+fn dashed(word: &OsStr) -> bool {
+    word.as_bytes().starts_with(b"-") && word.len() > 1
+}
+
+/// An option and, where it is joined by =, its value.
+fn parted(word: &OsStr) -> (&OsStr, Option<&OsStr>) {
+    let bytes = word.as_bytes();
+    match bytes.iter().position(|b| *b == b'=') {
+        Some(at) => (OsStr::from_bytes(&bytes[..at]), Some(OsStr::from_bytes(&bytes[at + 1..]))),
+        None => (word, None),
+    }
+}
+
+/// An option's value. One that looks like an option is refused: it is more often a value that was forgotten.
+fn value_of(name: &str, value: Option<&OsStr>) -> Result<OsString, Fail> {
+    match value {
+        None => Err(Fail::usage(format!("{name} needs a value"))),
+        Some(value) if dashed(value) => {
+            let value = shown(value);
+            let words = format!("{name} needs a value, and {value} looks like an option; a name is given as ./{value}");
+            Err(Fail::usage(words))
+        }
+        Some(value) if value.is_empty() && name != "--settings" => {
+            Err(Fail::usage(format!("{name} needs a value, and an empty one is given")))
+        }
+        Some(value) => Ok(value.to_os_string()),
+    }
+}
 
 /// Files, and options with their values. An option with a value is given once.
 pub struct Given {
@@ -21,27 +53,23 @@ impl Given {
         let mut given = Given { files: vec![], force: false, quick: false, options: vec![] };
         let mut words = words.iter();
         while let Some(word) = words.next() {
-            let text = word.to_str().unwrap_or("");
-            if text == "--" {
+            if word == "--" {
                 given.files.extend(words.by_ref().map(PathBuf::from));
-            } else if BARE.contains(&text) && known.contains(&text) {
-                given.force |= text == "--force";
-                given.quick |= text == "--quick";
-            } else if text.starts_with('-') && text.len() > 1 {
-                let (name, joined) = match text.split_once('=') {
-                    Some((name, value)) => (name, Some(OsString::from(value))),
-                    None => (text, None),
-                };
-                let name = if name == "--out" { "-o" } else { name };
-                let known = known.iter().find(|k| **k == name && !BARE.contains(&name));
-                let name = *known.ok_or_else(|| Fail::usage(format!("no option {text} here")))?;
+            } else if !dashed(word) {
+                given.files.push(PathBuf::from(word));
+            } else if BARE.iter().any(|bare| word == bare && known.contains(bare)) {
+                given.force |= word == "--force";
+                given.quick |= word == "--quick";
+            } else {
+                let (name, joined) = parted(word);
+                let name = if name == "--out" { OsStr::new("-o") } else { name };
+                let known = known.iter().find(|k| name == **k && !BARE.contains(k));
+                let name = *known.ok_or_else(|| Fail::usage(format!("no option {} here", shown(word))))?;
                 if given.option(name).is_some() {
                     return Err(Fail::usage(format!("{name} is given twice")));
                 }
-                let value = joined.or_else(|| words.next().cloned());
-                given.options.push((name, value.ok_or_else(|| Fail::usage(format!("{name} needs a value")))?));
-            } else {
-                given.files.push(PathBuf::from(word));
+                let value = joined.or_else(|| words.next().map(OsString::as_os_str));
+                given.options.push((name, value_of(name, value)?));
             }
         }
         Ok(given)
@@ -79,7 +107,7 @@ impl Given {
         let list = self.option("--settings").map(|v| v.to_string_lossy().into_owned()).unwrap_or_default();
         for pair in list.split(',').filter(|pair| !pair.is_empty()) {
             let (key, value) = pair.split_once('=').unwrap_or((pair, ""));
-            let bad = || Fail::usage(format!("--settings: {pair}: {KEYS}"));
+            let bad = || Fail::usage(format!("--settings: {}: {KEYS}", shown(pair)));
             if key == "scale" {
                 scale = Some(value.parse().map_err(|_| bad())?);
                 continue;

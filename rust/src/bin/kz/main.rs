@@ -13,6 +13,7 @@ mod paint;
 mod png;
 mod progress;
 mod restore;
+mod shown;
 mod sweep;
 
 use fail::Fail;
@@ -71,8 +72,7 @@ fn run(words: &[OsString]) -> Result<(), Fail> {
         return Ok(());
     }
     let command = COMMANDS.iter().find(|(name, ..)| first == name);
-    let (_, help, known, work) =
-        command.ok_or_else(|| Fail::usage(format!("no command {}", first.to_string_lossy())))?;
+    let (_, help, known, work) = command.ok_or_else(|| Fail::usage(format!("no command {}", shown::shown(first))))?;
     if rest.iter().take_while(|w| *w != "--").any(|w| is(w, &["--help", "-h"])) {
         say(format_args!("{}", help.trim_end()));
         return Ok(());

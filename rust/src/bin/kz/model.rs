@@ -3,6 +3,7 @@
 use crate::fail::{numbered, Fail};
 use crate::files;
 use crate::given::Given;
+use crate::shown::shown;
 use kyzgultam::{EncoderSettings, PixtralEncoder, Refusal};
 use std::path::{Path, PathBuf};
 
@@ -53,7 +54,7 @@ impl Model {
         let odd = |floats: &[f32]| floats.iter().position(|x| !x.is_finite());
         let tables = odd(&self.cos).or(odd(&self.sin).map(|i| self.cos.len() + i));
         let place = |file: &Option<PathBuf>, i: usize| match file {
-            Some(file) => format!("float {i} of {} is not; write that file again", file.display()),
+            Some(file) => format!("float {i} of {} is not; write that file again", shown(file)),
             None => "the built-in weights are too large for these --settings; give --weights".into(),
         };
         match (refusal, odd(&self.weights), tables) {

@@ -1,6 +1,8 @@
 //! A line on standard error that says how far a long list is, where a person looks on.
 
 use crate::say;
+use crate::shown::shown;
+use std::ffi::OsStr;
 use std::io::{stderr, IsTerminal, Write};
 use std::time::Instant;
 
@@ -18,7 +20,7 @@ impl Progress {
     }
 
     /// The next piece of work begins.
-    pub fn at(&mut self, name: &str) {
+    pub fn at(&mut self, name: &OsStr) {
         if self.shown {
             let left = match self.done {
                 0 => String::new(),
@@ -28,7 +30,7 @@ impl Progress {
                 }
             };
             let percent = 100 * self.done / self.total;
-            let name: String = name.chars().take(30).collect();
+            let name: String = shown(name).to_string().chars().take(30).collect();
             let _ = write!(stderr(), "\r\x1b[K{}/{} ({percent}%) {name}{left}", self.done + 1, self.total);
             let _ = stderr().flush();
         }

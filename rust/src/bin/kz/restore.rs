@@ -4,6 +4,7 @@ use crate::fail::Fail;
 use crate::given::{sides, Given};
 use crate::model::refused_settings;
 use crate::netpbm::ppm;
+use crate::shown::shown;
 use crate::{files, say};
 use kyzgultam::Refusal;
 use std::path::Path;
@@ -25,10 +26,7 @@ pub fn run(given: &Given) -> Result<(), Fail> {
     let settings = given.settings()?.picture;
     let grid = given.sides("--grid")?.or_else(|| grid_of(file));
     let (grid_h, grid_w) = grid.ok_or_else(|| {
-        Fail::usage(format!(
-            "{}: its name does not say the grid (as NAME.36x48.patches); give --grid HxW",
-            file.display()
-        ))
+        Fail::usage(format!("{}: its name does not say the grid (as NAME.36x48.patches); give --grid HxW", shown(file)))
     })?;
     files::vacant(&out, given.force)?;
     let bytes = files::read(file)?;
@@ -43,7 +41,7 @@ pub fn run(given: &Given) -> Result<(), Fail> {
         _ => Fail::call(file, refusal, advice),
     })?;
     files::write(&out, &ppm(size.height, size.width, &rgb), given.force)?;
-    say(format_args!("{}: {}x{}", out.display(), size.height, size.width));
+    say(format_args!("{}: {}x{}", shown(&out), size.height, size.width));
     Ok(())
 }
 
