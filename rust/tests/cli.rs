@@ -250,12 +250,6 @@ fn nothing_is_overwritten() {
         folder.done(&format!("{words} {LIST} --force"));
         assert_ne!(folder.get(file), b"precious");
     }
-    // A name that leads nowhere is taken too.
-    #[cfg(unix)]
-    {
-        std::os::unix::fs::symlink("nowhere", folder.path("link.ppm")).unwrap();
-        folder.fails(1, &format!("restore a.4x4.patches -o link.ppm {LIST}"), &["link.ppm", "--force"]);
-    }
     // A folder in the way stays, forced or not.
     fs::create_dir(folder.path("taken.ppm")).unwrap();
     for force in ["", "--force"] {

@@ -4,8 +4,10 @@ mod common;
 
 use common::tool::{sweep, Folder, LIST};
 use std::ffi::{OsStr, OsString};
-use std::fs;
+use std::fs::{self, Permissions};
 use std::os::unix::ffi::OsStrExt;
+use std::os::unix::fs::{symlink, FileTypeExt, PermissionsExt};
+use std::process::{Command, Stdio};
 
 #[test]
 fn a_value_that_looks_like_an_option_is_refused() {
@@ -84,4 +86,116 @@ fn control_characters_are_escaped() {
         assert_eq!(said.lines().count(), 1, "{words}: {said:?}");
     }
     assert!(run("", &[name]).contains(&format!("no command {escaped}")));
+}
+
+#[test]
+fn a_run_removes_only_what_it_made() {
+    let folder = Folder::new("own");
+    sweep(&folder, "a.ppm", 8, 8, 1);
+    // A file of another run whose process has the same number, as in another container: exec keeps the number.
+    let words = format!("patches a.ppm -o out {LIST}");
+    let script = "mkdir out; echo theirs > out/.a.4x4.patches.$$.part; exec \"$@\"";
+    let output = folder.shell(script, &words).output().unwrap();
+    assert_eq!(output.status.code(), Some(0), "{}", String::from_utf8_lossy(&output.stderr));
+    assert_eq!(folder.get("out/a.4x4.patches").len(), 4 * 8 * 8 * 3);
+    let names = folder.names("out");
+    assert!(names.len() == 2 && names[0].ends_with(".part"), "{names:?}");
+    assert_eq!(folder.get(&format!("out/{}", names[0])), b"theirs\n");
+}
+
+#[test]
+fn of_two_runs_at_once_one_writes_each_file() {
+    let folder = Folder::new("both");
+    let names: Vec<String> = (0..16).map(|i| format!("s{i}")).collect();
+    let sweeps: Vec<String> = names.iter().map(|name| format!("{name}.ppm")).collect();
+    for (sweep, seed) in sweeps.iter().zip(1..) {
+        common::tool::sweep(&folder, sweep, 16, 16, seed);
+    }
+    let sweeps = sweeps.join(" ");
+    folder.done(&format!("patches {sweeps} -o right {LIST}"));
+    for round in 0..4 {
+        let out = format!("out{round}");
+        let words = format!("patches {sweeps} -o {out} {LIST}");
+        let start = || folder.command(&words).stdout(Stdio::piped()).stderr(Stdio::piped()).spawn().unwrap();
+        let outputs = [start(), start()].map(|run| run.wait_with_output().unwrap());
+        for name in &names {
+            let file = format!("{name}.8x8.patches");
+            assert_eq!(folder.get(&format!("{out}/{file}")), folder.get(&format!("right/{file}")), "{file}");
+            // One says that it wrote the file, and the other that it is there.
+            let [one, two] = outputs.each_ref().map(|output| {
+                let (said, errors) = (String::from_utf8_lossy(&output.stdout), String::from_utf8_lossy(&output.stderr));
+                let wrote = said.contains(&format!("{out}/{file}: 64 patches of 12 floats\n"));
+                let there = errors.contains(&format!("kz: {out}/{file}: is there already"));
+                assert!(wrote != there, "{file}: {said}{errors}");
+                wrote
+            });
+            assert!(one != two, "{file}");
+        }
+        assert_eq!(folder.names(&out), folder.names("right"));
+    }
+}
+
+#[test]
+fn only_plain_files_are_replaced() {
+    let folder = Folder::new("plain");
+    sweep(&folder, "a.ppm", 8, 8, 1);
+    assert!(Command::new("mkfifo").arg(folder.path("pipe.png")).status().unwrap().success());
+    symlink("a.ppm", folder.path("link.png")).unwrap();
+    symlink("nowhere", folder.path("loose.png")).unwrap();
+    fs::create_dir(folder.path("folder.png")).unwrap();
+    let before = folder.get("a.ppm");
+    for force in ["", "--force"] {
+        for (name, kind) in [
+            ("pipe.png", "is a named pipe"),
+            ("link.png", "is a symbolic link"),
+            ("loose.png", "is a symbolic link"),
+            ("folder.png", "is a folder"),
+        ] {
+            let output = folder.kz(&format!("compare a.ppm a.ppm -o {name} {LIST} {force}"));
+            let said = String::from_utf8(output.stderr).unwrap();
+            assert_eq!(output.status.code(), Some(1), "{said}");
+            let words = format!("kz: {name}: {kind}, no plain file, and was left as it is; give another name\n");
+            assert_eq!(said, words);
+        }
+    }
+    // Not forced: a kz that replaces devices would do so here.
+    let said = folder.kz(&format!("compare a.ppm a.ppm -o /dev/null {LIST}")).stderr;
+    assert!(String::from_utf8(said).unwrap().starts_with("kz: /dev/null: is a device, no plain file"));
+    let kind = |name: &str| folder.path(name).symlink_metadata().unwrap().file_type();
+    assert!(kind("pipe.png").is_fifo() && kind("link.png").is_symlink() && kind("loose.png").is_symlink());
+    assert!(kind("folder.png").is_dir());
+    assert!(folder.get("a.ppm") == before && !folder.path("nowhere").exists());
+    assert_eq!(folder.names("."), ["a.ppm", "folder.png", "link.png", "loose.png", "pipe.png"]);
+}
+
+#[test]
+fn a_replaced_file_keeps_its_mode() {
+    let folder = Folder::new("mode");
+    sweep(&folder, "a.ppm", 8, 8, 1);
+    let mode = |name: &str| folder.path(name).metadata().unwrap().permissions().mode() & 0o7777;
+    for (umask, old) in [("022", 0o600), ("022", 0o640), ("022", 0o444), ("077", 0o664)] {
+        folder.put("map.png", b"old");
+        fs::set_permissions(folder.path("map.png"), Permissions::from_mode(old)).unwrap();
+        let words = format!("compare a.ppm a.ppm -o map.png --force {LIST}");
+        let output = folder.shell(&format!("umask {umask}; exec \"$@\""), &words).output().unwrap();
+        assert_eq!(output.status.code(), Some(0), "{}", String::from_utf8_lossy(&output.stderr));
+        assert_eq!(mode("map.png"), old, "{old:o}");
+        assert_ne!(folder.get("map.png"), b"old");
+        fs::remove_file(folder.path("map.png")).unwrap();
+    }
+    // A new one has what the umask leaves.
+    let output = folder.shell("umask 027; exec \"$@\"", &format!("compare a.ppm a.ppm -o map.png {LIST}")).output();
+    assert_eq!(output.unwrap().status.code(), Some(0));
+    assert_eq!(mode("map.png"), 0o640);
+}
+
+#[test]
+fn a_long_name_is_a_name() {
+    let folder = Folder::new("long");
+    sweep(&folder, "a.ppm", 8, 8, 1);
+    let name = format!("{}.png", "n".repeat(251));
+    folder.done(&format!("compare a.ppm a.ppm -o {name} {LIST}"));
+    assert!(folder.path(&name).exists());
+    folder.fails(1, &format!("compare a.ppm a.ppm -o n{name} {LIST}"), &["cannot be written: File name too long"]);
+    assert_eq!(folder.names(".").len(), 2);
 }

@@ -2,6 +2,7 @@
 
 use super::Random;
 use kyzgultam::PictureSettings;
+use std::ffi::OsString;
 use std::fs;
 use std::path::PathBuf;
 use std::process::{Command, Output};
@@ -38,17 +39,16 @@ impl Folder {
 
     /// kz with words parted by spaces.
     pub fn command(&self, words: &str) -> Command {
-        let kz = env!("CARGO_BIN_EXE_kz");
-        // Where the tests are run by an emulator (tests/x86), so is kz.
-        let mut command = match std::env::var_os("KZ_EMULATOR") {
-            None => Command::new(kz),
-            Some(emulator) => {
-                let mut command = Command::new(emulator);
-                command.arg(kz);
-                command
-            }
-        };
-        command.args(words.split_whitespace()).current_dir(&self.0);
+        let kz = kz();
+        let mut command = Command::new(&kz[0]);
+        command.args(&kz[1..]).args(words.split_whitespace()).current_dir(&self.0);
+        command
+    }
+
+    /// A script of the shell, in which `exec "$@"` runs kz with the words in the shell's place.
+    pub fn shell(&self, script: &str, words: &str) -> Command {
+        let mut command = Command::new("sh");
+        command.args(["-c", script, "sh"]).args(kz()).args(words.split_whitespace()).current_dir(&self.0);
         command
     }
 
@@ -74,6 +74,11 @@ impl Folder {
             assert!(said.contains(part), "{words}: {part:?} is not in {said:?}");
         }
     }
+}
+
+/// What runs kz. Where the tests are run by an emulator (tests/x86), so is kz.
+fn kz() -> Vec<OsString> {
+    std::env::var_os("KZ_EMULATOR").into_iter().chain([env!("CARGO_BIN_EXE_kz").into()]).collect()
 }
 
 impl Drop for Folder {

@@ -55,8 +55,7 @@ pub fn run(given: &Given) -> Result<(), Fail> {
             restore(&first.patches, grid.0, grid.1, &settings, &mut rgb).map_err(|r| Fail::call(a, r, "report it"))?;
         let map = paint::marks(&Picture { height: size.height, width: size.width, rgb }, grid, &differ);
         let netpbm = out.extension().is_some_and(|e| e == "ppm");
-        let bytes = if netpbm { ppm } else { png }(map.height, map.width, &map.rgb);
-        files::write(&out, &bytes, given.force)?;
+        files::write(&out, given.force, |to| if netpbm { ppm(to, &map) } else { to.write_all(&png(&map)) })?;
         say(format_args!("{}: the patches that differ are red", shown(&out)));
     }
     Ok(())

@@ -37,19 +37,19 @@ pub fn run(given: &Given) -> Result<(), Fail> {
     for name in names {
         files::vacant(&folder.join(name), given.force)?;
     }
-    let write = |name: &str, bytes: Vec<u8>, words: String| {
+    let write = |name: &str, picture: &Picture, words: String| {
         let file = folder.join(name);
-        files::write(&file, &bytes, given.force)?;
+        let netpbm = name.ends_with(".ppm");
+        files::write(&file, given.force, |to| if netpbm { ppm(to, picture) } else { to.write_all(&png(picture)) })?;
         say(format_args!("{:<24} {words}", shown(&file)));
         Ok::<(), Fail>(())
     };
-    let picture = |p: &Picture| png(p.height, p.width, &p.rgb);
 
     let model = Model::read(given)?;
     let settings = model.settings.picture;
     let sweep = sweep::sweep(490, 650, 20);
-    write("sweep.png", picture(&sweep), format!("{}x{}, made from a seed", sweep.height, sweep.width))?;
-    write("sweep.ppm", ppm(sweep.height, sweep.width, &sweep.rgb), "the same, to try the other commands on".into())?;
+    write("sweep.png", &sweep, format!("{}x{}, made from a seed", sweep.height, sweep.width))?;
+    write("sweep.ppm", &sweep, "the same, to try the other commands on".into())?;
 
     let start = Instant::now();
     let mut patches = vec![0.0; settings.patches_len(sweep.height, sweep.width).map_err(refused_settings)?];
@@ -64,10 +64,10 @@ pub fn run(given: &Given) -> Result<(), Fail> {
     let restored = Picture { height: size.height, width: size.width, rgb };
 
     let resized = resize(&sweep, restored.height, restored.width);
-    write("resized.png", picture(&resized), format!("{}x{}, resized by plain Rust", resized.height, resized.width))?;
+    write("resized.png", &resized, format!("{}x{}, resized by plain Rust", resized.height, resized.width))?;
     let count = cut.grid_h * cut.grid_w;
     let same = if restored.rgb == resized.rgb { "identical to resized.png" } else { "NOT as resized.png" };
-    write("restored.png", picture(&restored), format!("{}x{}, from {count} patches: {same}", size.height, size.width))?;
+    write("restored.png", &restored, format!("{}x{}, from {count} patches: {same}", size.height, size.width))?;
 
     let merge = settings.spatial_merge_size;
     let grid = (cut.grid_h / merge, cut.grid_w / merge);
@@ -77,9 +77,9 @@ pub fn run(given: &Given) -> Result<(), Fail> {
     let mut heat = paint::heat(&restored, grid, &alike);
     paint::frame(&mut heat, grid, centre);
     let words = format!("{}x{} tokens, each to the centre one: cosines {least:.2} to 1.00", grid.0, grid.1);
-    write("similarity.png", picture(&heat), words)?;
+    write("similarity.png", &heat, words)?;
     let words = "resized, restored and similarity, side by side".into();
-    write("overview.png", picture(&paint::strip(&[&resized, &restored, &heat])), words)?;
+    write("overview.png", &paint::strip(&[&resized, &restored, &heat]), words)?;
     let ms = |t: std::time::Duration| t.as_secs_f64() * 1e3;
     say(format_args!(
         "preprocess {:.1} ms, forward {:.0} ms, restore {:.1} ms, on one core",

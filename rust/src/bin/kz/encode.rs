@@ -73,7 +73,7 @@ pub fn encode(given: &Given) -> Result<(), Fail> {
         files::vacant(&out, given.force)?;
         let tokens = model.forward(&cutter.patches, grid, &mut scratch);
         let tokens = tokens.map_err(|refusal| Fail::call(file, refusal, model.advice(refusal)))?;
-        files::write(&out, &files::bytes(&tokens), given.force)?;
+        files::write(&out, given.force, |to| files::put(to, &tokens))?;
         let (count, text) = (grid.0 * grid.1 / (merge * merge), model.settings.text_hidden_size);
         Ok(format!("{}: {count} tokens of {text} floats", shown(&out)))
     })
@@ -88,7 +88,7 @@ pub fn patches(given: &Given) -> Result<(), Fail> {
     each(given, &folder, &names, |file, name| {
         let grid = cutter.cut(file, &settings)?;
         let out = folder.join(ending(name, format!(".{}x{}.patches", grid.0, grid.1)));
-        files::write(&out, &files::bytes(&cutter.patches), given.force)?;
+        files::write(&out, given.force, |to| files::put(to, &cutter.patches))?;
         Ok(format!("{}: {} patches of {} floats", shown(&out), grid.0 * grid.1, 3 * settings.patch_size.pow(2)))
     })
 }

@@ -1,10 +1,12 @@
 //! Files are written whole or not at all, and none is overwritten unless that was asked for.
 
 use crate::fail::Fail;
-use std::ffi::OsString;
-use std::fs::{self, File, OpenOptions};
-use std::io::{self, Write};
-use std::path::Path;
+use std::collections::hash_map::RandomState;
+use std::fs::{self, File, FileType, Metadata, OpenOptions, Permissions};
+use std::hash::{BuildHasher, Hasher};
+use std::io::{self, BufWriter, Write};
+use std::os::unix::fs::{FileTypeExt, MetadataExt, OpenOptionsExt, PermissionsExt};
+use std::path::{Path, PathBuf};
 
 pub fn read(file: &Path) -> Result<Vec<u8>, Fail> {
     fs::read(file).map_err(|e| Fail::file(file, format!("cannot be read: {e}")))
@@ -17,58 +19,147 @@ pub fn floats(bytes: &[u8]) -> Option<Vec<f32>> {
     whole.then(|| words.map(|w| f32::from_le_bytes([w[0], w[1], w[2], w[3]])).collect())
 }
 
-pub fn bytes(floats: &[f32]) -> Vec<u8> {
-    floats.iter().flat_map(|x| x.to_le_bytes()).collect()
+/// Writes floats as little-endian f32.
+pub fn put(to: &mut dyn Write, floats: &[f32]) -> io::Result<()> {
+    let mut bytes = [0; 4096];
+    for some in floats.chunks(1024) {
+        for (four, float) in bytes.chunks_exact_mut(4).zip(some) {
+            four.copy_from_slice(&float.to_le_bytes());
+        }
+        to.write_all(&bytes[..4 * some.len()])?;
+    }
+    Ok(())
 }
 
 pub fn folder(folder: &Path) -> Result<(), Fail> {
     fs::create_dir_all(folder).map_err(|e| Fail::file(folder, format!("this folder cannot be made: {e}")))
 }
 
-/// Refuses a place where something stands, unless forced. Asked before long work; `write` asks again.
+/// Refuses a place where something stands, unless it is a plain file and forced. Asked before long work; `write` asks
+/// again.
 pub fn vacant(file: &Path, force: bool) -> Result<(), Fail> {
-    if !force && file.symlink_metadata().is_ok() {
-        return Err(occupied(file));
+    replaced(file, force).map(drop)
+}
+
+/// The plain file that is to be replaced, if there is one. Nothing else is: a device, a pipe or a link would be lost.
+fn replaced(file: &Path, force: bool) -> Result<Option<Metadata>, Fail> {
+    let found = match file.symlink_metadata() {
+        Ok(found) => found,
+        Err(e) if e.kind() == io::ErrorKind::NotFound => return Ok(None),
+        Err(e) => return Err(unwritten(file, e)),
+    };
+    if let Some(kind) = no_plain_file(found.file_type()) {
+        return Err(Fail::file(file, format!("is {kind}, no plain file, and was left as it is; give another name")));
     }
-    Ok(())
+    if force {
+        Ok(Some(found))
+    } else {
+        Err(occupied(file))
+    }
+}
+
+fn no_plain_file(kind: FileType) -> Option<&'static str> {
+    let kinds = [
+        (kind.is_dir(), "a folder"),
+        (kind.is_symlink(), "a symbolic link"),
+        (kind.is_fifo(), "a named pipe"),
+        (kind.is_socket(), "a socket"),
+        (!kind.is_file(), "a device"),
+    ];
+    kinds.iter().find(|(is, _)| *is).map(|(_, words)| *words)
 }
 
 fn occupied(file: &Path) -> Fail {
     Fail::file(file, "is there already and was left as it is; --force writes over it")
 }
 
-/// Writes beside the file and then moves what was written into its place.
-pub fn write(file: &Path, bytes: &[u8], force: bool) -> Result<(), Fail> {
-    vacant(file, force)?;
-    let mut name = OsString::from(".");
-    name.push(file.file_name().ok_or_else(|| Fail::file(file, "is no name for a file"))?);
-    name.push(format!(".{}.part", std::process::id()));
-    let part = file.with_file_name(name);
-    let done = fill(&part, bytes).and_then(|()| place(&part, file, force));
-    if done.is_err() {
-        let _ = fs::remove_file(&part);
+fn unwritten(file: &Path, e: io::Error) -> Fail {
+    Fail::file(file, format!("cannot be written: {e}"))
+}
+
+/// Writes beside the file and then gives what was written its name. A file that is replaced keeps its mode.
+pub fn write(file: &Path, force: bool, fill: impl FnOnce(&mut dyn Write) -> io::Result<()>) -> Result<(), Fail> {
+    let unwritten = |e| unwritten(file, e);
+    let hidden = replaced(file, force)?.is_some();
+    let part = Part::beside(file, if hidden { 0o600 } else { 0o666 }).map_err(unwritten)?;
+    part.fill(fill).map_err(unwritten)?;
+    if let Some(old) = replaced(file, force)? {
+        part.allow(old.mode() & 0o7777).map_err(unwritten)?;
     }
-    done.map_err(|e| match e.kind() {
-        io::ErrorKind::AlreadyExists if !force => occupied(file),
-        _ => Fail::file(file, format!("cannot be written: {e}")),
+    part.place(file, force).map_err(|e| match e.kind() {
+        io::ErrorKind::AlreadyExists => occupied(file),
+        _ => unwritten(e),
     })
 }
 
-fn fill(part: &Path, bytes: &[u8]) -> io::Result<()> {
-    let mut open: File = OpenOptions::new().write(true).create_new(true).open(part)?;
-    open.write_all(bytes)?;
-    open.sync_all()
+/// A file under a temporary name. This run made it, so this run may remove it.
+struct Part {
+    path: PathBuf,
+    open: File,
+    moved: bool,
 }
 
-fn place(part: &Path, file: &Path, force: bool) -> io::Result<()> {
-    if !force {
-        // A link is refused where the name is taken, even if it was taken just now. Some file systems have no links.
-        match fs::hard_link(part, file) {
-            Ok(()) => return fs::remove_file(part),
-            Err(e) if e.kind() == io::ErrorKind::AlreadyExists => return Err(e),
-            Err(_) if file.symlink_metadata().is_ok() => return Err(io::ErrorKind::AlreadyExists.into()),
-            Err(_) => {}
+impl Part {
+    fn beside(file: &Path, mode: u32) -> io::Result<Part> {
+        file.file_name().ok_or(io::Error::other("it is no name for a file"))?;
+        loop {
+            let path = file.with_file_name(part_name());
+            match OpenOptions::new().write(true).create_new(true).mode(mode).open(&path) {
+                Ok(open) => return Ok(Part { path, open, moved: false }),
+                // The name is another run's, and so is what stands there.
+                Err(e) if e.kind() == io::ErrorKind::AlreadyExists => {}
+                Err(e) => return Err(e),
+            }
         }
     }
-    fs::rename(part, file)
+
+    fn fill(&self, fill: impl FnOnce(&mut dyn Write) -> io::Result<()>) -> io::Result<()> {
+        let mut to = BufWriter::new(&self.open);
+        fill(&mut to)?;
+        to.flush()?;
+        self.open.sync_all()
+    }
+
+    fn allow(&self, mode: u32) -> io::Result<()> {
+        if self.open.metadata()?.mode() & 0o7777 != mode {
+            self.open.set_permissions(Permissions::from_mode(mode))?;
+        }
+        Ok(())
+    }
+
+    /// Gives it the file's name, which is refused where that is taken, even if it was taken just now; or, forced,
+    /// replaces the file.
+    fn place(mut self, file: &Path, force: bool) -> io::Result<()> {
+        if force {
+            return self.rename(file);
+        }
+        match fs::hard_link(&self.path, file) {
+            Ok(()) => Ok(()),
+            Err(e) if e.kind() == io::ErrorKind::AlreadyExists => Err(e),
+            // Some file systems have no links. There the name is taken by an empty file, which is then replaced.
+            Err(_) => {
+                OpenOptions::new().write(true).create_new(true).open(file)?;
+                self.rename(file).inspect_err(|_| drop(fs::remove_file(file)))
+            }
+        }
+    }
+
+    fn rename(&mut self, file: &Path) -> io::Result<()> {
+        fs::rename(&self.path, file)?;
+        self.moved = true;
+        Ok(())
+    }
+}
+
+impl Drop for Part {
+    fn drop(&mut self) {
+        if !self.moved {
+            let _ = fs::remove_file(&self.path);
+        }
+    }
+}
+
+/// Short whatever the file's name is, and of 64 random bits: runs in two containers may have one process number.
+fn part_name() -> String {
+    format!(".kz-{:016x}.part", RandomState::new().build_hasher().finish())
 }

@@ -3,6 +3,7 @@
 use crate::fail::{numbered, Fail};
 use crate::files;
 use kyzgultam::Refusal;
+use std::io::{self, Write};
 use std::path::Path;
 
 /// Three bytes a pixel, by row.
@@ -16,10 +17,10 @@ pub fn read(file: &Path) -> Result<Picture, Fail> {
     parse(&files::read(file)?).map_err(|why| Fail::file(file, why))
 }
 
-pub fn ppm(height: usize, width: usize, rgb: &[u8]) -> Vec<u8> {
-    let mut bytes = format!("P6\n{width} {height}\n255\n").into_bytes();
-    bytes.extend_from_slice(rgb);
-    bytes
+/// Writes a P6.
+pub fn ppm(to: &mut dyn Write, picture: &Picture) -> io::Result<()> {
+    write!(to, "P6\n{} {}\n255\n", picture.width, picture.height)?;
+    to.write_all(&picture.rgb)
 }
 
 /// The header's bytes. A comment runs from # to the end of its line and counts as that end.

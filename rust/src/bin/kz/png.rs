@@ -1,10 +1,13 @@
 //! PNG pictures, stored without compression.
 
+use crate::netpbm::Picture;
+
 /// Three bytes a pixel; a grey picture is stored as one.
-pub fn png(height: usize, width: usize, rgb: &[u8]) -> Vec<u8> {
+pub fn png(picture: &Picture) -> Vec<u8> {
+    let Picture { height, width, rgb } = picture;
     let grey = rgb.chunks_exact(3).all(|p| p[0] == p[1] && p[1] == p[2]);
     let mut rows = Vec::new();
-    for row in rgb.chunks_exact(width * 3) {
+    for row in rgb.chunks_exact(*width * 3) {
         rows.push(0); // no filter
         if grey {
             rows.extend(row.iter().step_by(3));
@@ -13,8 +16,8 @@ pub fn png(height: usize, width: usize, rgb: &[u8]) -> Vec<u8> {
         }
     }
     let mut head = Vec::new();
-    head.extend((width as u32).to_be_bytes());
-    head.extend((height as u32).to_be_bytes());
+    head.extend((*width as u32).to_be_bytes());
+    head.extend((*height as u32).to_be_bytes());
     head.extend([8, if grey { 0 } else { 2 }, 0, 0, 0]); // depth, colour, and the only methods there are
     let mut file = b"\x89PNG\r\n\x1a\n".to_vec();
     chunk(&mut file, b"IHDR", &head);
@@ -73,9 +76,10 @@ mod tests {
 
     #[test]
     fn one_pixel() {
-        let file = png(1, 1, &[1, 2, 3]);
+        let png = |rgb: [u8; 3]| png(&Picture { height: 1, width: 1, rgb: rgb.to_vec() });
+        let file = png([1, 2, 3]);
         assert_eq!(file[16..29], [0, 0, 0, 1, 0, 0, 0, 1, 8, 2, 0, 0, 0]);
         assert_eq!(file[41..52], [0x78, 1, 1, 4, 0, 251, 255, 0, 1, 2, 3]);
-        assert_eq!(png(1, 1, &[9, 9, 9])[25], 0);
+        assert_eq!(png([9, 9, 9])[25], 0);
     }
 }

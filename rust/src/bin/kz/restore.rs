@@ -3,7 +3,7 @@
 use crate::fail::Fail;
 use crate::given::{sides, Given};
 use crate::model::refused_settings;
-use crate::netpbm::ppm;
+use crate::netpbm::{ppm, Picture};
 use crate::shown::shown;
 use crate::{files, say};
 use kyzgultam::Refusal;
@@ -40,7 +40,8 @@ pub fn run(given: &Given) -> Result<(), Fail> {
         Refusal::Sample => Fail::call(file, refusal, "the file is damaged, or was not written by `kz patches`"),
         _ => Fail::call(file, refusal, advice),
     })?;
-    files::write(&out, &ppm(size.height, size.width, &rgb), given.force)?;
+    let picture = Picture { height: size.height, width: size.width, rgb };
+    files::write(&out, given.force, |to| ppm(to, &picture))?;
     say(format_args!("{}: {}x{}", shown(&out), size.height, size.width));
     Ok(())
 }
