@@ -199,3 +199,147 @@ fn a_long_name_is_a_name() {
     folder.fails(1, &format!("compare a.ppm a.ppm -o n{name} {LIST}"), &["cannot be written: File name too long"]);
     assert_eq!(folder.names(".").len(), 2);
 }
+
+/// What kz says with so many KiB of memory, and its status; None where an emulator, which needs more, runs it.
+fn limited(folder: &Folder, kib: usize, words: &str) -> Option<(Option<i32>, String)> {
+    if std::env::var_os("KZ_EMULATOR").is_some() {
+        return None;
+    }
+    let output = folder.shell(&format!("ulimit -v {kib}; exec \"$@\""), words).output().unwrap();
+    let said = [output.stdout, output.stderr].concat();
+    Some((output.status.code(), String::from_utf8(said).unwrap()))
+}
+
+/// A file of zeros after its beginning, of which the disk has nothing.
+fn sparse(folder: &Folder, name: &str, beginning: &[u8], len: u64) {
+    folder.put(name, beginning);
+    fs::File::options().write(true).open(folder.path(name)).unwrap().set_len(len).unwrap();
+}
+
+#[test]
+fn memory_is_asked_for_first() {
+    let folder = Folder::new("memory");
+    sparse(&folder, "large.pgm", b"P5 2048 2048 255\n", 17 + 2048 * 2048);
+    sparse(&folder, "largest.ppm", b"P6 8192 8192 255\n", 17 + 3 * 8192 * 8192);
+    sparse(&folder, "large.patches", b"", 4 * 3 * 2048 * 2048);
+    sweep(&folder, "a.ppm", 8, 8, 1);
+    let fine = "patch=1,merge=1,image=2048";
+    for (kib, words, parts) in [
+        (
+            900_000,
+            format!("encode a.ppm -o out --settings {fine},hidden=256,heads=1"),
+            ["--settings: there is no memory for a rotary table (image=2048, patch=1, head=256)", "4294967296 bytes"],
+        ),
+        (
+            900_000,
+            format!("encode large.pgm -o out --settings {fine},hidden=4,heads=1,layers=0,intermediate=8192,text=1"),
+            ["large.pgm: there is no memory for the scratch of its grid of 2048x2048 patches (hidden=4, intermediate=8192, text=1, image=2048)", "275398000640 bytes"],
+        ),
+        (
+            900_000,
+            format!("encode large.pgm -o out --settings {fine},hidden=4,heads=1,layers=0,text=4096"),
+            ["large.pgm: there is no memory for the token vectors of its grid of 2048x2048 patches (text=4096, image=2048)", "68719476736 bytes"],
+        ),
+        (
+            900_000,
+            "encode a.ppm -o out --settings hidden=2048,heads=8,layers=48,intermediate=8192".into(),
+            ["--settings: there is no memory for the weights (hidden=2048, layers=48, intermediate=8192, text=64)", "12"],
+        ),
+        (
+            50_000,
+            format!("patches large.pgm -o out --settings {fine}"),
+            ["large.pgm: there is no memory for its patches (image=2048)", "50331648 bytes"],
+        ),
+        (
+            50_000,
+            format!("compare large.pgm large.pgm --settings {fine}"),
+            ["large.pgm: there is no memory for its patches (image=2048)", "50331648 bytes"],
+        ),
+        (
+            50_000,
+            format!("restore large.patches --grid 2048x2048 -o out.ppm --settings {fine}"),
+            ["large.patches: there is no memory for its patches", "50331648 bytes"],
+        ),
+        (
+            50_000,
+            "patches largest.ppm -o out".into(),
+            ["largest.ppm: there is no memory for its 8192x8192 pixels", "201326592 bytes"],
+        ),
+        (
+            50_000,
+            "bench --size 8192x8192".into(),
+            ["there is no memory for the picture", "201326592 bytes"],
+        ),
+    ] {
+        let Some((status, said)) = limited(&folder, kib, &words) else { return };
+        assert_eq!(status, Some(1), "{words}: {said}");
+        for part in parts {
+            assert!(said.contains(part), "{words}: {part:?} is not in {said:?}");
+        }
+    }
+}
+
+#[test]
+fn weights_are_held_once() {
+    let folder = Folder::new("once");
+    sweep(&folder, "a.ppm", 2, 2, 1);
+    // 8192 x 8192 floats of linear_2, and little else: 270 MB of weights in 420 MB.
+    let settings = "--settings patch=2,merge=1,image=2,hidden=4,heads=1,layers=0,intermediate=1,text=8192";
+    let weights = 4 * 12 + 4 + 4 + 16 + 8192 * 4 + 8192 * 8192;
+    sparse(&folder, "w", b"", 4 * weights);
+    let Some((status, said)) = limited(&folder, 420_000, &format!("encode a.ppm -o out --weights w {settings}")) else {
+        return;
+    };
+    assert_eq!(status, Some(0), "{said}");
+    // The tables too: 2 x 67 MB in 190 MB.
+    let settings = "--settings patch=1,merge=1,image=1024,hidden=16,heads=1,layers=0,intermediate=1,text=1";
+    sparse(&folder, "t", b"", 4 * 2 * 1024 * 1024 * 16);
+    let words = format!("encode a.ppm -o out --tables t --force {settings}");
+    let (status, said) = limited(&folder, 190_000, &words).unwrap();
+    assert_eq!(status, Some(0), "{said}");
+}
+
+#[test]
+fn a_length_is_tested_before_it_is_read() {
+    let folder = Folder::new("length");
+    sweep(&folder, "a.ppm", 8, 8, 1);
+    let tib = 1 << 40;
+    sparse(&folder, "long.ppm", b"P6 8 8 255\n", tib);
+    sparse(&folder, "comment.ppm", b"P6 #", tib);
+    sparse(&folder, "long", b"", tib);
+    for (words, part) in [
+        ("patches long.ppm -o out", "long.ppm: goes on for 1099511627573 bytes after its picture"),
+        ("compare a.ppm long.ppm", "long.ppm: goes on for 1099511627573 bytes"),
+        ("patches comment.ppm -o out", "comment.ppm: is no netpbm picture: its header is longer than 65536 bytes"),
+        ("patches long -o out", "long: is no binary netpbm picture"),
+        ("encode a.ppm -o out --weights long", "long: refused, number 9: "),
+        (
+            "encode a.ppm -o out --tables long",
+            "it has 1099511627776 bytes, and these settings ask for 2048 (512 floats",
+        ),
+        ("restore long --grid 4x4 -o out.ppm", "long: refused, number 7: "),
+    ] {
+        folder.fails(1, &format!("{words} {LIST}"), &[part]);
+    }
+    // What has no length is read as far as it may go.
+    for (words, part) in [
+        ("patches /dev/zero -o out", "/dev/zero: is no binary netpbm picture"),
+        ("encode a.ppm -o out --weights /dev/zero", "it has more than "),
+        ("encode a.ppm -o out --tables /dev/zero", "it has more than 2048 bytes"),
+        ("restore /dev/zero --grid 4x4 -o out.ppm", "/dev/zero: refused, number 7: "),
+        ("encode a.ppm -o out --weights /dev/null", "it has 0 bytes"),
+        ("restore /dev/null --grid 4x4 -o out.ppm", "/dev/null: refused, number 7: "),
+    ] {
+        let Some((status, said)) = limited(&folder, 500_000, &format!("{words} {LIST}")) else { return };
+        assert!(status == Some(1) && said.contains(part), "{words}: {said}");
+    }
+    let pipe = |script: &str, words: &str| {
+        let output = folder.shell(&format!("{script} | \"$@\""), &format!("{words} {LIST}")).output().unwrap();
+        (output.status.code(), String::from_utf8(output.stderr).unwrap())
+    };
+    assert_eq!(pipe("cat a.ppm", "patches /dev/stdin -o out"), (Some(0), String::new()));
+    let (status, said) = pipe("cat a.ppm a.ppm", "patches /dev/stdin -o out --force");
+    assert!(status == Some(1) && said.contains("/dev/stdin: goes on after its picture"), "{said}");
+    let (status, said) = pipe("head -c 100 a.ppm", "patches /dev/stdin -o out --force");
+    assert!(status == Some(1) && said.contains("is cut short: 89 bytes of samples where 192 belong"), "{said}");
+}

@@ -2,8 +2,8 @@
 
 use crate::fail::Fail;
 use crate::given::Given;
-use crate::model::{refused_settings, Model, Random};
-use crate::say;
+use crate::model::{refused_settings, Lent, Model, Random};
+use crate::{room, say};
 use std::fs;
 use std::io::{stderr, Write};
 use std::process::Command;
@@ -100,12 +100,15 @@ fn alone(given: &Given) -> Result<(), Fail> {
 
 fn sweep(model: &Model, height: usize, width: usize, all: bool) -> Result<(), Fail> {
     let settings = model.settings.picture;
-    let mut patches = vec![0.0; settings.patches_len(height, width).map_err(refused_settings)?];
-    let mut random = Random::new(1);
-    let rgb: Vec<u8> = (0..height * width * 3).map(|_| (random.float() * 127.0 + 128.0) as u8).collect();
+    let floats = settings.patches_len(height, width).map_err(refused_settings)?;
     let (grid_h, grid_w) = settings.grid(height, width).map_err(refused_settings)?;
-    let mut back = vec![0; patches.len()];
-    let mut scratch = vec![];
+    let advice = "give a smaller --size or --settings";
+    let mut patches = room::zeros(floats, "the patches", advice).map_err(Fail::Refused)?;
+    let mut back = room::zeros(floats, "the restored picture", advice).map_err(Fail::Refused)?;
+    let mut rgb: Vec<u8> = room::empty(height * width * 3, "the picture", advice).map_err(Fail::Refused)?;
+    let mut random = Random::new(1);
+    rgb.extend((0..height * width * 3).map(|_| (random.float() * 127.0 + 128.0) as u8));
+    let mut lent = Lent::default();
 
     let mut times = vec![];
     times.push((
@@ -113,7 +116,8 @@ fn sweep(model: &Model, height: usize, width: usize, all: bool) -> Result<(), Fa
         best(|| kyzgultam::pixtral_preprocess(&rgb, height, width, &settings, &mut patches).map(drop)),
     ));
     if all || grid_h * grid_w <= MANY {
-        times.push(("forward", best(|| model.forward(&patches, (grid_h, grid_w), &mut scratch).map(drop))));
+        model.lend((grid_h, grid_w), &mut lent).map_err(Fail::Refused)?;
+        times.push(("forward", best(|| model.forward(&patches, (grid_h, grid_w), &mut lent))));
     }
     times.push(("restore", best(|| kyzgultam::restore(&patches, grid_h, grid_w, &settings, &mut back).map(drop))));
 

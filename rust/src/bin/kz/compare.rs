@@ -6,7 +6,7 @@ use crate::given::Given;
 use crate::netpbm::{ppm, Picture};
 use crate::png::png;
 use crate::shown::shown;
-use crate::{files, paint, say};
+use crate::{files, paint, room, say};
 use kyzgultam::{patch, restore};
 
 pub const HELP: &str = "\
@@ -18,6 +18,8 @@ that differ are red (PPM, if OUT ends in .ppm). Exit status 0 whether they
 differ or not. Of --settings (`kz encode --help`) patch, merge and image
 are used.
 ";
+
+const LARGER: &str = "give a larger patch= or a smaller image= in --settings";
 
 pub fn run(given: &Given) -> Result<(), Fail> {
     let [a, b] = &given.files[..] else {
@@ -38,11 +40,12 @@ pub fn run(given: &Given) -> Result<(), Fail> {
             grid.0, grid.1, other.0, other.1
         )));
     }
-    let bits = |x: &[f32]| x.iter().map(|f| f.to_bits()).collect::<Vec<_>>();
+    let same = |a: &[f32], b: &[f32]| a.iter().zip(b).all(|(x, y)| x.to_bits() == y.to_bits());
     let count = grid.0 * grid.1;
     let p = settings.patch_size;
-    let differ: Vec<bool> =
-        (0..count).map(|i| bits(patch(&first.patches, p, i)) != bits(patch(&second.patches, p, i))).collect();
+    let what = format!("its {count} patches' marks (patch={p})");
+    let mut differ = room::empty(count, &what, LARGER).map_err(|words| Fail::file(a, words))?;
+    differ.extend((0..count).map(|i| !same(patch(&first.patches, p, i), patch(&second.patches, p, i))));
     let equal = differ.iter().filter(|d| !**d).count();
     let tail = match differ.iter().position(|d| *d) {
         Some(i) => format!("; the first that differs is at row {}, column {} (from 0)", i / grid.1, i % grid.1),
@@ -50,12 +53,13 @@ pub fn run(given: &Given) -> Result<(), Fail> {
     };
     say(format_args!("{equal} of {count} patches are equal{tail}"));
     if let Some(out) = out {
-        let mut rgb = vec![0; first.patches.len()];
+        drop(second);
+        let mut rgb = room::zeros(first.patches.len(), "its picture", LARGER).map_err(|words| Fail::file(a, words))?;
         let size =
             restore(&first.patches, grid.0, grid.1, &settings, &mut rgb).map_err(|r| Fail::call(a, r, "report it"))?;
-        let map = paint::marks(&Picture { height: size.height, width: size.width, rgb }, grid, &differ);
+        let map = paint::marks(Picture { height: size.height, width: size.width, rgb }, grid, &differ);
         let netpbm = out.extension().is_some_and(|e| e == "ppm");
-        files::write(&out, given.force, |to| if netpbm { ppm(to, &map) } else { to.write_all(&png(&map)) })?;
+        files::write(&out, given.force, |to| if netpbm { ppm(to, &map) } else { png(to, &map) })?;
         say(format_args!("{}: the patches that differ are red", shown(&out)));
     }
     Ok(())

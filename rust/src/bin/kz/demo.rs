@@ -2,11 +2,11 @@
 
 use crate::fail::Fail;
 use crate::given::Given;
-use crate::model::{refused_settings, Model};
+use crate::model::{refused_settings, Lent, Model};
 use crate::netpbm::{ppm, Picture};
 use crate::png::png;
 use crate::shown::shown;
-use crate::{files, paint, say, sweep};
+use crate::{files, paint, room, say, sweep};
 use std::path::PathBuf;
 use std::time::Instant;
 
@@ -27,6 +27,8 @@ The model's weights come from a seed and were never trained: what is alike
 here is brightness and texture.
 ";
 
+const AGAIN: &str = "try it again where there is more";
+
 pub fn run(given: &Given) -> Result<(), Fail> {
     if !given.files.is_empty() {
         return Err(Fail::usage("demo takes no files"));
@@ -40,7 +42,7 @@ pub fn run(given: &Given) -> Result<(), Fail> {
     let write = |name: &str, picture: &Picture, words: String| {
         let file = folder.join(name);
         let netpbm = name.ends_with(".ppm");
-        files::write(&file, given.force, |to| if netpbm { ppm(to, picture) } else { to.write_all(&png(picture)) })?;
+        files::write(&file, given.force, |to| if netpbm { ppm(to, picture) } else { png(to, picture) })?;
         say(format_args!("{:<24} {words}", shown(&file)));
         Ok::<(), Fail>(())
     };
@@ -52,13 +54,16 @@ pub fn run(given: &Given) -> Result<(), Fail> {
     write("sweep.ppm", &sweep, "the same, to try the other commands on".into())?;
 
     let start = Instant::now();
-    let mut patches = vec![0.0; settings.patches_len(sweep.height, sweep.width).map_err(refused_settings)?];
+    let floats = settings.patches_len(sweep.height, sweep.width).map_err(refused_settings)?;
+    let mut patches = room::zeros(floats, "the patches", AGAIN).map_err(Fail::Refused)?;
     let cut = kyzgultam::pixtral_preprocess(&sweep.rgb, sweep.height, sweep.width, &settings, &mut patches);
     let cut = cut.map_err(refused_settings)?;
     let (to_patches, start) = (start.elapsed(), Instant::now());
-    let tokens = model.forward(&patches, (cut.grid_h, cut.grid_w), &mut vec![]).map_err(refused_settings)?;
+    let (grid, mut lent) = ((cut.grid_h, cut.grid_w), Lent::default());
+    model.lend(grid, &mut lent).map_err(Fail::Refused)?;
+    model.forward(&patches, grid, &mut lent).map_err(refused_settings)?;
     let (to_tokens, start) = (start.elapsed(), Instant::now());
-    let mut rgb = vec![0; patches.len()];
+    let mut rgb = room::zeros(patches.len(), "the restored sweep", AGAIN).map_err(Fail::Refused)?;
     let size = kyzgultam::restore(&patches, cut.grid_h, cut.grid_w, &settings, &mut rgb).map_err(refused_settings)?;
     let back = start.elapsed();
     let restored = Picture { height: size.height, width: size.width, rgb };
@@ -72,9 +77,9 @@ pub fn run(given: &Given) -> Result<(), Fail> {
     let merge = settings.spatial_merge_size;
     let grid = (cut.grid_h / merge, cut.grid_w / merge);
     let centre = (grid.0 / 2, grid.1 / 2);
-    let alike = similarity(&tokens, model.settings.text_hidden_size, centre.0 * grid.1 + centre.1);
+    let alike = similarity(&lent.tokens, model.settings.text_hidden_size, centre.0 * grid.1 + centre.1);
     let least = alike.iter().fold(1f32, |a, b| a.min(*b));
-    let mut heat = paint::heat(&restored, grid, &alike);
+    let mut heat = paint::heat(restored.clone(), grid, &alike);
     paint::frame(&mut heat, grid, centre);
     let words = format!("{}x{} tokens, each to the centre one: cosines {least:.2} to 1.00", grid.0, grid.1);
     write("similarity.png", &heat, words)?;

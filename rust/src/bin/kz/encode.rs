@@ -2,10 +2,10 @@
 
 use crate::fail::Fail;
 use crate::given::Given;
-use crate::model::{refused_settings, Model};
+use crate::model::{refused_settings, Lent, Model};
 use crate::progress::Progress;
 use crate::shown::shown;
-use crate::{files, netpbm};
+use crate::{files, netpbm, room};
 use kyzgultam::{pixtral_preprocess, PictureSettings, Refusal};
 use std::collections::BTreeMap;
 use std::ffi::{OsStr, OsString};
@@ -48,15 +48,16 @@ impl Cutter {
     pub fn cut(&mut self, file: &Path, settings: &PictureSettings) -> Result<(usize, usize), Fail> {
         let picture = netpbm::read(file)?;
         let (height, width) = (picture.height, picture.width);
-        let cut = settings.patches_len(height, width).and_then(|floats| {
-            self.patches.resize(floats, 0.0);
-            pixtral_preprocess(&picture.rgb, height, width, settings, &mut self.patches)
-        });
-        let cut = cut.map_err(|refusal| match refusal {
+        let refused = |refusal| match refusal {
             Refusal::Setting => refused_settings(refusal),
             Refusal::ImageSize => Fail::call(file, refusal, "give a larger image= in --settings"),
             _ => Fail::call(file, refusal, "cut or shrink the picture"),
-        })?;
+        };
+        let floats = settings.patches_len(height, width).map_err(refused)?;
+        let what = format!("its patches (image={})", settings.image_size);
+        let room = room::fit(&mut self.patches, floats, &what, "give a smaller image= in --settings");
+        room.map_err(|words| Fail::file(file, words))?;
+        let cut = pixtral_preprocess(&picture.rgb, height, width, settings, &mut self.patches).map_err(refused)?;
         Ok((cut.grid_h, cut.grid_w))
     }
 }
@@ -66,14 +67,15 @@ pub fn encode(given: &Given) -> Result<(), Fail> {
     let names = names(&given.files)?;
     let model = Model::read(given)?;
     let merge = model.settings.picture.spatial_merge_size;
-    let (mut cutter, mut scratch) = (Cutter::default(), vec![]);
+    let (mut cutter, mut lent) = (Cutter::default(), Lent::default());
     each(given, &folder, &names, |file, name| {
         let grid = cutter.cut(file, &model.settings.picture)?;
         let out = folder.join(ending(name, format!(".{}x{}.tokens", grid.0 / merge, grid.1 / merge)));
         files::vacant(&out, given.force)?;
-        let tokens = model.forward(&cutter.patches, grid, &mut scratch);
-        let tokens = tokens.map_err(|refusal| Fail::call(file, refusal, model.advice(refusal)))?;
-        files::write(&out, given.force, |to| files::put(to, &tokens))?;
+        model.lend(grid, &mut lent).map_err(|words| Fail::file(file, words))?;
+        let done = model.forward(&cutter.patches, grid, &mut lent);
+        done.map_err(|refusal| Fail::call(file, refusal, model.advice(refusal)))?;
+        files::write(&out, given.force, |to| files::put(to, &lent.tokens))?;
         let (count, text) = (grid.0 * grid.1 / (merge * merge), model.settings.text_hidden_size);
         Ok(format!("{}: {count} tokens of {text} floats", shown(&out)))
     })

@@ -8,17 +8,6 @@ use std::io::{self, BufWriter, Write};
 use std::os::unix::fs::{FileTypeExt, MetadataExt, OpenOptionsExt, PermissionsExt};
 use std::path::{Path, PathBuf};
 
-pub fn read(file: &Path) -> Result<Vec<u8>, Fail> {
-    fs::read(file).map_err(|e| Fail::file(file, format!("cannot be read: {e}")))
-}
-
-/// Little-endian f32; None where the bytes do not part into fours.
-pub fn floats(bytes: &[u8]) -> Option<Vec<f32>> {
-    let words = bytes.chunks_exact(4);
-    let whole = words.remainder().is_empty();
-    whole.then(|| words.map(|w| f32::from_le_bytes([w[0], w[1], w[2], w[3]])).collect())
-}
-
 /// Writes floats as little-endian f32.
 pub fn put(to: &mut dyn Write, floats: &[f32]) -> io::Result<()> {
     let mut bytes = [0; 4096];
@@ -136,12 +125,15 @@ impl Part {
         match fs::hard_link(&self.path, file) {
             Ok(()) => Ok(()),
             Err(e) if e.kind() == io::ErrorKind::AlreadyExists => Err(e),
-            // Some file systems have no links. There the name is taken by an empty file, which is then replaced.
-            Err(_) => {
-                OpenOptions::new().write(true).create_new(true).open(file)?;
-                self.rename(file).inspect_err(|_| drop(fs::remove_file(file)))
-            }
+            // Some file systems have no links.
+            Err(_) => self.claim(file),
         }
+    }
+
+    /// Takes the file's name by an empty file, which is then replaced.
+    fn claim(&mut self, file: &Path) -> io::Result<()> {
+        OpenOptions::new().write(true).create_new(true).open(file)?;
+        self.rename(file).inspect_err(|_| drop(fs::remove_file(file)))
     }
 
     fn rename(&mut self, file: &Path) -> io::Result<()> {
@@ -162,4 +154,26 @@ impl Drop for Part {
 /// Short whatever the file's name is, and of 64 random bits: runs in two containers may have one process number.
 fn part_name() -> String {
     format!(".kz-{:016x}.part", RandomState::new().build_hasher().finish())
+}
+
+#[cfg(test)]
+mod tests {
+    use super::*;
+
+    #[test]
+    fn a_name_is_claimed_once() {
+        let folder = std::env::temp_dir().join(part_name());
+        fs::create_dir(&folder).unwrap();
+        let file = folder.join("a");
+        let claim = |word: &[u8]| {
+            let mut part = Part::beside(&file, 0o666).unwrap();
+            part.fill(|to| to.write_all(word)).unwrap();
+            part.claim(&file).map_err(|e| e.kind())
+        };
+        assert_eq!(claim(b"one"), Ok(()));
+        assert_eq!(claim(b"two"), Err(io::ErrorKind::AlreadyExists));
+        assert_eq!(fs::read(&file).unwrap(), b"one");
+        assert_eq!(fs::read_dir(&folder).unwrap().count(), 1);
+        fs::remove_dir_all(&folder).unwrap();
+    }
 }

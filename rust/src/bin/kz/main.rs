@@ -13,7 +13,9 @@ mod paint;
 mod png;
 mod progress;
 mod restore;
+mod room;
 mod shown;
+mod source;
 mod sweep;
 
 use fail::Fail;

@@ -1,11 +1,19 @@
 //! Settings, weights and tables, from files or built in.
 
 use crate::fail::{numbered, Fail};
-use crate::files;
 use crate::given::Given;
+use crate::room;
 use crate::shown::shown;
+use crate::source::{unread, Source};
 use kyzgultam::{EncoderSettings, PixtralEncoder, Refusal};
 use std::path::{Path, PathBuf};
+
+/// What forward is lent, from one sweep to the next.
+#[derive(Default)]
+pub struct Lent {
+    scratch: Vec<f32>,
+    pub tokens: Vec<f32>,
+}
 
 pub struct Model {
     pub settings: EncoderSettings,
@@ -21,32 +29,39 @@ impl Model {
         let len = |len: Result<usize, Refusal>| len.map_err(refused_settings);
         let (weights_len, table_len) = (len(settings.weights_len())?, len(settings.tables_len())?);
         let files = ["--weights", "--tables"].map(|name| given.path(name));
+        let room = || weights_room(&settings, weights_len);
         let weights = match &files[0] {
-            Some(file) => floats(file, weights_len, Refusal::WeightsLength, "")?,
-            None => seeded(&settings, weights_len)?,
+            Some(file) => floats(file, weights_len, room, Refusal::WeightsLength, "").map(|[weights]| weights)?,
+            None => seeded(&settings, room()?),
         };
-        let (cos, sin) = match &files[1] {
-            Some(file) => {
-                let both = floats(file, 2 * table_len, Refusal::TableLength, ", the cosines and then the sines")?;
-                let (cos, sin) = both.split_at(table_len);
-                (cos.to_vec(), sin.to_vec())
-            }
-            None => {
-                let most = settings.picture.image_size / settings.picture.patch_size;
-                precompute_2d_rope(most, settings.head_dim, 10000.0)
-            }
+        let room = || table_room(&settings, table_len);
+        let order = ", the cosines and then the sines";
+        let [cos, sin] = match &files[1] {
+            Some(file) => floats(file, table_len, room, Refusal::TableLength, order)?,
+            None => precompute_2d_rope(&settings, 10000.0, [room()?, room()?]),
         };
         Ok(Model { settings, weights, cos, sin, files })
     }
 
-    /// The token vectors of patches.
-    pub fn forward(&self, patches: &[f32], grid: (usize, usize), scratch: &mut Vec<f32>) -> Result<Vec<f32>, Refusal> {
+    /// Room for the token vectors and the scratch of a grid; words where there is none.
+    pub fn lend(&self, grid: (usize, usize), lent: &mut Lent) -> Result<(), String> {
+        let s = self.settings;
+        let refused = |refusal: Refusal| numbered(refusal, RANGES);
+        let tokens = s.tokens_len(grid.0, grid.1).map_err(refused)?;
+        let scratch = s.scratch_len(grid.0, grid.1).map_err(refused)?;
+        let of = format!("of its grid of {}x{} patches", grid.0, grid.1);
+        let (hidden, intermediate, text) = (s.hidden_size, s.intermediate_size, s.text_hidden_size);
+        let sizes = format!("text={text}, image={}", s.picture.image_size);
+        room::fit(&mut lent.tokens, tokens, &format!("the token vectors {of} ({sizes})"), SMALLER)?;
+        let sizes = format!("hidden={hidden}, intermediate={intermediate}, {sizes}");
+        room::fit(&mut lent.scratch, scratch, &format!("the scratch {of} ({sizes})"), SMALLER)
+    }
+
+    /// The token vectors of patches, to what was lent for their grid.
+    pub fn forward(&self, patches: &[f32], grid: (usize, usize), lent: &mut Lent) -> Result<(), Refusal> {
         let settings = self.settings;
-        scratch.resize(settings.scratch_len(grid.0, grid.1)?, 0.0);
-        let mut out = vec![0.0; settings.tokens_len(grid.0, grid.1)?];
         let encoder = PixtralEncoder { settings, weights: &self.weights, rope_cos: &self.cos, rope_sin: &self.sin };
-        encoder.forward(patches, grid.0, grid.1, scratch, &mut out)?;
-        Ok(out)
+        encoder.forward(patches, grid.0, grid.1, &mut lent.scratch, &mut lent.tokens).map(drop)
     }
 
     /// What to do about a refusal of `forward`.
@@ -66,26 +81,58 @@ impl Model {
     }
 }
 
+const RANGES: &str = "`kz encode --help` has the ranges";
+const SMALLER: &str = "give smaller --settings";
+
 pub fn refused_settings(refusal: Refusal) -> Fail {
-    Fail::Refused(format!("--settings: {}", numbered(refusal, "`kz encode --help` has the ranges")))
+    Fail::Refused(format!("--settings: {}", numbered(refusal, RANGES)))
 }
 
-/// The floats of a file that is to have a certain count of them.
-fn floats(file: &Path, len: usize, refusal: Refusal, order: &str) -> Result<Vec<f32>, Fail> {
-    let bytes = files::read(file)?;
-    match files::floats(&bytes) {
-        Some(floats) if floats.len() == len => Ok(floats),
-        _ => Err(Fail::call(
-            file,
-            refusal,
-            format!(
-                "it has {} bytes, and these settings ask for {} ({len} floats of 4 bytes, little-endian{order}); \
-                 give the file's own --settings",
-                bytes.len(),
-                4 * len
-            ),
-        )),
+fn weights_room(s: &EncoderSettings, len: usize) -> Result<Vec<f32>, Fail> {
+    let (hidden, layers, intermediate) = (s.hidden_size, s.num_layers, s.intermediate_size);
+    let text = s.text_hidden_size;
+    let what = format!("the weights (hidden={hidden}, layers={layers}, intermediate={intermediate}, text={text})");
+    room::empty(len, &what, SMALLER).map_err(|words| Fail::Refused(format!("--settings: {words}")))
+}
+
+fn table_room(s: &EncoderSettings, len: usize) -> Result<Vec<f32>, Fail> {
+    let (image, patch, head) = (s.picture.image_size, s.picture.patch_size, s.head_dim);
+    let what = format!("a rotary table (image={image}, patch={patch}, head={head})");
+    room::empty(len, &what, SMALLER).map_err(|words| Fail::Refused(format!("--settings: {words}")))
+}
+
+/// The floats of a file, in parts of one length, which is to have just these. Its length is tested first.
+fn floats<const PARTS: usize>(
+    file: &Path,
+    len: usize,
+    room: impl Fn() -> Result<Vec<f32>, Fail>,
+    refusal: Refusal,
+    order: &str,
+) -> Result<[Vec<f32>; PARTS], Fail> {
+    let count = PARTS * len;
+    let needed = 4 * count as u64;
+    let wrong = |found: String| {
+        let asked = format!("these settings ask for {needed} ({count} floats of 4 bytes, little-endian{order})");
+        Fail::call(file, refusal, format!("it has {found} bytes, and {asked}; give the file's own --settings"))
+    };
+    let mut source = Source::open(file)?;
+    if let Some(found) = source.left().filter(|found| *found != needed) {
+        return Err(wrong(found.to_string()));
     }
+    let mut parts = [const { vec![] }; PARTS];
+    let mut found = 0;
+    for part in &mut parts {
+        *part = room()?;
+        part.resize(len, 0.0);
+        found += source.floats(part).map_err(unread(file))? as u64;
+    }
+    if found < needed {
+        return Err(wrong(found.to_string()));
+    }
+    if !source.ended().map_err(unread(file))? {
+        return Err(wrong(format!("more than {needed}")));
+    }
+    Ok(parts)
 }
 
 pub struct Random(u64);
@@ -110,12 +157,9 @@ impl Random {
 
 /// Weights that keep values near 1 in size: norms of 1, and matrices even in ±√(3 / inputs). Those of patch_conv are
 /// smooth over a patch, so that a token says more of brightness and slope than of grain.
-fn seeded(s: &EncoderSettings, len: usize) -> Result<Vec<f32>, Fail> {
+fn seeded(s: &EncoderSettings, mut weights: Vec<f32>) -> Vec<f32> {
     let (h, i, x) = (s.hidden_size, s.intermediate_size, s.text_hidden_size);
     let (p, m) = (s.picture.patch_size, s.picture.spatial_merge_size);
-    let mut weights = Vec::new();
-    let room = weights.try_reserve_exact(len);
-    room.map_err(|_| Fail::Refused(format!("{len} weights do not fit in memory; give smaller --settings")))?;
     // Outputs and inputs of each matrix, in order; a norm has no inputs.
     let layer = [(h, 0), (h, h), (h, h), (h, h), (h, h), (h, 0), (i, h), (i, h), (h, i)];
     let last = [(h, 0), (h, h * m * m), (x, h), (x, x)];
@@ -129,7 +173,7 @@ fn seeded(s: &EncoderSettings, len: usize) -> Result<Vec<f32>, Fail> {
             _ => weights.extend((0..out * inputs).map(|_| random.float() * size)),
         }
     }
-    Ok(weights)
+    weights
 }
 
 /// A row of patch_conv: waves of at most one period over a patch, the longer ones stronger, in each channel.
@@ -147,18 +191,21 @@ fn smooth(random: &mut Random, p: usize) -> Vec<f32> {
 
 /// The rotary tables as the Rust's `precompute_2d_rope` makes them: half of the angles turn with the row, half with
 /// the column.
-fn precompute_2d_rope(most: usize, head_dim: usize, theta: f32) -> (Vec<f32>, Vec<f32>) {
+fn precompute_2d_rope(s: &EncoderSettings, theta: f32, [mut cos, mut sin]: [Vec<f32>; 2]) -> [Vec<f32>; 2] {
+    let (most, head_dim) = (s.picture.image_size / s.picture.patch_size, s.head_dim);
     let (half, quarter) = (head_dim / 2, head_dim / 4);
     let freqs: Vec<f32> = (0..half).map(|i| 1.0 / theta.powf(2.0 * i as f32 / head_dim as f32)).collect();
-    let mut angles = Vec::with_capacity(most * most * head_dim);
     for h in 0..most {
         for w in 0..most {
+            let rows = (0..quarter).map(|j| h as f32 * freqs[2 * j]);
+            let columns = (0..quarter).map(|j| w as f32 * freqs[2 * j + 1]);
+            let angles = rows.chain(columns);
             // The first half and, again, the second.
-            for _ in 0..2 {
-                angles.extend((0..quarter).map(|j| h as f32 * freqs[2 * j]));
-                angles.extend((0..quarter).map(|j| w as f32 * freqs[2 * j + 1]));
+            for angle in angles.clone().chain(angles) {
+                cos.push(angle.cos());
+                sin.push(angle.sin());
             }
         }
     }
-    (angles.iter().map(|a| a.cos()).collect(), angles.iter().map(|a| a.sin()).collect())
+    [cos, sin]
 }

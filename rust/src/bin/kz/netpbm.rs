@@ -1,20 +1,26 @@
 //! Binary netpbm pictures: P5 (grey) and P6 (RGB), samples of one byte.
 
 use crate::fail::{numbered, Fail};
-use crate::files;
+use crate::room;
+use crate::source::Source;
 use kyzgultam::Refusal;
-use std::io::{self, Write};
+use std::io::{self, Read, Write};
 use std::path::Path;
 
 /// Three bytes a pixel, by row.
+#[derive(Clone)]
 pub struct Picture {
     pub height: usize,
     pub width: usize,
     pub rgb: Vec<u8>,
 }
 
+/// A header with its comments is not longer than this.
+const HEADER: usize = 1 << 16;
+
+/// Reads a picture. Its header, and then its length, are tested before its samples are read.
 pub fn read(file: &Path) -> Result<Picture, Fail> {
-    parse(&files::read(file)?).map_err(|why| Fail::file(file, why))
+    parse(&mut Source::open(file)?).map_err(|why| Fail::file(file, why))
 }
 
 /// Writes a P6.
@@ -56,6 +62,9 @@ impl Header<'_> {
         }
         match (number, byte) {
             (Some(number), Some(byte)) if white(byte) => Ok(number),
+            (_, None) if self.bytes.len() == HEADER => {
+                Err(format!("is no netpbm picture: its header is longer than {HEADER} bytes; write it again"))
+            }
             (_, None) => Err(format!("ends inside its header, at its {what}; get the whole file")),
             _ => Err(format!("is no netpbm picture: its {what} is no decimal; write it again as P5 or P6")),
         }
@@ -66,7 +75,16 @@ fn white(byte: u8) -> bool {
     matches!(byte, b' ' | b'\t' | b'\n' | b'\r' | 0x0B | 0x0C)
 }
 
-fn parse(bytes: &[u8]) -> Result<Picture, String> {
+/// What a header says: channels, sides, the highest sample, and its own length.
+struct Head {
+    channels: usize,
+    height: usize,
+    width: usize,
+    most: usize,
+    len: usize,
+}
+
+fn head(bytes: &[u8]) -> Result<Head, String> {
     let channels = match bytes.get(..2) {
         Some(b"P5") => 1,
         Some(b"P6") => 3,
@@ -89,34 +107,63 @@ fn parse(bytes: &[u8]) -> Result<Picture, String> {
     if !(sides.contains(&height) && sides.contains(&width)) {
         return Err(numbered(Refusal::Side, format!("it is {height}x{width}: cut or shrink it")));
     }
-    let raster = &bytes[header.at..];
+    Ok(Head { channels, height, width, most, len: header.at })
+}
+
+fn parse(source: &mut Source<impl Read>) -> Result<Picture, String> {
+    let unread = |e: io::Error| format!("cannot be read: {e}");
+    let Head { channels, height, width, most, len } = head(source.look(HEADER).map_err(unread)?)?;
+    source.take(&mut vec![0; len]).map_err(unread)?;
     let needed = height * width * channels;
-    if raster.len() < needed {
-        let found = raster.len();
-        return Err(format!("is cut short: {found} bytes of samples where {needed} belong; get the whole file"));
+    let fits = |found: u64| match found.checked_sub(needed as u64) {
+        None => Err(format!("is cut short: {found} bytes of samples where {needed} belong; get the whole file")),
+        Some(0) => Ok(()),
+        Some(more) => Err(format!("goes on for {more} bytes after its picture; {ONE}")),
+    };
+    source.left().map_or(Ok(()), fits)?;
+    let what = format!("its {height}x{width} pixels");
+    let mut rgb = room::zeros(height * width * 3, &what, "cut or shrink the picture")?;
+    // Grey samples go to the end, and are then spread from the front on.
+    let start = rgb.len() - needed;
+    let found = source.take(&mut rgb[start..]).map_err(unread)?;
+    if found < needed {
+        fits(found as u64)?;
     }
-    if raster.len() > needed {
-        let more = raster.len() - needed;
-        return Err(format!("goes on for {more} bytes after its picture; give one picture a file (`pamsplit`)"));
+    if !source.ended().map_err(unread)? {
+        return Err(format!("goes on after its picture; {ONE}"));
+    }
+    if let Some(value) = rgb[start..].iter().find(|v| usize::from(**v) > most) {
+        return Err(format!("has a sample of {value}, above its maxval {most}; write it again"));
     }
     let mut table = [0; 256];
     for (value, byte) in table.iter_mut().enumerate().take(most + 1) {
         *byte = ((value * 255 + most / 2) / most) as u8;
     }
-    if let Some(value) = raster.iter().find(|v| usize::from(**v) > most) {
-        return Err(format!("has a sample of {value}, above its maxval {most}; write it again"));
+    if channels == 1 {
+        for i in 0..needed {
+            let grey = rgb[start + i];
+            rgb[3 * i..3 * i + 3].fill(grey);
+        }
     }
-    let samples = raster.iter().map(|v| table[usize::from(*v)]);
-    let rgb = if channels == 3 { samples.collect() } else { samples.flat_map(|v| [v; 3]).collect() };
+    for byte in &mut rgb {
+        *byte = table[usize::from(*byte)];
+    }
     Ok(Picture { height, width, rgb })
 }
+
+const ONE: &str = "give one picture a file (`pamsplit`)";
 
 #[cfg(test)]
 mod tests {
     use super::*;
 
     fn read(head: &str, raster: &[u8]) -> Result<(usize, usize, Vec<u8>), String> {
-        parse(&[head.as_bytes(), raster].concat()).map(|p| (p.height, p.width, p.rgb))
+        let bytes = [head.as_bytes(), raster].concat();
+        let read = |left| parse(&mut Source::new(&bytes[..], left)).map(|p| (p.height, p.width, p.rgb));
+        // From a file, and from a pipe, whose length is not known.
+        let (known, unknown) = (read(Some(bytes.len() as u64)), read(None));
+        assert!(known == unknown || known.as_ref().is_err_and(|e| e.contains("bytes after")), "{head:?}");
+        known
     }
 
     #[test]
@@ -166,6 +213,7 @@ mod tests {
             ("P6\n1 1\n255\n", &six, "3 bytes after"),
             ("P6\n0 1\n255\n", &six[..0], "number 2"),
             ("P6\n1 8193\n255\n", &six, "number 2"),
+            (&format!("P6\n#{}\n1 1 255\n", " ".repeat(HEADER)), &six[..3], "header is longer than 65536 bytes"),
             ("P6\n99999999999999999999999 99999999999999999999999\n255\n", &six, "number 2"),
         ] {
             let found = read(head, raster).unwrap_err();

@@ -21,7 +21,7 @@ fn colour(x: f32) -> [f32; 3] {
 }
 
 /// A value for each cell of a grid over a picture, as colours through which the picture shows.
-pub fn heat(picture: &Picture, grid: (usize, usize), values: &[f32]) -> Picture {
+pub fn heat(picture: Picture, grid: (usize, usize), values: &[f32]) -> Picture {
     let (low, high) = values.iter().fold((f32::MAX, f32::MIN), |(l, h), v| (l.min(*v), h.max(*v)));
     cells(picture, grid, |i, grey| {
         let value = (values[i] - low) / (high - low).max(1e-9);
@@ -30,7 +30,7 @@ pub fn heat(picture: &Picture, grid: (usize, usize), values: &[f32]) -> Picture 
 }
 
 /// The cells that are marked in red, over the picture, which is dimmed elsewhere.
-pub fn marks(picture: &Picture, grid: (usize, usize), marked: &[bool]) -> Picture {
+pub fn marks(picture: Picture, grid: (usize, usize), marked: &[bool]) -> Picture {
     cells(
         picture,
         grid,
@@ -39,16 +39,15 @@ pub fn marks(picture: &Picture, grid: (usize, usize), marked: &[bool]) -> Pictur
 }
 
 /// Paints each pixel by its cell and its grey.
-fn cells(picture: &Picture, grid: (usize, usize), paint: impl Fn(usize, f32) -> [f32; 3]) -> Picture {
+fn cells(mut picture: Picture, grid: (usize, usize), paint: impl Fn(usize, f32) -> [f32; 3]) -> Picture {
     let (height, width) = (picture.height, picture.width);
     let (rows, columns) = (height / grid.0, width / grid.1);
-    let mut rgb = Vec::with_capacity(picture.rgb.len());
-    for (k, pixel) in picture.rgb.chunks_exact(3).enumerate() {
+    for (k, pixel) in picture.rgb.chunks_exact_mut(3).enumerate() {
         let i = k / width / rows * grid.1 + k % width / columns;
         let grey = pixel.iter().map(|b| f32::from(*b)).sum::<f32>() / 3.0;
-        rgb.extend(paint(i, grey).map(|x| x.round() as u8));
+        pixel.copy_from_slice(&paint(i, grey).map(|x| x.round() as u8));
     }
-    Picture { height, width, rgb }
+    picture
 }
 
 /// A frame around a cell, white and, inside that, black.

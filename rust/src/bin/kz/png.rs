@@ -1,67 +1,88 @@
 //! PNG pictures, stored without compression.
 
 use crate::netpbm::Picture;
+use std::io::{self, Write};
+use std::iter::once;
 
-/// Three bytes a pixel; a grey picture is stored as one.
-pub fn png(picture: &Picture) -> Vec<u8> {
+/// Bytes of a stored block.
+const BLOCK: usize = 0xFFFF;
+
+/// Writes a picture, three bytes a pixel; one of a grey picture.
+pub fn png(to: &mut dyn Write, picture: &Picture) -> io::Result<()> {
     let Picture { height, width, rgb } = picture;
     let grey = rgb.chunks_exact(3).all(|p| p[0] == p[1] && p[1] == p[2]);
-    let mut rows = Vec::new();
-    for row in rgb.chunks_exact(*width * 3) {
-        rows.push(0); // no filter
-        if grey {
-            rows.extend(row.iter().step_by(3));
-        } else {
-            rows.extend(row);
-        }
-    }
+    let (colour, step) = if grey { (0, 3) } else { (2, 1) };
     let mut head = Vec::new();
     head.extend((*width as u32).to_be_bytes());
     head.extend((*height as u32).to_be_bytes());
-    head.extend([8, if grey { 0 } else { 2 }, 0, 0, 0]); // depth, colour, and the only methods there are
-    let mut file = b"\x89PNG\r\n\x1a\n".to_vec();
-    chunk(&mut file, b"IHDR", &head);
-    chunk(&mut file, b"IDAT", &zlib(&rows));
-    chunk(&mut file, b"IEND", &[]);
-    file
+    head.extend([8, colour, 0, 0, 0]); // depth, colour, and the only methods there are
+    to.write_all(b"\x89PNG\r\n\x1a\n")?;
+    chunk(to, b"IHDR", head.len(), |to| to.put(&head))?;
+    let len = height * (1 + width * 3 / step);
+    // Each row after a byte that says: no filter.
+    let rows = rgb.chunks_exact(width * 3).flat_map(|row| once(0).chain(row.iter().step_by(step).copied()));
+    chunk(to, b"IDAT", 2 + len + 5 * len.div_ceil(BLOCK) + 4, |to| zlib(to, rows, len))?;
+    chunk(to, b"IEND", 0, |_| Ok(()))
 }
 
-fn chunk(file: &mut Vec<u8>, name: &[u8; 4], bytes: &[u8]) {
-    file.extend((bytes.len() as u32).to_be_bytes());
-    let start = file.len();
-    file.extend(name);
-    file.extend(bytes);
-    let sum = crc32(&file[start..]);
-    file.extend(sum.to_be_bytes());
+/// What is written into a chunk, and the sum of it.
+struct Chunk<'a> {
+    to: &'a mut dyn Write,
+    crc: u32,
+}
+
+impl Chunk<'_> {
+    fn put(&mut self, bytes: &[u8]) -> io::Result<()> {
+        self.crc = crc32(self.crc, bytes);
+        self.to.write_all(bytes)
+    }
+}
+
+fn chunk(
+    to: &mut dyn Write,
+    name: &[u8; 4],
+    len: usize,
+    fill: impl FnOnce(&mut Chunk) -> io::Result<()>,
+) -> io::Result<()> {
+    to.write_all(&(len as u32).to_be_bytes())?;
+    let mut chunk = Chunk { to, crc: 0 };
+    chunk.put(name)?;
+    fill(&mut chunk)?;
+    let sum = chunk.crc;
+    to.write_all(&sum.to_be_bytes())
 }
 
 /// A zlib stream of stored blocks.
-fn zlib(bytes: &[u8]) -> Vec<u8> {
-    let mut stream = vec![0x78, 0x01];
-    let mut blocks = bytes.chunks(0xFFFF).peekable();
-    while let Some(block) = blocks.next() {
+fn zlib(to: &mut Chunk, mut bytes: impl Iterator<Item = u8>, len: usize) -> io::Result<()> {
+    to.put(&[0x78, 0x01])?;
+    let (mut left, mut sums, mut block) = (len, (1, 0), Vec::with_capacity(BLOCK));
+    while left > 0 {
+        block.clear();
+        block.extend(bytes.by_ref().take(BLOCK));
+        left -= block.len();
         let len = block.len() as u16;
-        stream.push(u8::from(blocks.peek().is_none()));
-        stream.extend(len.to_le_bytes());
-        stream.extend((!len).to_le_bytes());
-        stream.extend(block);
+        to.put(&[u8::from(left == 0)])?;
+        to.put(&len.to_le_bytes())?;
+        to.put(&(!len).to_le_bytes())?;
+        to.put(&block)?;
+        sums = adler32(sums, &block);
     }
-    stream.extend(adler32(bytes).to_be_bytes());
-    stream
+    to.put(&(sums.1 << 16 | sums.0).to_be_bytes())
 }
 
-fn crc32(bytes: &[u8]) -> u32 {
-    !bytes.iter().fold(!0, |crc, byte| {
+/// The sum of more bytes, after those of a sum that begins with 0.
+fn crc32(sum: u32, bytes: &[u8]) -> u32 {
+    !bytes.iter().fold(!sum, |crc, byte| {
         (0..8).fold(crc ^ u32::from(*byte), |c, _| if c & 1 == 1 { c >> 1 ^ 0xEDB8_8320 } else { c >> 1 })
     })
 }
 
-fn adler32(bytes: &[u8]) -> u32 {
-    let (a, b) = bytes.iter().fold((1, 0), |(a, b), byte| {
+/// The two sums of more bytes, after those that begin with 1 and 0.
+fn adler32(sums: (u32, u32), bytes: &[u8]) -> (u32, u32) {
+    bytes.iter().fold(sums, |(a, b), byte| {
         let a = (a + u32::from(*byte)) % 65521;
         (a, (b + a) % 65521)
-    });
-    b << 16 | a
+    })
 }
 
 #[cfg(test)]
@@ -70,16 +91,33 @@ mod tests {
 
     #[test]
     fn check_values() {
-        assert_eq!(crc32(b"123456789"), 0xCBF4_3926);
-        assert_eq!(adler32(b"Wikipedia"), 0x11E6_0398);
+        assert_eq!(crc32(crc32(0, b"12345"), b"6789"), 0xCBF4_3926);
+        assert_eq!(adler32(adler32((1, 0), b"Wiki"), b"pedia"), (0x0398, 0x11E6));
+    }
+
+    fn file(height: usize, width: usize, rgb: &[u8]) -> Vec<u8> {
+        let mut file = Vec::new();
+        png(&mut file, &Picture { height, width, rgb: rgb.to_vec() }).unwrap();
+        file
     }
 
     #[test]
     fn one_pixel() {
-        let png = |rgb: [u8; 3]| png(&Picture { height: 1, width: 1, rgb: rgb.to_vec() });
-        let file = png([1, 2, 3]);
-        assert_eq!(file[16..29], [0, 0, 0, 1, 0, 0, 0, 1, 8, 2, 0, 0, 0]);
-        assert_eq!(file[41..52], [0x78, 1, 1, 4, 0, 251, 255, 0, 1, 2, 3]);
-        assert_eq!(png([9, 9, 9])[25], 0);
+        let one = file(1, 1, &[1, 2, 3]);
+        assert_eq!(one[16..29], [0, 0, 0, 1, 0, 0, 0, 1, 8, 2, 0, 0, 0]);
+        assert_eq!(one[41..52], [0x78, 1, 1, 4, 0, 251, 255, 0, 1, 2, 3]);
+        assert_eq!(file(1, 1, &[9, 9, 9])[25], 0);
+    }
+
+    #[test]
+    fn two_blocks() {
+        let rgb: Vec<u8> = (0..3 * 150 * 150).map(|i| i as u8).collect();
+        let many = file(150, 150, &rgb);
+        let len = 150 * 451;
+        assert_eq!(many[33..37], (2 + len + 10 + 4u32).to_be_bytes());
+        assert_eq!(many[43..48], [0, 255, 255, 0, 0]);
+        let rest = (len as u16).wrapping_sub(65535);
+        assert_eq!(many[48 + 65535..48 + 65538], [&[1][..], &rest.to_le_bytes()].concat());
+        assert_eq!(many.len(), 33 + 12 + 2 + len as usize + 10 + 4 + 12);
     }
 }
