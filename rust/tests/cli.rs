@@ -2,7 +2,7 @@
 
 mod common;
 
-use common::tool::{floats, p6, sweep, Folder, LIST, TABLE, TINY, WEIGHTS};
+use common::tool::{npy, p6, plain, sweep, Folder, LIST, TABLE, TINY, WEIGHTS};
 use common::Random;
 use kyzgultam::{pixtral_preprocess, restore};
 use std::fs;
@@ -28,6 +28,7 @@ fn usage() {
     sweep(&folder, "a.ppm", 8, 8, 1);
     fs::create_dir(folder.path("b")).unwrap();
     sweep(&folder, "b/a.ppm", 8, 8, 1);
+    folder.put("b/a.patches", &[0; 4]);
     for (words, part) in [
         ("", "no command"),
         ("frobnicate", "no command frobnicate"),
@@ -52,7 +53,7 @@ fn usage() {
         ("restore -o out.ppm", "one FILE.patches"),
         ("restore a b -o out.ppm", "one FILE.patches"),
         ("restore a.patches", "-o OUT.ppm is missing"),
-        ("restore a.patches -o out.ppm", "give --grid HxW"),
+        ("restore b/a.patches -o out.ppm", "give --grid HxW"),
         ("restore a.patches -o out.ppm --grid 2", "--grid takes"),
         ("restore a.patches -o out.ppm --grid 2x", "--grid takes"),
         ("restore a.patches -o out.ppm --grid 2x2x2", "--grid takes"),
@@ -80,21 +81,24 @@ fn patches_and_back() {
         let mut resized = vec![0; patches.len()];
         let size = restore(&patches, cut.grid_h, cut.grid_w, &TINY, &mut resized).unwrap();
 
-        let file = format!("out/{name}.{}x{}.patches", cut.grid_h, cut.grid_w);
+        let file = format!("out/{name}.patches.npy");
         let said = folder.done(&format!("patches {name}.ppm -o out {LIST}"));
-        assert!(said.contains(&file), "{said}");
-        let written = floats(&folder.get(&file));
-        assert!(common::same(&written, &patches));
+        assert_eq!(said, format!("{file}: {}x{} patches of 12 floats\n", cut.grid_h, cut.grid_w));
+        assert_eq!(folder.get(&file), npy([cut.grid_h, cut.grid_w, 12], &patches));
 
         folder.done(&format!("restore {file} -o {name}.back.ppm {LIST}"));
         assert_eq!(folder.get(&format!("{name}.back.ppm")), p6(size.height, size.width, &resized));
         if name == "even" {
             assert_eq!(resized, rgb);
         }
-        // Another name, and the grid said.
-        fs::rename(folder.path(&file), folder.path("plain")).unwrap();
-        folder.done(&format!("restore plain --grid {}x{} --out={name}.again.ppm {LIST}", cut.grid_h, cut.grid_w));
-        assert_eq!(folder.get(&format!("{name}.again.ppm")), folder.get(&format!("{name}.back.ppm")));
+        // Another name, plain floats with the grid, and a grid that is said twice.
+        let grid = format!("{}x{}", cut.grid_h, cut.grid_w);
+        fs::rename(folder.path(&file), folder.path("renamed")).unwrap();
+        folder.put("plain", &plain(&patches));
+        for words in ["renamed".into(), format!("renamed --grid {grid}"), format!("plain --grid {grid}")] {
+            folder.done(&format!("restore {words} --out={name}.again.ppm --force {LIST}"));
+            assert_eq!(folder.get(&format!("{name}.again.ppm")), folder.get(&format!("{name}.back.ppm")));
+        }
     }
     assert!(folder.names("out").is_empty());
 }
@@ -107,7 +111,7 @@ fn grey_is_three_alike() {
     folder.put("grey.pgm", &[b"P5 # grey\n9 6\n255\n", &grey[..]].concat());
     folder.put("colour.ppm", &p6(6, 9, &rgb));
     folder.done(&format!("patches grey.pgm colour.ppm -o out {LIST}"));
-    assert_eq!(folder.get("out/grey.4x6.patches"), folder.get("out/colour.4x6.patches"));
+    assert_eq!(folder.get("out/grey.patches.npy"), folder.get("out/colour.patches.npy"));
     assert!(folder.done(&format!("compare grey.pgm colour.ppm {LIST}")).starts_with("24 of 24 patches are equal\n"));
 }
 
@@ -117,11 +121,10 @@ fn encode_is_forward() {
     let rgb = sweep(&folder, "a.ppm", 8, 12, 5);
     let mut random = Random(6);
     let (weights, tables) = (random.floats(WEIGHTS, 0.3), random.floats(2 * TABLE, 1.0));
-    let bytes = |x: &[f32]| x.iter().flat_map(|f| f.to_le_bytes()).collect::<Vec<_>>();
-    folder.put("w", &bytes(&weights));
-    folder.put("t", &bytes(&tables));
+    folder.put("w", &plain(&weights));
+    folder.put("t", &plain(&tables));
     let said = folder.done(&format!("encode a.ppm -o out --weights w --tables t {LIST}"));
-    assert_eq!(said, "out/a.2x3.tokens: 6 tokens of 3 floats\n");
+    assert_eq!(said, "out/a.tokens.npy: 2x3 tokens of 3 floats\n");
 
     let settings = kyzgultam::EncoderSettings {
         picture: TINY,
@@ -140,13 +143,13 @@ fn encode_is_forward() {
     let mut scratch = vec![0.0; settings.scratch_len(4, 6).unwrap()];
     let mut out = vec![0.0; 18];
     kyzgultam::forward(&settings, &patches, 4, 6, &weights, cos, sin, &mut scratch, &mut out).unwrap();
-    assert_eq!(folder.get("out/a.2x3.tokens"), bytes(&out));
+    assert_eq!(folder.get("out/a.tokens.npy"), npy([2, 3, 3], &out));
 
     // The built-in weights and tables are the same each time.
     folder.done(&format!("encode a.ppm -o first {LIST}"));
     folder.done(&format!("encode a.ppm -o second {LIST}"));
-    assert_eq!(folder.get("first/a.2x3.tokens"), folder.get("second/a.2x3.tokens"));
-    assert_ne!(folder.get("first/a.2x3.tokens"), folder.get("out/a.2x3.tokens"));
+    assert_eq!(folder.get("first/a.tokens.npy"), folder.get("second/a.tokens.npy"));
+    assert_ne!(folder.get("first/a.tokens.npy"), folder.get("out/a.tokens.npy"));
 }
 
 #[test]
@@ -185,19 +188,21 @@ fn refused_with_file_number_and_advice() {
     run("encode flat.pgm -o out", &["flat.pgm: ", "number 2", "0x0"]);
 
     folder.done(&format!("patches a.ppm -o . {LIST}"));
-    let whole = folder.get("a.4x4.patches");
-    list("restore a.4x4.patches -o b.ppm --grid 3x4", &["a.4x4.patches: ", "number 6", "3x4"]);
-    list("restore a.4x4.patches -o b.ppm --grid 4x10", &["number 6"]);
-    list("restore a.4x4.patches -o b.ppm --grid 2x4", &["number 7", "2x4", "--grid"]);
-    run("restore a.4x4.patches -o b.ppm --settings patch=33", &["--settings: refused, number 1"]);
-    folder.put("cut.4x4.patches", &whole[..whole.len() - 4]);
-    list("restore cut.4x4.patches -o b.ppm", &["cut.4x4.patches: ", "number 7"]);
-    folder.put("torn.4x4.patches", &whole[..whole.len() - 1]);
-    list("restore torn.4x4.patches -o b.ppm", &["torn.4x4.patches: ", "number 7"]);
+    let whole = folder.get("a.patches.npy");
+    let floats = &whole[whole.len() - 4 * 4 * 4 * 12..];
+    folder.put("plain", floats);
+    list("restore plain -o b.ppm --grid 3x4", &["plain: ", "number 6", "3x4"]);
+    list("restore plain -o b.ppm --grid 4x10", &["number 6"]);
+    list("restore plain -o b.ppm --grid 2x4", &["number 7", "2x4", "--grid"]);
+    run("restore a.patches.npy -o b.ppm --settings patch=33", &["--settings: refused, number 1"]);
+    folder.put("cut", &floats[..floats.len() - 4]);
+    list("restore cut -o b.ppm --grid 4x4", &["cut: ", "number 7"]);
+    folder.put("torn", &floats[..floats.len() - 1]);
+    list("restore torn -o b.ppm --grid 4x4", &["torn: ", "number 7"]);
     let mut bad = whole.clone();
-    bad[9] ^= 1;
-    folder.put("bad.4x4.patches", &bad);
-    list("restore bad.4x4.patches -o b.ppm", &["bad.4x4.patches: ", "number 8", "damaged"]);
+    bad[whole.len() - floats.len() + 9] ^= 1;
+    folder.put("bad.npy", &bad);
+    list("restore bad.npy -o b.ppm", &["bad.npy: ", "number 8", "damaged"]);
 
     sweep(&folder, "wider.ppm", 8, 12, 1);
     list("compare a.ppm wider.ppm", &["a.ppm", "wider.ppm", "4x4", "4x6"]);
@@ -237,9 +242,9 @@ fn nothing_is_overwritten() {
     folder.done(&format!("patches a.ppm -o . {LIST}"));
     fs::create_dir(folder.path("out")).unwrap();
     let commands = [
-        ("encode a.ppm -o out", "out/a.2x2.tokens"),
-        ("patches a.ppm -o out", "out/a.4x4.patches"),
-        ("restore a.4x4.patches -o out/back.ppm", "out/back.ppm"),
+        ("encode a.ppm -o out", "out/a.tokens.npy"),
+        ("patches a.ppm -o out", "out/a.patches.npy"),
+        ("restore a.patches.npy -o out/back.ppm", "out/back.ppm"),
         ("compare a.ppm b.ppm -o out/map.png", "out/map.png"),
         ("compare a.ppm b.ppm -o out/map.ppm", "out/map.ppm"),
     ];
@@ -253,9 +258,9 @@ fn nothing_is_overwritten() {
     // A folder in the way stays, forced or not.
     fs::create_dir(folder.path("taken.ppm")).unwrap();
     for force in ["", "--force"] {
-        folder.fails(1, &format!("restore a.4x4.patches -o taken.ppm {LIST} {force}"), &["taken.ppm"]);
+        folder.fails(1, &format!("restore a.patches.npy -o taken.ppm {LIST} {force}"), &["taken.ppm"]);
     }
-    folder.fails(1, &format!("restore a.4x4.patches -o no/such/folder.ppm {LIST}"), &["no/such/folder.ppm"]);
+    folder.fails(1, &format!("restore a.patches.npy -o no/such/folder.ppm {LIST}"), &["no/such/folder.ppm"]);
     folder.fails(1, &format!("patches a.ppm -o a.ppm {LIST}"), &["a.ppm: this folder cannot be made"]);
     // Nothing that was begun is left.
     for names in [folder.names("."), folder.names("out")] {
@@ -274,7 +279,7 @@ fn a_list_goes_on_past_a_refused_sweep() {
     let said = String::from_utf8(output.stderr).unwrap();
     assert!(said.contains("kz: broken.ppm: is cut short"), "{said}");
     assert!(said.ends_with("kz: 1 of 3 sweeps were refused\n"), "{said}");
-    assert_eq!(folder.names("out"), ["a.2x2.tokens", "c.2x2.tokens"]);
+    assert_eq!(folder.names("out"), ["a.tokens.npy", "c.tokens.npy"]);
     assert_eq!(String::from_utf8(output.stdout).unwrap().lines().count(), 2);
 }
 
@@ -302,7 +307,7 @@ fn names_after_two_dashes_are_files() {
     let folder = Folder::new("dashes");
     sweep(&folder, "-a.ppm", 8, 8, 1);
     folder.done(&format!("patches -o out {LIST} -- -a.ppm"));
-    assert_eq!(folder.names("out"), ["-a.4x4.patches"]);
+    assert_eq!(folder.names("out"), ["-a.patches.npy"]);
 }
 
 #[test]
@@ -382,5 +387,5 @@ fn demo() {
     folder.fails(1, "demo -o d", &["d/sweep.png", "--force"]);
     // Its sweep is one for the other commands.
     folder.done("patches d/sweep.ppm -o d");
-    assert!(Path::new(&folder.path("d/sweep.36x48.patches")).exists());
+    assert!(Path::new(&folder.path("d/sweep.patches.npy")).exists());
 }

@@ -2,9 +2,12 @@
 
 mod common;
 
-use common::tool::{sweep, Folder, LIST};
+use common::tool::{npy, npy_head, plain, sweep, Folder, LIST, TINY};
+use common::Random;
+use kyzgultam::pixtral_preprocess;
 use std::ffi::{OsStr, OsString};
 use std::fs::{self, Permissions};
+use std::io::{self, Write};
 use std::os::unix::ffi::OsStrExt;
 use std::os::unix::fs::{symlink, FileTypeExt, PermissionsExt};
 use std::process::{Command, Stdio};
@@ -94,10 +97,10 @@ fn a_run_removes_only_what_it_made() {
     sweep(&folder, "a.ppm", 8, 8, 1);
     // A file of another run whose process has the same number, as in another container: exec keeps the number.
     let words = format!("patches a.ppm -o out {LIST}");
-    let script = "mkdir out; echo theirs > out/.a.4x4.patches.$$.part; exec \"$@\"";
+    let script = "mkdir out; echo theirs > out/.a.patches.npy.$$.part; exec \"$@\"";
     let output = folder.shell(script, &words).output().unwrap();
     assert_eq!(output.status.code(), Some(0), "{}", String::from_utf8_lossy(&output.stderr));
-    assert_eq!(folder.get("out/a.4x4.patches").len(), 4 * 8 * 8 * 3);
+    assert_eq!(folder.get("out/a.patches.npy").len(), 128 + 4 * 8 * 8 * 3);
     let names = folder.names("out");
     assert!(names.len() == 2 && names[0].ends_with(".part"), "{names:?}");
     assert_eq!(folder.get(&format!("out/{}", names[0])), b"theirs\n");
@@ -119,12 +122,12 @@ fn of_two_runs_at_once_one_writes_each_file() {
         let start = || folder.command(&words).stdout(Stdio::piped()).stderr(Stdio::piped()).spawn().unwrap();
         let outputs = [start(), start()].map(|run| run.wait_with_output().unwrap());
         for name in &names {
-            let file = format!("{name}.8x8.patches");
+            let file = format!("{name}.patches.npy");
             assert_eq!(folder.get(&format!("{out}/{file}")), folder.get(&format!("right/{file}")), "{file}");
             // One says that it wrote the file, and the other that it is there.
             let [one, two] = outputs.each_ref().map(|output| {
                 let (said, errors) = (String::from_utf8_lossy(&output.stdout), String::from_utf8_lossy(&output.stderr));
-                let wrote = said.contains(&format!("{out}/{file}: 64 patches of 12 floats\n"));
+                let wrote = said.contains(&format!("{out}/{file}: 8x8 patches of 12 floats\n"));
                 let there = errors.contains(&format!("kz: {out}/{file}: is there already"));
                 assert!(wrote != there, "{file}: {said}{errors}");
                 wrote
@@ -342,4 +345,149 @@ fn a_length_is_tested_before_it_is_read() {
     assert!(status == Some(1) && said.contains("/dev/stdin: goes on after its picture"), "{said}");
     let (status, said) = pipe("head -c 100 a.ppm", "patches /dev/stdin -o out --force");
     assert!(status == Some(1) && said.contains("is cut short: 89 bytes of samples where 192 belong"), "{said}");
+}
+
+#[test]
+fn a_patches_file_says_its_shape() {
+    let folder = Folder::new("shape");
+    let rgb = sweep(&folder, "a.ppm", 8, 12, 1);
+    let mut patches = vec![0.0; rgb.len()];
+    pixtral_preprocess(&rgb, 8, 12, &TINY, &mut patches).unwrap();
+    folder.done(&format!("patches a.ppm -o . {LIST}"));
+    // A name says nothing.
+    fs::rename(folder.path("a.patches.npy"), folder.path("a.6x4.patches")).unwrap();
+    folder.done(&format!("restore a.6x4.patches -o back.ppm {LIST}"));
+    assert_eq!(folder.get("back.ppm"), folder.get("a.ppm"));
+    folder.put("old.6x4.patches", &plain(&patches));
+    folder.fails(2, &format!("restore old.6x4.patches -o out.ppm {LIST}"), &["old.6x4.patches: ", "give --grid HxW"]);
+
+    let fails = |name: &str, words: &str, parts: &[&str]| {
+        folder.fails(1, &format!("restore {name} -o out.ppm {words} {LIST}"), parts);
+    };
+    fails("a.6x4.patches", "--grid 6x4", &["a.6x4.patches: has a grid of 4x6, and --grid says 6x4; leave --grid out"]);
+    for (shape, part) in [
+        ([4, 6, 11], "damaged: its shape 4x6x11 asks for 1056 bytes, and 1152 stand behind its header"),
+        ([4, 4, 12], "damaged: its shape 4x4x12"),
+        ([6, 6, 8], "number 7: "),
+        ([24, 1, 12], "number 6: "),
+        ([3, 8, 12], "number 6: "),
+        ([0, 0, 0], "damaged"),
+    ] {
+        folder.put("wrong.npy", &npy(shape, &patches));
+        fails("wrong.npy", "", &["wrong.npy: ", part]);
+    }
+    let whole = npy([4, 6, 12], &patches);
+    folder.put("cut.npy", &whole[..whole.len() - 4]);
+    fails("cut.npy", "", &["cut.npy: is damaged"]);
+    folder.put("more.npy", &[&whole[..], b"1234"].concat());
+    fails("more.npy", "", &["more.npy: is damaged"]);
+    folder.put("plain.npy", &plain(&patches));
+    fails("plain.npy", "--grid 4x6", &["plain.npy: is no .npy file"]);
+    // From a pipe its length shows at its end.
+    for (script, part) in [("head -c 1200 cut.npy", "number 7"), ("cat more.npy", "number 7")] {
+        let words = format!("restore /dev/stdin -o out.ppm {LIST}");
+        let output = folder.shell(&format!("{script} | \"$@\""), &words).output().unwrap();
+        assert!(String::from_utf8(output.stderr).unwrap().contains(part));
+    }
+    // Another patch size, and token vectors: not the patches of these settings.
+    folder.fails(1, "restore a.6x4.patches -o out.ppm", &["number 7", "4x6 patches of 12 floats", "--settings"]);
+    folder.done(&format!("encode a.ppm -o . {LIST}"));
+    folder.fails(1, "restore a.tokens.npy -o out.ppm --settings patch=2,merge=1,image=16", &["number 7"]);
+    assert!(!folder.path("out.ppm").exists());
+}
+
+#[test]
+fn hostile_npy_headers_are_refused() {
+    let folder = Folder::new("hostile");
+    let dict = |descr: &str, order: &str, shape: &str| {
+        npy_head(&format!("{{'descr': {descr}, 'fortran_order': {order}, 'shape': {shape}, }}"))
+    };
+    let nines = "9".repeat(400);
+    let mut random = Random(9);
+    let mut heads = vec![
+        dict("'<f8'", "False", "(4, 4, 12)"),
+        dict("'>f4'", "False", "(4, 4, 12)"),
+        dict("'<f4'", "True", "(4, 4, 12)"),
+        dict("'<f4'", "False", "(16, 12)"),
+        dict("'<f4'", "False", &format!("({nines}, 4, 12)")),
+        dict("'<f4'", "False", "(18446744073709551615, 18446744073709551615, 18446744073709551615)"),
+        dict("'<f4'", "False", "(4611686018427387904, 1, 1)"),
+        dict("'<f4'", "False", "(-4, -4, 12)"),
+        dict("'\u{1b}[2J'", "False", "(4, 4, 12)"),
+        npy_head(&"{".repeat(60_000)),
+        npy_head(&"'".repeat(60_000)),
+        npy_head("__import__('os').system('true')"),
+        b"\x93NUMPY".to_vec(),
+        b"\x93NUMPY\x01\x00\xff\xff".to_vec(),
+        b"\x93NUMPY\x02\x00\xff\xff\xff\xff".to_vec(),
+        b"\x93NUMPY\x01\x00\x00\x00".to_vec(),
+    ];
+    heads.extend((0..40).map(|_| [&b"\x93NUMPY\x01\x00\x40\x00"[..], &random.bytes(64)].concat()));
+    for head in heads {
+        folder.put("hostile.npy", &[&head[..], &[0; 4 * 4 * 12 * 4]].concat());
+        let output = folder.kz(&format!("restore hostile.npy -o out.ppm {LIST}"));
+        let said = String::from_utf8(output.stderr).unwrap();
+        assert_eq!(output.status.code(), Some(1), "{said}");
+        assert!(said.starts_with("kz: hostile.npy: ") && said.lines().count() == 1, "{said}");
+        assert!(!said.contains('\u{1b}'));
+    }
+}
+
+/// Whether there is a NumPy. Where there is none, the test that asks says so past the harness, which hides it.
+fn numpy(test: &str) -> bool {
+    let there = Command::new("python3").args(["-c", "import numpy"]).stderr(Stdio::null()).status();
+    let there = there.is_ok_and(|status| status.success());
+    if !there {
+        let _ = writeln!(io::stderr(), "{test}: skipped: python3 with numpy is not installed");
+    }
+    there
+}
+
+#[test]
+fn numpy_reads_what_is_written_and_writes_what_is_read() {
+    if !numpy("numpy_reads_what_is_written_and_writes_what_is_read") {
+        return;
+    }
+    let folder = Folder::new("numpy");
+    let rgb = sweep(&folder, "a.ppm", 8, 12, 1);
+    folder.done(&format!("patches a.ppm -o . {LIST}"));
+    folder.done(&format!("encode a.ppm -o . {LIST}"));
+    let script = "\
+import numpy, sys
+patches, tokens = numpy.load('a.patches.npy'), numpy.load('a.tokens.npy')
+assert patches.shape == (4, 6, 12) and tokens.shape == (2, 3, 3), (patches.shape, tokens.shape)
+for array in (patches, tokens):
+    assert array.dtype == numpy.dtype('<f4') and array.flags['C_CONTIGUOUS'] and not numpy.isfortran(array)
+assert patches.tobytes() == open('a.patches.npy', 'rb').read()[128:]
+# A patch's samples by channel, row and column: the pixel at row 3, column 8, from its place and back to its byte.
+rgb = numpy.frombuffer(open('a.ppm', 'rb').read()[-8 * 12 * 3:], 'u1').reshape(8, 12, 3)
+mean, std = (0.48145466, 0.4578275, 0.40821073), (0.26862954, 0.26130258, 0.27577711)
+for c in range(3):
+    value = patches[1, 4].reshape(3, 2, 2)[c, 1, 0] * std[c] + mean[c]
+    assert round(float(value) * 255) == rgb[3, 8, c], (c, value)
+numpy.save('same.npy', patches)
+numpy.save('wide.npy', patches.astype('<f8'))
+numpy.save('big.npy', patches.astype('>f4'))
+numpy.save('fortran.npy', numpy.asfortranarray(patches))
+numpy.save('flat.npy', patches.reshape(24, 12))
+numpy.save('turned.npy', numpy.ascontiguousarray(patches.transpose(1, 0, 2)))
+with open('second.npy', 'wb') as f:
+    numpy.lib.format.write_array(f, patches, version=(2, 0))
+";
+    let output = Command::new("python3").args(["-c", script]).current_dir(folder.path(".")).output().unwrap();
+    assert!(output.status.success(), "{}", String::from_utf8_lossy(&output.stderr));
+    assert_eq!(folder.get("same.npy"), folder.get("a.patches.npy"));
+    folder.done(&format!("restore same.npy -o same.ppm {LIST}"));
+    assert_eq!(folder.get("same.ppm"), common::tool::p6(8, 12, &rgb));
+    folder.done(&format!("restore turned.npy -o turned.ppm {LIST}"));
+    assert!(folder.get("turned.ppm").starts_with(b"P6\n8 12\n"));
+    for (name, part) in [
+        ("wide", "descr is not '<f4'"),
+        ("big", "descr is not '<f4'"),
+        ("fortran", "fortran_order is not False"),
+        ("flat", "not of three sizes"),
+        ("second", "version 2.0"),
+    ] {
+        folder.fails(1, &format!("restore {name}.npy -o out.ppm {LIST}"), &[&format!("{name}.npy: "), part]);
+    }
 }

@@ -98,8 +98,23 @@ pub fn sweep(folder: &Folder, name: &str, height: usize, width: usize, seed: u64
     rgb
 }
 
-pub fn floats(bytes: &[u8]) -> Vec<f32> {
-    bytes.chunks_exact(4).map(|w| f32::from_le_bytes(w.try_into().unwrap())).collect()
+/// What stands before the floats of a .npy file, with a dict as it is given.
+pub fn npy_head(dict: &str) -> Vec<u8> {
+    let pad = 63 - (10 + dict.len()) % 64;
+    let header = format!("{dict}{}\n", " ".repeat(pad));
+    [&b"\x93NUMPY\x01\x00"[..], &(header.len() as u16).to_le_bytes(), header.as_bytes()].concat()
+}
+
+/// A .npy file as NumPy writes it.
+pub fn npy(shape: [usize; 3], floats: &[f32]) -> Vec<u8> {
+    let [a, b, c] = shape;
+    let head = npy_head(&format!("{{'descr': '<f4', 'fortran_order': False, 'shape': ({a}, {b}, {c}), }}"));
+    [head, plain(floats)].concat()
+}
+
+/// Floats as a plain file has them.
+pub fn plain(floats: &[f32]) -> Vec<u8> {
+    floats.iter().flat_map(|f| f.to_le_bytes()).collect()
 }
 
 /// The tests' model: small in everything.

@@ -5,7 +5,7 @@ use crate::given::Given;
 use crate::model::{refused_settings, Lent, Model};
 use crate::progress::Progress;
 use crate::shown::shown;
-use crate::{files, netpbm, room};
+use crate::{files, netpbm, npy, room};
 use kyzgultam::{pixtral_preprocess, PictureSettings, Refusal};
 use std::collections::BTreeMap;
 use std::ffi::{OsStr, OsString};
@@ -15,11 +15,11 @@ pub const ENCODE: &str = "\
 kz encode SWEEP.ppm .. -o DIR [--weights FILE] [--tables FILE]
           [--settings LIST] [--force]
 
-Writes the token vectors of each SWEEP (P5 or P6) to DIR/SWEEP.HxW.tokens,
-H rows of W vectors. Files are floats: f32, little-endian, in the order of
-include/kyzgultam.h; a tables file has all cosines, then all sines. Without
---weights they come from a seed; without --tables they are those that the
-Rust makes for theta 10000.
+Writes the token vectors of each SWEEP (P5 or P6) to DIR/SWEEP.tokens.npy,
+an array of NumPy: rows x columns x text. FILEs are plain floats: f32, little-
+endian, in the order of include/kyzgultam.h; a tables file has all cosines,
+then all sines. Without --weights they come from a seed; without --tables
+they are those that the Rust makes for theta 10000.
 
 --settings is a list as patch=14,image=560; what it leaves out is built in:
   patch 14 (1..32)   hidden 64 (4..2048)  layers 2 (0..48)
@@ -31,9 +31,9 @@ Rust makes for theta 10000.
 pub const PATCHES: &str = "\
 kz patches SWEEP.ppm .. -o DIR [--settings LIST] [--force]
 
-Writes the patches of each SWEEP (P5 or P6) to DIR/SWEEP.HxW.patches, H rows
-of W patches. Files are floats: f32, little-endian, in the order of
-include/kyzgultam.h. `kz restore` brings the picture back. Of --settings
+Writes the patches of each SWEEP (P5 or P6) to DIR/SWEEP.patches.npy, an array
+of NumPy: grid rows x grid columns x 3 patch^2, a patch's samples by channel,
+row and column. `kz restore` brings the picture back. Of --settings
 (`kz encode --help`) patch, merge and image are used.
 ";
 
@@ -69,15 +69,15 @@ pub fn encode(given: &Given) -> Result<(), Fail> {
     let merge = model.settings.picture.spatial_merge_size;
     let (mut cutter, mut lent) = (Cutter::default(), Lent::default());
     each(given, &folder, &names, |file, name| {
-        let grid = cutter.cut(file, &model.settings.picture)?;
-        let out = folder.join(ending(name, format!(".{}x{}.tokens", grid.0 / merge, grid.1 / merge)));
+        let out = folder.join(ending(name, ".tokens.npy"));
         files::vacant(&out, given.force)?;
+        let grid = cutter.cut(file, &model.settings.picture)?;
         model.lend(grid, &mut lent).map_err(|words| Fail::file(file, words))?;
         let done = model.forward(&cutter.patches, grid, &mut lent);
         done.map_err(|refusal| Fail::call(file, refusal, model.advice(refusal)))?;
-        files::write(&out, given.force, |to| files::put(to, &lent.tokens))?;
-        let (count, text) = (grid.0 * grid.1 / (merge * merge), model.settings.text_hidden_size);
-        Ok(format!("{}: {count} tokens of {text} floats", shown(&out)))
+        let shape = [grid.0 / merge, grid.1 / merge, model.settings.text_hidden_size];
+        write(&out, given.force, shape, &lent.tokens)?;
+        Ok(format!("{}: {}x{} tokens of {} floats", shown(&out), shape[0], shape[1], shape[2]))
     })
 }
 
@@ -88,10 +88,12 @@ pub fn patches(given: &Given) -> Result<(), Fail> {
     settings.grid(1, 1).or_else(|r| if r == Refusal::Setting { Err(refused_settings(r)) } else { Ok((0, 0)) })?;
     let mut cutter = Cutter::default();
     each(given, &folder, &names, |file, name| {
+        let out = folder.join(ending(name, ".patches.npy"));
+        files::vacant(&out, given.force)?;
         let grid = cutter.cut(file, &settings)?;
-        let out = folder.join(ending(name, format!(".{}x{}.patches", grid.0, grid.1)));
-        files::write(&out, given.force, |to| files::put(to, &cutter.patches))?;
-        Ok(format!("{}: {} patches of {} floats", shown(&out), grid.0 * grid.1, 3 * settings.patch_size.pow(2)))
+        let shape = [grid.0, grid.1, 3 * settings.patch_size.pow(2)];
+        write(&out, given.force, shape, &cutter.patches)?;
+        Ok(format!("{}: {}x{} patches of {} floats", shown(&out), shape[0], shape[1], shape[2]))
     })
 }
 
@@ -113,10 +115,17 @@ fn names(sweeps: &[PathBuf]) -> Result<Vec<OsString>, Fail> {
     Ok(names)
 }
 
-fn ending(name: &OsStr, ending: String) -> OsString {
+fn ending(name: &OsStr, ending: &str) -> OsString {
     let mut name = name.to_os_string();
     name.push(ending);
     name
+}
+
+fn write(out: &Path, force: bool, shape: npy::Shape, floats: &[f32]) -> Result<(), Fail> {
+    files::write(out, force, |to| {
+        npy::head(to, shape)?;
+        files::put(to, floats)
+    })
 }
 
 /// Does the work for each sweep. One that is refused is named, and the others are still done.

@@ -153,7 +153,7 @@ fn decimal(text: &str) -> Option<usize> {
 }
 
 /// `2x4` as 2 and 4.
-pub fn sides(text: &str) -> Option<(usize, usize)> {
+fn sides(text: &str) -> Option<(usize, usize)> {
     let (height, width) = text.split_once('x')?;
     Some((decimal(height)?, decimal(width)?))
 }

@@ -9,6 +9,7 @@ mod files;
 mod given;
 mod model;
 mod netpbm;
+mod npy;
 mod paint;
 mod png;
 mod progress;
@@ -31,17 +32,18 @@ kz: the Pixtral image encoder, proved; from the command line
   kz demo [-o DIR]                      see it work: pictures to look at
   kz encode SWEEP.ppm .. -o DIR         token vectors of each sweep
   kz patches SWEEP.ppm .. -o DIR        patches of each sweep
-  kz restore FILE.patches -o OUT.ppm    the picture that gave the patches
+  kz restore FILE.npy -o OUT.ppm        the picture that gave the patches
   kz compare A.ppm B.ppm [-o OUT.png]   which patches are equal, as a picture
   kz bench                              how long each call takes, here and
                                         in the Rust if its source is there
-Pictures are binary netpbm, P5 or P6. Other files are floats: f32, little-
+Pictures are binary netpbm, P5 or P6. Patches and token vectors are .npy of
+NumPy, which says its shape; weights and tables plain floats: f32, little-
 endian, in the order of include/kyzgultam.h. Sizes are HEIGHTxWIDTH.
 
   --settings LIST   as patch=14,merge=2,image=1540 (`kz encode --help`)
   --weights FILE    for encode and bench; a small seeded model without it
   --tables FILE     for encode and bench; the Rust's without it
-  --grid HxW        for restore, if the file's name does not say it
+  --grid HxW        for restore of plain floats, which do not say it
   --force           write over files that are there already
 
 `kz COMMAND --help` says more. Exit status: 0 done, 1 refused (the message

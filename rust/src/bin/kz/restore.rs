@@ -1,45 +1,50 @@
 //! `kz restore`: a patches file back to a picture.
 
 use crate::fail::Fail;
-use crate::given::{sides, Given};
+use crate::given::Given;
 use crate::model::refused_settings;
 use crate::netpbm::{ppm, Picture};
 use crate::shown::shown;
 use crate::source::{unread, Source};
-use crate::{files, room, say};
+use crate::{files, npy, room, say};
 use kyzgultam::Refusal;
+use std::fs::File;
 use std::path::Path;
 
 pub const HELP: &str = "\
-kz restore FILE.patches -o OUT.ppm [--grid HxW] [--settings LIST] [--force]
+kz restore FILE.patches.npy -o OUT.ppm [--grid HxW] [--settings LIST]
+           [--force]
 
 Writes the picture that gave the patches, as it was resized before it was
-cut. The grid is read from the name that `kz patches` gave the file, as
-sweep.36x48.patches, unless --grid says it. --settings are to be those that
-the patches were cut with: patch, merge and image (`kz encode --help`).
+cut. A .npy file, as `kz patches` writes it, says its grid itself: its shape
+is grid rows x grid columns x 3 patch^2, and another is refused. A file of
+plain floats (f32, little-endian) needs --grid. --settings are to be those
+that the patches were cut with: patch, merge and image (`kz encode --help`).
 ";
 
 pub fn run(given: &Given) -> Result<(), Fail> {
     let [file] = &given.files[..] else {
-        return Err(Fail::usage("restore takes one FILE.patches"));
+        return Err(Fail::usage("restore takes one FILE.patches.npy"));
     };
     let out = given.needed("-o", "OUT.ppm")?;
     let settings = given.settings()?.picture;
-    let grid = given.sides("--grid")?.or_else(|| grid_of(file));
-    let (grid_h, grid_w) = grid.ok_or_else(|| {
-        Fail::usage(format!("{}: its name does not say the grid (as NAME.36x48.patches); give --grid HxW", shown(file)))
-    })?;
+    let asked = given.sides("--grid")?;
     files::vacant(&out, given.force)?;
-    let advice =
-        format!("it was read as a grid of {grid_h}x{grid_w}: give the --grid and --settings it was written with");
+    let mut source = Source::open(file)?;
+    let (grid_h, grid_w, depth) =
+        grid(file, &mut source, asked, settings.patch_size.saturating_pow(2).saturating_mul(3))?;
+    let advice = format!("it was read as {grid_h}x{grid_w} patches of {depth} floats: {OWN}");
     let refused = |refusal| match refusal {
         Refusal::Setting => refused_settings(refusal),
         Refusal::Sample => Fail::call(file, refusal, "the file is damaged, or was not written by `kz patches`"),
         _ => Fail::call(file, refusal, &advice),
     };
     let len = settings.restored_len(grid_h, grid_w).map_err(refused)?;
-    let patches = floats(file, len)?.ok_or_else(|| refused(Refusal::PatchesLength))?;
-    let mut rgb = room::zeros(len, "its picture", SMALLER).map_err(|words| Fail::file(file, words))?;
+    if len != grid_h * grid_w * depth {
+        return Err(refused(Refusal::PatchesLength));
+    }
+    let patches = floats(file, source, len)?.ok_or_else(|| refused(Refusal::PatchesLength))?;
+    let mut rgb = room::zeros(len, "its picture", ELSEWHERE).map_err(|words| Fail::file(file, words))?;
     let size = kyzgultam::restore(&patches, grid_h, grid_w, &settings, &mut rgb).map_err(refused)?;
     let picture = Picture { height: size.height, width: size.width, rgb };
     files::write(&out, given.force, |to| ppm(to, &picture))?;
@@ -47,21 +52,38 @@ pub fn run(given: &Given) -> Result<(), Fail> {
     Ok(())
 }
 
-const SMALLER: &str = "restore it where there is more";
+const OWN: &str = "give the --settings, and of plain floats the --grid, that it was written with";
+const ELSEWHERE: &str = "restore it where there is more";
 
-/// The floats of a file that is to have a count of them; None where it has another. Its length is tested first.
-fn floats(file: &Path, len: usize) -> Result<Option<Vec<f32>>, Fail> {
-    let mut source = Source::open(file)?;
+/// Grid and floats a patch: of a .npy file its shape, of plain floats what is asked for.
+fn grid(
+    file: &Path,
+    source: &mut Source<File>,
+    asked: Option<(usize, usize)>,
+    depth: usize,
+) -> Result<(usize, usize, usize), Fail> {
+    let named = file.extension().is_some_and(|e| e == "npy");
+    if named || npy::begins(source).map_err(unread(file))? {
+        let [h, w, depth] = npy::shape(source).map_err(|why| Fail::file(file, why))?;
+        return match asked.filter(|grid| *grid != (h, w)) {
+            None => Ok((h, w, depth)),
+            Some(grid) => {
+                let words = format!("has a grid of {h}x{w}, and --grid says {}x{}; leave --grid out", grid.0, grid.1);
+                Err(Fail::file(file, words))
+            }
+        };
+    }
+    let words = || format!("{}: is no .npy file, so it does not say its grid; give --grid HxW", shown(file));
+    let (h, w) = asked.ok_or_else(|| Fail::usage(words()))?;
+    Ok((h, w, depth))
+}
+
+/// A count of floats, which is all that is left of the file; None where it is not. Its length is tested first.
+fn floats(file: &Path, mut source: Source<File>, len: usize) -> Result<Option<Vec<f32>>, Fail> {
     if source.left().is_some_and(|left| left != 4 * len as u64) {
         return Ok(None);
     }
-    let mut floats = room::zeros(len, "its patches", SMALLER).map_err(|words| Fail::file(file, words))?;
+    let mut floats = room::zeros(len, "its patches", ELSEWHERE).map_err(|words| Fail::file(file, words))?;
     let whole = source.floats(&mut floats).map_err(unread(file))? == 4 * len && source.ended().map_err(unread(file))?;
     Ok(whole.then_some(floats))
-}
-
-/// The grid in a name as sweep.36x48.patches.
-fn grid_of(file: &Path) -> Option<(usize, usize)> {
-    let name = file.file_name()?.to_str()?.strip_suffix(".patches")?;
-    sides(name.rsplit('.').next()?)
 }
