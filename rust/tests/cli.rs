@@ -40,6 +40,8 @@ fn usage() {
         ("encode a.ppm -o out --size 4x4", "no option --size"),
         ("encode a.ppm -o out --forced", "no option --forced"),
         ("encode a.ppm -o out --force=yes", "no option --force=yes"),
+        ("encode a.ppm -o out --force --skip-existing", "give one"),
+        ("compare a.ppm a.ppm --skip-existing", "no option --skip-existing"),
         ("encode a.ppm -o out --settings patch", "--settings: patch: a list"),
         ("encode a.ppm -o out --settings patch=x", "--settings: patch=x"),
         ("encode a.ppm -o out --settings patch=-1", "--settings: patch=-1"),

@@ -9,7 +9,7 @@ use std::ffi::{OsStr, OsString};
 use std::fs::{self, Permissions};
 use std::io::{self, Write};
 use std::os::unix::ffi::OsStrExt;
-use std::os::unix::fs::{symlink, FileTypeExt, PermissionsExt};
+use std::os::unix::fs::{symlink, FileTypeExt, MetadataExt, PermissionsExt};
 use std::process::{Command, Stdio};
 
 #[test]
@@ -99,7 +99,9 @@ fn a_run_removes_only_what_it_made() {
     let words = format!("patches a.ppm -o out {LIST}");
     let script = "mkdir out; echo theirs > out/.a.patches.npy.$$.part; exec \"$@\"";
     let output = folder.shell(script, &words).output().unwrap();
-    assert_eq!(output.status.code(), Some(0), "{}", String::from_utf8_lossy(&output.stderr));
+    let said = String::from_utf8(output.stderr).unwrap();
+    assert_eq!(output.status.code(), Some(0), "{said}");
+    assert!(said.starts_with("kz: out/.a.patches.npy.") && said.contains(".part: was begun by a run"), "{said}");
     assert_eq!(folder.get("out/a.patches.npy").len(), 128 + 4 * 8 * 8 * 3);
     let names = folder.names("out");
     assert!(names.len() == 2 && names[0].ends_with(".part"), "{names:?}");
@@ -490,4 +492,155 @@ with open('second.npy', 'wb') as f:
     ] {
         folder.fails(1, &format!("restore {name}.npy -o out.ppm {LIST}"), &[&format!("{name}.npy: "), part]);
     }
+}
+
+/// Status, what is said, and what is said of errors.
+fn outcome(mut command: Command) -> (Option<i32>, String, String) {
+    let output = command.output().unwrap();
+    let text = |bytes| String::from_utf8(bytes).unwrap();
+    (output.status.code(), text(output.stdout), text(output.stderr))
+}
+
+#[test]
+fn a_list_goes_on_after_a_crash() {
+    let folder = Folder::new("crash");
+    for (name, seed) in [("a", 1), ("b", 2), ("c", 3)] {
+        sweep(&folder, &format!("{name}.ppm"), 8, 8, seed);
+    }
+    for (command, kind) in [("patches", "patches"), ("encode", "tokens")] {
+        let words = format!("{command} a.ppm b.ppm c.ppm -o {kind} {LIST}");
+        let file = |name: &str| format!("{kind}/{name}.{kind}.npy");
+        folder.done(&words);
+        let whole = ["a", "b", "c"].map(|name| folder.get(&file(name)));
+        // b was not written when the run was killed, and something that was begun is left.
+        fs::remove_file(folder.path(&file("b"))).unwrap();
+        let left = format!("{kind}/.kz-0123456789abcdef.part");
+        folder.put(&left, b"half");
+        let place = |name: &str| folder.path(&file(name)).metadata().unwrap().ino();
+        let before = (place("a"), place("c"));
+
+        let (status, said, errors) = outcome(folder.command(&format!("{words} --skip-existing")));
+        assert_eq!(status, Some(0), "{errors}");
+        let lines: Vec<&str> = said.lines().collect();
+        assert_eq!(lines[0], format!("{}: is there already, skipped", file("a")));
+        assert!(lines[1].starts_with(&format!("{}: ", file("b"))) && !lines[1].contains("skipped"), "{said}");
+        assert_eq!(lines[2], format!("{}: is there already, skipped", file("c")));
+        let words_of_part = "was begun by a run that is at work now, or was killed; if none is at work here, remove it";
+        assert_eq!(errors, format!("kz: {left}: {words_of_part}\n"));
+        assert_eq!(folder.get(&left), b"half");
+        assert_eq!((place("a"), place("c")), before);
+        assert_eq!(["a", "b", "c"].map(|name| folder.get(&file(name))), whole);
+        fs::remove_file(folder.path(&left)).unwrap();
+
+        // Without it they are there already, and are not called refused.
+        let (status, said, errors) = outcome(folder.command(&words));
+        assert_eq!((status, &said[..]), (Some(1), ""), "{errors}");
+        let last = "kz: 3 of 3 sweeps had their file already; --skip-existing takes such files for done\n";
+        assert!(errors.ends_with(last) && !errors.contains("refused"), "{errors}");
+        folder.put("d.ppm", b"P6 no");
+        let (_, _, errors) = outcome(folder.command(&format!("{words} d.ppm")));
+        assert!(errors.contains("kz: 1 of 4 sweeps were refused, 3 had their file already; "), "{errors}");
+        // One sweep alone.
+        let said = folder.done(&format!("{command} a.ppm -o {kind} --skip-existing {LIST}"));
+        assert_eq!(said, format!("{}: is there already, skipped\n", file("a")));
+    }
+}
+
+#[test]
+fn only_whole_files_are_skipped() {
+    let folder = Folder::new("whole");
+    sweep(&folder, "a.ppm", 8, 8, 1);
+    sweep(&folder, "b.ppm", 8, 8, 1);
+    let words = format!("patches a.ppm b.ppm -o out --skip-existing {LIST}");
+    folder.done(&words);
+    let whole = folder.get("out/a.patches.npy");
+    for (bytes, part) in [
+        (&b""[..], "is no .npy file"),
+        (b"precious", "is no .npy file"),
+        (&whole[..100], "ends inside its .npy header"),
+        (&whole[..whole.len() - 1], "is damaged"),
+        (&npy([4, 4, 3], &[0.0; 48]), "has vectors of 3 floats, and these --settings give 12"),
+    ] {
+        folder.put("out/a.patches.npy", bytes);
+        let (status, said, errors) = outcome(folder.command(&words));
+        assert_eq!(status, Some(1));
+        assert!(said.contains("out/b.patches.npy: is there already, skipped"), "{said}");
+        assert!(errors.contains(&format!("kz: out/a.patches.npy: was not skipped: it {part}")), "{errors}");
+        assert_eq!(folder.get("out/a.patches.npy"), bytes);
+    }
+    fs::remove_file(folder.path("out/a.patches.npy")).unwrap();
+    fs::create_dir(folder.path("out/a.patches.npy")).unwrap();
+    folder.fails(1, &words, &["out/a.patches.npy: is a folder", "1 of 2 sweeps were refused"]);
+}
+
+#[test]
+fn a_list_stops_where_nothing_can_be_written() {
+    let folder = Folder::new("stop");
+    sweep(&folder, "a.ppm", 2, 2, 1);
+    for (name, seed) in [("b", 2), ("c", 3), ("d", 4)] {
+        sweep(&folder, &format!("{name}.ppm"), 16, 16, seed);
+    }
+    // Files of one block at most, as on a disk that is full: a fits.
+    let words = format!("patches a.ppm b.ppm c.ppm d.ppm -o out {LIST}");
+    let full = "trap '' XFSZ; ulimit -f 1; exec \"$@\"";
+    let (status, said, errors) = outcome(folder.shell(full, &words));
+    assert_eq!(status, Some(1), "{errors}");
+    assert_eq!(said, "out/a.patches.npy: 2x2 patches of 12 floats\n");
+    let lines: Vec<&str> = errors.lines().collect();
+    assert!(lines.len() == 2 && lines[0].starts_with("kz: out/b.patches.npy: cannot be written: "), "{errors}");
+    assert!(lines[1].starts_with("kz: stopped, with 3 of 4 sweeps still to do; "), "{errors}");
+    assert_eq!(folder.names("out"), ["a.patches.npy"]);
+    // With room it goes on from there.
+    let said = folder.done(&format!("{words} --skip-existing"));
+    assert!(said.starts_with("out/a.patches.npy: is there already, skipped\n") && said.lines().count() == 4, "{said}");
+
+    // A folder in which nobody may write; root may in one of the first kind.
+    fs::create_dir(folder.path("locked")).unwrap();
+    fs::set_permissions(folder.path("locked"), Permissions::from_mode(0o555)).unwrap();
+    let root = fs::write(folder.path("locked/probe"), b"").is_ok();
+    let out = if root { "/proc" } else { "locked" };
+    let (status, said, errors) = outcome(folder.command(&format!("patches a.ppm b.ppm c.ppm -o {out} {LIST}")));
+    assert_eq!((status, &said[..]), (Some(1), ""));
+    let lines: Vec<&str> = errors.lines().collect();
+    assert!(lines[0].starts_with(&format!("kz: {out}/a.patches.npy: cannot be written: ")), "{errors}");
+    assert!(lines.len() == 2 && lines[1].starts_with("kz: stopped, with 3 of 3 sweeps still to do; "), "{errors}");
+
+    // A name that is too long is that sweep's own fault.
+    let long = format!("{}.ppm", "n".repeat(250));
+    sweep(&folder, &long, 8, 8, 5);
+    let (status, said, errors) = outcome(folder.command(&format!("patches {long} c.ppm -o new {LIST}")));
+    assert_eq!(status, Some(1));
+    assert!(said.starts_with("new/c.patches.npy: "), "{said}");
+    assert!(errors.ends_with("kz: 1 of 2 sweeps were refused\n"), "{errors}");
+}
+
+#[test]
+fn of_two_runs_that_skip_both_are_done() {
+    let folder = Folder::new("skip");
+    let sweeps: Vec<String> = (0..16).map(|i| format!("s{i}.ppm")).collect();
+    for (name, seed) in sweeps.iter().zip(1..) {
+        sweep(&folder, name, 16, 16, seed);
+    }
+    let words = format!("patches {} -o out --skip-existing {LIST}", sweeps.join(" "));
+    let start = || folder.command(&words).stdout(Stdio::piped()).stderr(Stdio::piped()).spawn().unwrap();
+    let outputs = [start(), start()].map(|run| run.wait_with_output().unwrap());
+    let said = outputs.each_ref().map(|output| String::from_utf8_lossy(&output.stdout).into_owned()).concat();
+    assert!(outputs.iter().all(|output| output.status.code() == Some(0)));
+    assert_eq!(said.lines().filter(|line| line.ends_with(": is there already, skipped")).count(), 16, "{said}");
+    assert_eq!(said.lines().count(), 32);
+    assert_eq!(folder.names("out").len(), 16);
+}
+
+#[test]
+fn an_answer_that_cannot_be_said_is_an_error() {
+    let folder = Folder::new("full");
+    sweep(&folder, "a.ppm", 8, 8, 1);
+    let full = || fs::File::options().write(true).open("/dev/full").unwrap();
+    let output = folder.command(&format!("compare a.ppm a.ppm {LIST}")).stdout(full()).output().unwrap();
+    let said = String::from_utf8(output.stderr).unwrap();
+    assert_eq!(output.status.code(), Some(1), "{said}");
+    assert!(said.starts_with("kz: standard output cannot be written: "), "{said}");
+    // What a list says besides its files is no answer.
+    let output = folder.command(&format!("patches a.ppm -o out {LIST}")).stdout(full()).output().unwrap();
+    assert_eq!(output.status.code(), Some(0));
 }

@@ -6,7 +6,7 @@ use crate::given::Given;
 use crate::netpbm::{ppm, Picture};
 use crate::png::png;
 use crate::shown::shown;
-use crate::{files, paint, room, say};
+use crate::{answer, files, paint, room};
 use kyzgultam::{patch, restore};
 
 pub const HELP: &str = "\
@@ -15,8 +15,8 @@ kz compare A.ppm B.ppm [-o OUT.png] [--settings LIST] [--force]
 Says how many patches of A and B are equal, bit for bit, and which is the
 first that is not. With -o it writes a picture of A in which the patches
 that differ are red (PPM, if OUT ends in .ppm). Exit status 0 whether they
-differ or not. Of --settings (`kz encode --help`) patch, merge and image
-are used.
+differ or not, 1 where that cannot be said on standard output. Of --settings
+(`kz encode --help`) patch, merge and image are used.
 ";
 
 const LARGER: &str = "give a larger patch= or a smaller image= in --settings";
@@ -51,7 +51,7 @@ pub fn run(given: &Given) -> Result<(), Fail> {
         Some(i) => format!("; the first that differs is at row {}, column {} (from 0)", i / grid.1, i % grid.1),
         None => String::new(),
     };
-    say(format_args!("{equal} of {count} patches are equal{tail}"));
+    answer(format_args!("{equal} of {count} patches are equal{tail}"))?;
     if let Some(out) = out {
         drop(second);
         let mut rgb = room::zeros(first.patches.len(), "its picture", LARGER).map_err(|words| Fail::file(a, words))?;
@@ -60,7 +60,7 @@ pub fn run(given: &Given) -> Result<(), Fail> {
         let map = paint::marks(Picture { height: size.height, width: size.width, rgb }, grid, &differ);
         let netpbm = out.extension().is_some_and(|e| e == "ppm");
         files::write(&out, given.force, |to| if netpbm { ppm(to, &map) } else { png(to, &map) })?;
-        say(format_args!("{}: the patches that differ are red", shown(&out)));
+        answer(format_args!("{}: the patches that differ are red", shown(&out)))?;
     }
     Ok(())
 }

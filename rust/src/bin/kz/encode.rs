@@ -5,21 +5,22 @@ use crate::given::Given;
 use crate::model::{refused_settings, Lent, Model};
 use crate::progress::Progress;
 use crate::shown::shown;
+use crate::source::Source;
 use crate::{files, netpbm, npy, room};
 use kyzgultam::{pixtral_preprocess, PictureSettings, Refusal};
 use std::collections::BTreeMap;
-use std::ffi::{OsStr, OsString};
 use std::path::{Path, PathBuf};
 
 pub const ENCODE: &str = "\
 kz encode SWEEP.ppm .. -o DIR [--weights FILE] [--tables FILE]
-          [--settings LIST] [--force]
+          [--settings LIST] [--force | --skip-existing]
 
 Writes the token vectors of each SWEEP (P5 or P6) to DIR/SWEEP.tokens.npy,
 an array of NumPy: rows x columns x text. FILEs are plain floats: f32, little-
 endian, in the order of include/kyzgultam.h; a tables file has all cosines,
 then all sines. Without --weights they come from a seed; without --tables
-they are those that the Rust makes for theta 10000.
+they are those that the Rust makes for theta 10000. A list that was cut off
+goes on with --skip-existing, which takes files that are there for done.
 
 --settings is a list as patch=14,image=560; what it leaves out is built in:
   patch 14 (1..32)   hidden 64 (4..2048)  layers 2 (0..48)
@@ -29,12 +30,13 @@ they are those that the Rust makes for theta 10000.
 ";
 
 pub const PATCHES: &str = "\
-kz patches SWEEP.ppm .. -o DIR [--settings LIST] [--force]
+kz patches SWEEP.ppm .. -o DIR [--settings LIST] [--force | --skip-existing]
 
 Writes the patches of each SWEEP (P5 or P6) to DIR/SWEEP.patches.npy, an array
 of NumPy: grid rows x grid columns x 3 patch^2, a patch's samples by channel,
-row and column. `kz restore` brings the picture back. Of --settings
-(`kz encode --help`) patch, merge and image are used.
+row and column. `kz restore` brings the picture back. A list that was cut off
+goes on with --skip-existing, which takes files that are there for done. Of
+--settings (`kz encode --help`) patch, merge and image are used.
 ";
 
 /// Patches of one picture after another, in one buffer.
@@ -63,62 +65,32 @@ impl Cutter {
 }
 
 pub fn encode(given: &Given) -> Result<(), Fail> {
-    let folder = given.needed("-o", "DIR")?;
-    let names = names(&given.files)?;
+    let list = List::read(given, ".tokens.npy")?;
     let model = Model::read(given)?;
-    let merge = model.settings.picture.spatial_merge_size;
+    let (merge, text) = (model.settings.picture.spatial_merge_size, model.settings.text_hidden_size);
     let (mut cutter, mut lent) = (Cutter::default(), Lent::default());
-    each(given, &folder, &names, |file, name| {
-        let out = folder.join(ending(name, ".tokens.npy"));
-        files::vacant(&out, given.force)?;
+    list.each(text, |file, out| {
         let grid = cutter.cut(file, &model.settings.picture)?;
         model.lend(grid, &mut lent).map_err(|words| Fail::file(file, words))?;
         let done = model.forward(&cutter.patches, grid, &mut lent);
         done.map_err(|refusal| Fail::call(file, refusal, model.advice(refusal)))?;
-        let shape = [grid.0 / merge, grid.1 / merge, model.settings.text_hidden_size];
-        write(&out, given.force, shape, &lent.tokens)?;
-        Ok(format!("{}: {}x{} tokens of {} floats", shown(&out), shape[0], shape[1], shape[2]))
+        let shape = [grid.0 / merge, grid.1 / merge, text];
+        write(out, given.force, shape, &lent.tokens)?;
+        Ok(format!("{}: {}x{} tokens of {text} floats", shown(out), shape[0], shape[1]))
     })
 }
 
 pub fn patches(given: &Given) -> Result<(), Fail> {
-    let folder = given.needed("-o", "DIR")?;
-    let names = names(&given.files)?;
+    let list = List::read(given, ".patches.npy")?;
     let settings = given.settings()?.picture;
     settings.grid(1, 1).or_else(|r| if r == Refusal::Setting { Err(refused_settings(r)) } else { Ok((0, 0)) })?;
+    let floats = 3 * settings.patch_size.pow(2);
     let mut cutter = Cutter::default();
-    each(given, &folder, &names, |file, name| {
-        let out = folder.join(ending(name, ".patches.npy"));
-        files::vacant(&out, given.force)?;
+    list.each(floats, |file, out| {
         let grid = cutter.cut(file, &settings)?;
-        let shape = [grid.0, grid.1, 3 * settings.patch_size.pow(2)];
-        write(&out, given.force, shape, &cutter.patches)?;
-        Ok(format!("{}: {}x{} patches of {} floats", shown(&out), shape[0], shape[1], shape[2]))
+        write(out, given.force, [grid.0, grid.1, floats], &cutter.patches)?;
+        Ok(format!("{}: {}x{} patches of {floats} floats", shown(out), grid.0, grid.1))
     })
-}
-
-/// The sweeps' names without folder and ending. Two alike would be written to one file.
-fn names(sweeps: &[PathBuf]) -> Result<Vec<OsString>, Fail> {
-    if sweeps.is_empty() {
-        return Err(Fail::usage("no SWEEP.ppm is given"));
-    }
-    let mut seen = BTreeMap::new();
-    let mut names = Vec::new();
-    for sweep in sweeps {
-        let stem = sweep.file_stem().ok_or_else(|| Fail::usage(format!("{}: is no name of a file", shown(sweep))))?;
-        if let Some(other) = seen.insert(stem, sweep) {
-            let (a, b) = (shown(other), shown(sweep));
-            return Err(Fail::usage(format!("{a} and {b} would be written to the same file; give them apart")));
-        }
-        names.push(stem.to_os_string());
-    }
-    Ok(names)
-}
-
-fn ending(name: &OsStr, ending: &str) -> OsString {
-    let mut name = name.to_os_string();
-    name.push(ending);
-    name
 }
 
 fn write(out: &Path, force: bool, shape: npy::Shape, floats: &[f32]) -> Result<(), Fail> {
@@ -128,33 +100,97 @@ fn write(out: &Path, force: bool, shape: npy::Shape, floats: &[f32]) -> Result<(
     })
 }
 
-/// Does the work for each sweep. One that is refused is named, and the others are still done.
-fn each(
-    given: &Given,
-    folder: &Path,
-    names: &[OsString],
-    mut work: impl FnMut(&Path, &OsStr) -> Result<String, Fail>,
-) -> Result<(), Fail> {
-    files::folder(folder)?;
-    let mut progress = Progress::new(given.files.len());
-    let mut refused = 0;
-    for (file, name) in given.files.iter().zip(names) {
-        progress.at(name);
-        match work(file, name) {
-            Ok(words) => progress.say(&words),
-            Err(Fail::Refused(words)) if names.len() > 1 => {
-                refused += 1;
-                progress.warn(&words);
+/// Sweeps, and where what becomes of each is written.
+struct List<'a> {
+    given: &'a Given,
+    folder: PathBuf,
+    outs: Vec<PathBuf>,
+}
+
+impl List<'_> {
+    /// A file is named after its sweep, without folder and ending. Two alike would be written to one file.
+    fn read<'a>(given: &'a Given, ending: &str) -> Result<List<'a>, Fail> {
+        let folder = given.needed("-o", "DIR")?;
+        if given.files.is_empty() {
+            return Err(Fail::usage("no SWEEP.ppm is given"));
+        }
+        let mut seen = BTreeMap::new();
+        let mut outs = Vec::new();
+        for sweep in &given.files {
+            let stem = sweep.file_stem();
+            let stem = stem.ok_or_else(|| Fail::usage(format!("{}: is no name of a file", shown(sweep))))?;
+            if let Some(other) = seen.insert(stem, sweep) {
+                let (a, b) = (shown(other), shown(sweep));
+                return Err(Fail::usage(format!("{a} and {b} would be written to the same file; give them apart")));
             }
-            Err(fail) => {
-                progress.clear();
-                return Err(fail);
+            let mut name = stem.to_os_string();
+            name.push(ending);
+            outs.push(folder.join(name));
+        }
+        Ok(List { given, folder, outs })
+    }
+
+    /// Does the work for each sweep whose file is not there. One that is refused is named, and the others are still
+    /// done, unless nothing can be written any more. The files have vectors of so many floats.
+    fn each(&self, floats: usize, mut work: impl FnMut(&Path, &Path) -> Result<String, Fail>) -> Result<(), Fail> {
+        files::folder(&self.folder)?;
+        let total = self.outs.len();
+        let mut progress = Progress::new(total);
+        for part in files::parts(&self.folder) {
+            progress.warn(&format!("{}: {LEFT}", shown(&part)));
+        }
+        let (mut refused, mut there) = (0, 0);
+        for (i, (file, out)) in self.given.files.iter().zip(&self.outs).enumerate() {
+            progress.at(file.file_stem().unwrap_or_default());
+            let done = files::vacant(out, self.given.force).and_then(|()| work(file, out));
+            let done = match done {
+                Err(Fail::Taken(_)) if self.given.skip => finished(out, floats),
+                done => done,
+            };
+            match done {
+                Ok(words) => progress.say(&words),
+                Err(Fail::Refused(words)) if total > 1 => {
+                    refused += 1;
+                    progress.warn(&words);
+                }
+                Err(Fail::Taken(words)) if total > 1 => {
+                    there += 1;
+                    progress.warn(&words);
+                }
+                Err(Fail::Stopped(words)) if total > 1 => {
+                    progress.warn(&words);
+                    let left = total - i;
+                    return Err(Fail::Refused(format!("stopped, with {left} of {total} sweeps still to do; {AGAIN}")));
+                }
+                Err(fail) => {
+                    progress.clear();
+                    return Err(fail);
+                }
+            }
+        }
+        progress.clear();
+        match (refused, there) {
+            (0, 0) => Ok(()),
+            (n, 0) => Err(Fail::Refused(format!("{n} of {total} sweeps were refused"))),
+            (0, n) => Err(Fail::Refused(format!("{n} of {total} sweeps had their file already; {SKIP}"))),
+            (n, m) => {
+                Err(Fail::Refused(format!("{n} of {total} sweeps were refused, {m} had their file already; {SKIP}")))
             }
         }
     }
-    progress.clear();
-    match refused {
-        0 => Ok(()),
-        n => Err(Fail::Refused(format!("{n} of {} sweeps were refused", names.len()))),
+}
+
+const LEFT: &str = "was begun by a run that is at work now, or was killed; if none is at work here, remove it";
+const AGAIN: &str = "make room, or give another -o, and go on with --skip-existing";
+const SKIP: &str = "--skip-existing takes such files for done";
+
+/// What is said of a file that is there and is skipped: one of another form is not taken for done.
+fn finished(out: &Path, floats: usize) -> Result<String, Fail> {
+    let [.., found] =
+        npy::shape(&mut Source::open(out)?).map_err(|why| Fail::file(out, format!("was not skipped: it {why}")))?;
+    if found != floats {
+        let words = format!("was not skipped: it has vectors of {found} floats, and these --settings give {floats}");
+        return Err(Fail::file(out, format!("{words}; give another -o")));
     }
+    Ok(format!("{}: is there already, skipped", shown(out)))
 }

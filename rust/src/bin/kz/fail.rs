@@ -8,6 +8,10 @@ use std::path::Path;
 pub enum Fail {
     /// Exit status 1: the words say which file, why, and what to do.
     Refused(String),
+    /// Exit status 1: the file that was to be written is there already.
+    Taken(String),
+    /// Exit status 1: nothing can be written where it is to go, so a list need not go on.
+    Stopped(String),
     /// Exit status 2: the command line is not one that kz knows.
     Usage(String),
 }

@@ -1,10 +1,12 @@
 //! Files are written whole or not at all, and none is overwritten unless that was asked for.
 
 use crate::fail::Fail;
+use crate::shown::shown;
 use std::collections::hash_map::RandomState;
 use std::fs::{self, File, FileType, Metadata, OpenOptions, Permissions};
 use std::hash::{BuildHasher, Hasher};
 use std::io::{self, BufWriter, Write};
+use std::os::unix::ffi::OsStrExt;
 use std::os::unix::fs::{FileTypeExt, MetadataExt, OpenOptionsExt, PermissionsExt};
 use std::path::{Path, PathBuf};
 
@@ -59,11 +61,20 @@ fn no_plain_file(kind: FileType) -> Option<&'static str> {
 }
 
 fn occupied(file: &Path) -> Fail {
-    Fail::file(file, "is there already and was left as it is; --force writes over it")
+    Fail::Taken(format!("{}: is there already and was left as it is; --force writes over it", shown(file)))
 }
 
+/// What Linux says of a name that a file system does not take: EINVAL, ENAMETOOLONG, EILSEQ.
+const NAME: [i32; 3] = [22, 36, 84];
+
+/// Another name may be written where this one is not taken; any other failure would meet the next file too.
 fn unwritten(file: &Path, e: io::Error) -> Fail {
-    Fail::file(file, format!("cannot be written: {e}"))
+    let words = format!("{}: cannot be written: {e}", shown(file));
+    if e.raw_os_error().is_some_and(|number| NAME.contains(&number)) {
+        Fail::Refused(words)
+    } else {
+        Fail::Stopped(words)
+    }
 }
 
 /// Writes beside the file and then gives what was written its name. A file that is replaced keeps its mode.
@@ -156,9 +167,34 @@ fn part_name() -> String {
     format!(".kz-{:016x}.part", RandomState::new().build_hasher().finish())
 }
 
+/// The temporary files in a folder: of a run that is at work, or of one that was killed. Which, a name cannot say.
+pub fn parts(folder: &Path) -> Vec<PathBuf> {
+    let entries = fs::read_dir(folder).into_iter().flatten().flatten();
+    let mut parts: Vec<_> = entries.filter(|e| is_part(e.file_name().as_bytes())).map(|e| e.path()).collect();
+    parts.sort();
+    parts
+}
+
+/// `.kz-` and 16 digits, or, of earlier versions, the file's name and a process number.
+fn is_part(name: &[u8]) -> bool {
+    let Some(name) = name.strip_prefix(b".").and_then(|name| name.strip_suffix(b".part")) else { return false };
+    let number = name.rsplit(|b| *b == b'.').next().unwrap_or(b"");
+    let old = number.len() < name.len() && !number.is_empty() && number.iter().all(u8::is_ascii_digit);
+    old || name.strip_prefix(b"kz-").is_some_and(|rest| rest.len() == 16 && rest.iter().all(u8::is_ascii_hexdigit))
+}
+
 #[cfg(test)]
 mod tests {
     use super::*;
+
+    #[test]
+    fn names_of_parts() {
+        assert!(is_part(part_name().as_bytes()));
+        assert!(is_part(b".a.36x48.patches.4711.part") && is_part(b".\xff.1.part"));
+        for name in ["a.part", ".a.part", ".part", "..part", ".1.part", ".a..part", ".a.1x.part", ".kz-12.part"] {
+            assert!(!is_part(name.as_bytes()), "{name}");
+        }
+    }
 
     #[test]
     fn a_name_is_claimed_once() {

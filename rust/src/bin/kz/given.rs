@@ -8,7 +8,7 @@ use std::os::unix::ffi::OsStrExt;
 use std::path::PathBuf;
 
 /// The options without a value.
-const BARE: [&str; 2] = ["--force", "--quick"];
+const BARE: [&str; 3] = ["--force", "--quick", "--skip-existing"];
 
 /// Whether a word is an option, known or not. A single - is a name.
 fn dashed(word: &OsStr) -> bool {
@@ -45,12 +45,13 @@ pub struct Given {
     pub files: Vec<PathBuf>,
     pub force: bool,
     pub quick: bool,
+    pub skip: bool,
     options: Vec<(&'static str, OsString)>,
 }
 
 impl Given {
     pub fn read(words: &[OsString], known: &[&'static str]) -> Result<Given, Fail> {
-        let mut given = Given { files: vec![], force: false, quick: false, options: vec![] };
+        let mut given = Given { files: vec![], force: false, quick: false, skip: false, options: vec![] };
         let mut words = words.iter();
         while let Some(word) = words.next() {
             if word == "--" {
@@ -60,6 +61,7 @@ impl Given {
             } else if BARE.iter().any(|bare| word == bare && known.contains(bare)) {
                 given.force |= word == "--force";
                 given.quick |= word == "--quick";
+                given.skip |= word == "--skip-existing";
             } else {
                 let (name, joined) = parted(word);
                 let name = if name == "--out" { OsStr::new("-o") } else { name };
@@ -71,6 +73,9 @@ impl Given {
                 let value = joined.or_else(|| words.next().map(OsString::as_os_str));
                 given.options.push((name, value_of(name, value)?));
             }
+        }
+        if given.force && given.skip {
+            return Err(Fail::usage("--force writes over files and --skip-existing leaves them; give one"));
         }
         Ok(given)
     }

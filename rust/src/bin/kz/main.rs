@@ -44,7 +44,8 @@ endian, in the order of include/kyzgultam.h. Sizes are HEIGHTxWIDTH.
   --weights FILE    for encode and bench; a small seeded model without it
   --tables FILE     for encode and bench; the Rust's without it
   --grid HxW        for restore of plain floats, which do not say it
-  --force           write over files that are there already
+  --force           write over plain files that are there already
+  --skip-existing   for encode and patches: take such files for done
 
 `kz COMMAND --help` says more. Exit status: 0 done, 1 refused (the message
 names the file, the number and what to do), 2 not a command line of kz.
@@ -54,8 +55,13 @@ type Command = (&'static str, &'static str, &'static [&'static str], fn(&Given) 
 
 const COMMANDS: [Command; 6] = [
     ("demo", demo::HELP, &["-o", "--force"], demo::run),
-    ("encode", encode::ENCODE, &["-o", "--weights", "--tables", "--settings", "--force"], encode::encode),
-    ("patches", encode::PATCHES, &["-o", "--settings", "--force"], encode::patches),
+    (
+        "encode",
+        encode::ENCODE,
+        &["-o", "--weights", "--tables", "--settings", "--force", "--skip-existing"],
+        encode::encode,
+    ),
+    ("patches", encode::PATCHES, &["-o", "--settings", "--force", "--skip-existing"], encode::patches),
     ("restore", restore::HELP, &["-o", "--grid", "--settings", "--force"], restore::run),
     ("compare", compare::HELP, &["-o", "--settings", "--force"], compare::run),
     ("bench", bench::HELP, &["--quick", "--size", "--weights", "--tables", "--settings"], bench::run),
@@ -64,6 +70,12 @@ const COMMANDS: [Command; 6] = [
 /// A line on standard output. That nobody reads it is no reason to stop.
 fn say(line: fmt::Arguments) {
     let _ = writeln!(stdout(), "{line}");
+}
+
+/// A line on standard output that is the answer itself.
+fn answer(line: fmt::Arguments) -> Result<(), Fail> {
+    let said = writeln!(stdout(), "{line}").and_then(|()| stdout().flush());
+    said.map_err(|e| Fail::Refused(format!("standard output cannot be written: {e}")))
 }
 
 fn run(words: &[OsString]) -> Result<(), Fail> {
@@ -88,7 +100,7 @@ fn main() -> ExitCode {
     let words: Vec<OsString> = std::env::args_os().skip(1).collect();
     let (words, status) = match run(&words) {
         Ok(()) => return ExitCode::SUCCESS,
-        Err(Fail::Refused(words)) => (words, 1),
+        Err(Fail::Refused(words) | Fail::Taken(words) | Fail::Stopped(words)) => (words, 1),
         Err(Fail::Usage(words)) => (format!("{words}; `kz --help` shows what there is"), 2),
     };
     let _ = writeln!(stderr(), "kz: {words}");
