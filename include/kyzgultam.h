@@ -11,8 +11,10 @@ extern "C" {
 
 /*
  * Pictures and the encoder (libkyzgultam.a). A call takes any numbers and returns. What a caller owes, and nothing
- * checks: each length is true of its buffer, no output overlaps another buffer, and a pointer is null only where its
- * length is 0.
+ * checks: each length is true of its buffer, no output overlaps another buffer, a pointer is null only where its
+ * length is 0, and the thread's floating-point state is the one that a C program starts with: rounding to nearest, and
+ * subnormals neither flushed nor read as zero (FTZ and DAZ of the MXCSR are off; linking with -ffast-math turns them
+ * on). In another state the results have other bits.
  *
  * A call answers with a number: the first that applies, in the order that stands with the call. With any number but 0
  * every size is 0 and the output is as it was. An output longer than the result keeps its tail.
@@ -99,7 +101,10 @@ struct kz_forward_report kz_forward(struct kz_encoder_settings settings, const f
                                     size_t rope_sin_len, float *scratch, size_t scratch_len, float *out,
                                     size_t out_len);
 
-/* The number rules, on bit patterns (libnumber.a). Each takes any pattern and returns; none writes anything. */
+/*
+ * The number rules, on bit patterns (libnumber.a). Each takes any pattern and returns; none writes anything. The
+ * floating-point state is owed as above.
+ */
 
 /* An f32 rounded to bf16 (its upper 16 bits), as an f32. A NaN may become -0, as the rule says. */
 uint32_t kz_bf16(uint32_t x);

@@ -1,5 +1,5 @@
 //! Each call hands on slices as pointer and length: an output is lent alone, so it overlaps no other buffer, and a
-//! length is its buffer's. That is all that include/kyzgultam.h asks of a caller.
+//! length is its buffer's. What else include/kyzgultam.h asks of a caller, the floating-point state, Rust asks itself.
 
 use crate::{face, EncoderSettings, PictureSettings, Refusal};
 

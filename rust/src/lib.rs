@@ -3,7 +3,9 @@
 //! The calls keep the Rust's names. Every buffer is lent by the caller, and a call allocates nothing. A call that is
 //! not accepted says why by a [`Refusal`] and leaves its output as it was; an output longer than the result keeps its
 //! tail. That no output is also an input of the same call, and that each length is that of its buffer, is the
-//! business of Rust's slices: the proved functions behind ask nothing else of a caller.
+//! business of Rust's slices. The proved functions behind ask nothing else of a caller but the floating-point state
+//! that Rust takes for granted: rounding to nearest, and no flushing of subnormals. A C program that was linked with
+//! `-ffast-math` has another, in the Rust that it calls too.
 //!
 //! ```
 //! use kyzgultam::{forward, pixtral_preprocess, restore, EncoderSettings, PictureSettings};
