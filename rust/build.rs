@@ -1,9 +1,11 @@
 //! Links libkyzgultam.a and libnumber.a, which `rt staticlib` makes in the repository around this crate.
-//! With KZ_ARCHIVES set the two are taken from that folder as they are, and nothing is made.
+//! With KZ_ARCHIVES set the two are taken from that folder as they are, and nothing is made. A relative folder is one
+//! of the directory in which cargo was called.
 
 use std::env;
 use std::fs;
 use std::io;
+use std::os::unix::process::parent_id;
 use std::path::{Path, PathBuf};
 use std::process::{exit, Command};
 use std::time::SystemTime;
@@ -43,6 +45,10 @@ fn archive(folder: &Path, name: &str) -> PathBuf {
 
 /// The folder of KZ_ARCHIVES, with both archives in it.
 fn given(folder: PathBuf) -> PathBuf {
+    if folder.as_os_str().is_empty() {
+        stop("KZ_ARCHIVES is empty: set it to a folder, or unset it");
+    }
+    let folder = if folder.is_relative() { caller().join(folder) } else { folder };
     for name in ARCHIVES {
         let file = archive(&folder, name);
         println!("cargo:rerun-if-changed={}", file.display());
@@ -50,9 +56,20 @@ fn given(folder: PathBuf) -> PathBuf {
             stop(&format!("KZ_ARCHIVES is set, but there is no {}", file.display()));
         }
     }
-    // A relative folder would be looked up where the linker runs.
     fs::canonicalize(&folder).unwrap_or(folder)
 }
+
+/// The directory in which cargo was called. This script runs in the package's, so it is asked of the process that
+/// started it, which is cargo; PWD is a shell's word, and a program that starts cargo elsewhere may not change it.
+fn caller() -> PathBuf {
+    // Where a shell says another directory, the same words may name another folder.
+    println!("cargo:rerun-if-env-changed=PWD");
+    fs::read_link(format!("/proc/{}/cwd", parent_id())).unwrap_or_else(|e| {
+        stop(&format!("KZ_ARCHIVES is relative, and cargo's directory is not known ({e}); {WHOLE}"))
+    })
+}
+
+const WHOLE: &str = "give the whole path, from / on";
 
 /// The repository's target/staticlib, with both archives in it and none older than what it is made from.
 fn made() -> PathBuf {
