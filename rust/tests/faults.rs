@@ -263,7 +263,7 @@ fn memory_is_asked_for_first() {
         (
             50_000,
             format!("restore large.patches --grid 2048x2048 -o out.ppm --settings {fine}"),
-            ["large.patches: there is no memory for its patches", "50331648 bytes"],
+            ["large.patches: there is no memory for the patches of its grid of 2048x2048 (patch=1)", "50331648 bytes"],
         ),
         (
             50_000,
@@ -273,7 +273,7 @@ fn memory_is_asked_for_first() {
         (
             50_000,
             "bench --size 8192x8192".into(),
-            ["there is no memory for the picture", "201326592 bytes"],
+            ["there is no memory for a picture of 8192x8192 pixels (image=1540)", "201326592 bytes"],
         ),
     ] {
         let Some((status, said)) = limited(&folder, kib, &words) else { return };

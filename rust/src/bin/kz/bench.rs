@@ -103,9 +103,10 @@ fn sweep(model: &Model, height: usize, width: usize, all: bool) -> Result<(), Fa
     let floats = settings.patches_len(height, width).map_err(refused_settings)?;
     let (grid_h, grid_w) = settings.grid(height, width).map_err(refused_settings)?;
     let advice = "give a smaller --size or --settings";
-    let mut patches = room::zeros(floats, "the patches", advice).map_err(Fail::Refused)?;
-    let mut back = room::zeros(floats, "the restored picture", advice).map_err(Fail::Refused)?;
-    let mut rgb: Vec<u8> = room::empty(height * width * 3, "the picture", advice).map_err(Fail::Refused)?;
+    let of = |what: &str| format!("{what} of {height}x{width} pixels (image={})", settings.image_size);
+    let mut patches = room::zeros(floats, &of("the patches"), advice).map_err(Fail::Refused)?;
+    let mut back = room::zeros(floats, &of("the restored picture"), advice).map_err(Fail::Refused)?;
+    let mut rgb: Vec<u8> = room::empty(height * width * 3, &of("a picture"), advice).map_err(Fail::Refused)?;
     let mut random = Random::new(1);
     rgb.extend((0..height * width * 3).map(|_| (random.float() * 127.0 + 128.0) as u8));
     let mut lent = Lent::default();

@@ -43,8 +43,8 @@ pub fn run(given: &Given) -> Result<(), Fail> {
     let same = |a: &[f32], b: &[f32]| a.iter().zip(b).all(|(x, y)| x.to_bits() == y.to_bits());
     let count = grid.0 * grid.1;
     let p = settings.patch_size;
-    let what = format!("its {count} patches' marks (patch={p})");
-    let mut differ = room::empty(count, &what, LARGER).map_err(|words| Fail::file(a, words))?;
+    let what = |what: &str| format!("the {what} of its {count} patches (patch={p})");
+    let mut differ = room::empty(count, &what("marks"), LARGER).map_err(|words| Fail::file(a, words))?;
     differ.extend((0..count).map(|i| !same(patch(&first.patches, p, i), patch(&second.patches, p, i))));
     let equal = differ.iter().filter(|d| !**d).count();
     let tail = match differ.iter().position(|d| *d) {
@@ -54,7 +54,8 @@ pub fn run(given: &Given) -> Result<(), Fail> {
     answer(format_args!("{equal} of {count} patches are equal{tail}"))?;
     if let Some(out) = out {
         drop(second);
-        let mut rgb = room::zeros(first.patches.len(), "its picture", LARGER).map_err(|words| Fail::file(a, words))?;
+        let mut rgb =
+            room::zeros(first.patches.len(), &what("picture"), LARGER).map_err(|words| Fail::file(a, words))?;
         let size =
             restore(&first.patches, grid.0, grid.1, &settings, &mut rgb).map_err(|r| Fail::call(a, r, "report it"))?;
         let map = paint::marks(Picture { height: size.height, width: size.width, rgb }, grid, &differ);

@@ -43,8 +43,10 @@ pub fn run(given: &Given) -> Result<(), Fail> {
     if len != grid_h * grid_w * depth {
         return Err(refused(Refusal::PatchesLength));
     }
-    let patches = floats(file, source, len)?.ok_or_else(|| refused(Refusal::PatchesLength))?;
-    let mut rgb = room::zeros(len, "its picture", ELSEWHERE).map_err(|words| Fail::file(file, words))?;
+    let of = format!("of its grid of {grid_h}x{grid_w} (patch={})", settings.patch_size);
+    let patches = floats(file, source, len, &of)?.ok_or_else(|| refused(Refusal::PatchesLength))?;
+    let rgb = room::zeros(len, &format!("the picture {of}"), ELSEWHERE);
+    let mut rgb = rgb.map_err(|words| Fail::file(file, words))?;
     let size = kyzgultam::restore(&patches, grid_h, grid_w, &settings, &mut rgb).map_err(refused)?;
     let picture = Picture { height: size.height, width: size.width, rgb };
     files::write(&out, given.force, |to| ppm(to, &picture))?;
@@ -79,11 +81,12 @@ fn grid(
 }
 
 /// A count of floats, which is all that is left of the file; None where it is not. Its length is tested first.
-fn floats(file: &Path, mut source: Source<File>, len: usize) -> Result<Option<Vec<f32>>, Fail> {
+fn floats(file: &Path, mut source: Source<File>, len: usize, of: &str) -> Result<Option<Vec<f32>>, Fail> {
     if source.left().is_some_and(|left| left != 4 * len as u64) {
         return Ok(None);
     }
-    let mut floats = room::zeros(len, "its patches", ELSEWHERE).map_err(|words| Fail::file(file, words))?;
+    let floats = room::zeros(len, &format!("the patches {of}"), ELSEWHERE);
+    let mut floats = floats.map_err(|words| Fail::file(file, words))?;
     let whole = source.floats(&mut floats).map_err(unread(file))? == 4 * len && source.ended().map_err(unread(file))?;
     Ok(whole.then_some(floats))
 }
