@@ -1,4 +1,5 @@
--- Attention, in the source's order: each query's scores over all keys, softened, weigh the values. Assumes nothing.
+-- Attention: each query's scores over all keys, softened, weigh the values. The Rust runs head by head and in each query by
+-- query, here each query runs its heads; no two of these touch. Assumes nothing.
 use mathlib.Core.Bool.{true, cond}
 use mathlib.Core.List.{List}
 use Prim.Native.Nat.{ℕ, zero, suc, _+_, _*_}

@@ -36,7 +36,7 @@ rOf x = rWith x (kOf x)
 abbrev pub F : Float → Float
 F x = mul binary64 (series (rOf x) 10 one64) (twoTo (kOf x))
 
--- 89 and 104, as f32
+-- 89 and −104, as f32
 abbrev pub top : Float
 top = ofBits binary32 0x42B2_0000
 
