@@ -86,13 +86,18 @@ struct kz_forward_report {
     size_t tokens; /* token vectors of text_hidden_size floats, written to the output */
 };
 
+struct kz_lengths_report {
+    uint32_t number;
+    size_t patches, weights, tables, scratch, out; /* in floats; `tables` is the length of each of the two */
+};
+
 /*
  * The token vectors of patches. With t = grid_h * grid_w, o = t / merge^2, H, I and X the hidden, intermediate and
  * text sizes, P = image size / patch: the weights are patch_conv, ln_pre; for each layer attention_norm, q, k, v, o,
  * ffn_norm, gate, up, down; then the projector's norm, merging_layer, linear_1, linear_2; matrices row-major, [out,
  * in]. Each table has P * P * head_dim floats, the row of (h, w) at h * P + w. The scratch has at least 7*t*H +
  * 2*t*I + t + 2*o*X floats; after 0 and 12 all of it is +0, after any other number it is as it was. The output has
- * at least o * X floats.
+ * at least o * X floats. kz_lengths tells all of these lengths.
  * Refused with 1, 6, 7, 9, 10, 5, 11, 12.
  */
 struct kz_forward_report kz_forward(struct kz_encoder_settings settings, const float *patches, size_t patches_len,
@@ -100,6 +105,13 @@ struct kz_forward_report kz_forward(struct kz_encoder_settings settings, const f
                                     const float *rope_cos, size_t rope_cos_len, const float *rope_sin,
                                     size_t rope_sin_len, float *scratch, size_t scratch_len, float *out,
                                     size_t out_len);
+
+/*
+ * How many floats each buffer of a kz_forward call with these settings and this grid has to have: exactly so many in
+ * patches, weights and each table, at least so many in scratch and output. Weights and tables are as long with every
+ * grid. These are the lengths that kz_forward compares with for 7, 9, 10, 5 and 11. Refused with 1, 6.
+ */
+struct kz_lengths_report kz_lengths(struct kz_encoder_settings settings, size_t grid_h, size_t grid_w);
 
 /*
  * The number rules, on bit patterns (libnumber.a). Each takes any pattern and returns; none writes anything. The

@@ -205,6 +205,52 @@ static void forward(void) {
     }
 }
 
+static void lengths(void) {
+    const struct kz_encoder_settings good = {{2, 2, 8}, 4, 1, 4, 1, 5, 3, 0.5f};
+    const struct kz_encoder_settings largest = {{1, 1, 2048}, 2048, 8, 256, 48, 8192, 8192, 0.5f};
+    const size_t t = 2048 * 2048, h = 2048, i = 8192, x = 8192;
+    struct kz_lengths_report r = kz_lengths(good, 2, 4);
+
+    EXPECT(r.number == KZ_ACCEPTED && r.patches == FLOATS && r.weights == WEIGHTS);
+    EXPECT(r.tables == TABLE && r.scratch == SCRATCH && r.out == TOKENS);
+    /* Weights and tables are as long with every grid. */
+    r = kz_lengths(good, 2, 2);
+    EXPECT(r.number == KZ_ACCEPTED && r.patches == FLOATS / 2 && r.weights == WEIGHTS);
+    EXPECT(r.tables == TABLE && r.scratch == SCRATCH / 2 && r.out == TOKENS / 2);
+    /* More than 32 bits can count. */
+    r = kz_lengths(largest, 2048, 2048);
+    EXPECT(r.number == KZ_ACCEPTED && r.patches == t * 3);
+    EXPECT(r.weights == h * 3 + h + 48 * (2 * h + 4 * h * h + 3 * h * i) + h + h * h + x * h + x * x);
+    EXPECT(r.tables == t * 256 && r.scratch == 7 * t * h + 2 * t * i + t + 2 * t * x && r.out == t * x);
+
+    struct {
+        uint32_t number;
+        struct kz_encoder_settings settings;
+        size_t grid_h, grid_w;
+    } calls[] = {
+        {KZ_SETTING, {{0, 2, 8}, 4, 1, 4, 1, 5, 3, 0.5f}, 2, 4},
+        {KZ_SETTING, {{2, 5, 8}, 4, 1, 4, 1, 5, 3, 0.5f}, 2, 4},
+        {KZ_SETTING, {{2, 2, SIZE_MAX}, 4, 1, 4, 1, 5, 3, 0.5f}, 2, 4},
+        {KZ_SETTING, {{2, 2, 8}, 8, 1, 4, 1, 5, 3, 0.5f}, 2, 4},
+        {KZ_SETTING, {{2, 2, 8}, 4, 0, 4, 1, 5, 3, 0.5f}, 2, 4},
+        {KZ_SETTING, {{2, 2, 8}, 6, 1, 6, 1, 5, 3, 0.5f}, 2, 4},
+        {KZ_SETTING, {{2, 2, 8}, 4, 1, 4, 49, 5, 3, 0.5f}, 0, 5},
+        {KZ_SETTING, {{2, 2, 8}, 4, 1, 4, 1, 8193, 3, 0.5f}, 2, 4},
+        {KZ_SETTING, {{2, 2, 8}, 4, 1, 4, 1, 5, 0, 0.5f}, 2, 4},
+        {KZ_SETTING, {{2, 2, 8}, 4, 1, 4, 1, 5, 3, 0.0f}, 2, 4},
+        {KZ_GRID, {{2, 2, 8}, 4, 1, 4, 1, 5, 3, 0.5f}, 0, 4},
+        {KZ_GRID, {{2, 2, 8}, 4, 1, 4, 1, 5, 3, 0.5f}, 2, 6},
+        {KZ_GRID, {{2, 2, 8}, 4, 1, 4, 1, 5, 3, 0.5f}, 3, 4},
+        {KZ_GRID, {{2, 2, 8}, 4, 1, 4, 1, 5, 3, 0.5f}, SIZE_MAX - 1, SIZE_MAX - 1},
+        {KZ_GRID, {{2, 2, 3}, 4, 1, 4, 1, 5, 3, 0.5f}, 2, 2},
+    };
+    for (size_t k = 0; k < sizeof calls / sizeof *calls; k++) {
+        r = kz_lengths(calls[k].settings, calls[k].grid_h, calls[k].grid_w);
+        EXPECT(r.number == calls[k].number && r.patches == 0 && r.weights == 0);
+        EXPECT(r.tables == 0 && r.scratch == 0 && r.out == 0);
+    }
+}
+
 static void number(void) {
     EXPECT(kz_bf16(0x3F808000) == 0x3F800000 && kz_bf16(0x3F818000) == 0x3F820000);
     EXPECT(kz_bf16(0x7FFFFFFF) == 0x80000000 && kz_bf16(0x7F7FFFFF) == 0x7F800000);
@@ -222,6 +268,7 @@ int main(void) {
     restore();
     patch();
     forward();
+    lengths();
     number();
     if (!failed) puts("face.c: every call and every number is as the header says");
     return failed;
