@@ -105,8 +105,8 @@ pub fn patch(patches: &[f32], patch_size: usize, i: usize) -> &[f32] {
 
 /// The token vectors of patches: their count, and `text_hidden_size` floats for each over the front of `out`.
 ///
-/// [`EncoderSettings`] tells the length of each buffer. The scratch may hold anything; after an accepted call, and
-/// after [`Refusal::NotFinite`], all of it is +0, and after any other refusal it is as it was.
+/// [`EncoderSettings::lengths`] tells the length of each buffer. The scratch may hold anything; after an accepted call,
+/// and after [`Refusal::NotFinite`], all of it is +0, and after any other refusal it is as it was.
 /// Refused with the first of 1, 6, 7, 9, 10, 5, 11, 12. [The crate's first example](crate) has a call.
 ///
 /// No output can be lent as an input too:

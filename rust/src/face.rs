@@ -29,6 +29,16 @@ pub struct ForwardReport {
     pub tokens: usize,
 }
 
+#[repr(C)]
+pub struct LengthsReport {
+    pub number: u32,
+    pub patches: usize,
+    pub weights: usize,
+    pub tables: usize,
+    pub scratch: usize,
+    pub out: usize,
+}
+
 extern "C" {
     pub fn kz_preprocess(
         settings: PictureSettings,
@@ -69,6 +79,8 @@ extern "C" {
         out: *mut f32,
         out_len: usize,
     ) -> ForwardReport;
+
+    pub fn kz_lengths(settings: EncoderSettings, grid_h: usize, grid_w: usize) -> LengthsReport;
 
     pub fn kz_bf16(x: u32) -> u32;
     pub fn kz_half(h: u16) -> u32;

@@ -29,11 +29,10 @@
 //!     text_hidden_size: 10,
 //!     scaling: 8f32.powf(-0.5),
 //! };
-//! let weights = vec![0.01; settings.weights_len()?];
-//! let rope_cos = vec![1.0; settings.tables_len()?];
-//! let rope_sin = vec![0.0; settings.tables_len()?];
-//! let mut scratch = vec![0.0; settings.scratch_len(grid.grid_h, grid.grid_w)?];
-//! let mut tokens = vec![0.0; settings.tokens_len(grid.grid_h, grid.grid_w)?];
+//! let lengths = settings.lengths(grid.grid_h, grid.grid_w)?;
+//! let weights = vec![0.01; lengths.weights];
+//! let (rope_cos, rope_sin) = (vec![1.0; lengths.tables], vec![0.0; lengths.tables]);
+//! let (mut scratch, mut tokens) = (vec![0.0; lengths.scratch], vec![0.0; lengths.out]);
 //! let count = forward(
 //!     &settings, &patches, grid.grid_h, grid.grid_w, &weights, &rope_cos, &rope_sin, &mut scratch, &mut tokens,
 //! )?;
@@ -57,4 +56,4 @@ mod settings;
 pub use calls::{forward, patch, pixtral_preprocess, restore, Patches, Picture, PixtralEncoder};
 pub use number::{bf16, exp, half_to_f32, root, tanh};
 pub use refusal::Refusal;
-pub use settings::{EncoderSettings, PictureSettings};
+pub use settings::{EncoderSettings, Lengths, PictureSettings};

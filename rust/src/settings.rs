@@ -1,4 +1,4 @@
-use crate::Refusal;
+use crate::{face, Refusal};
 
 /// How a picture is cut. The default is a Pixtral's: 14, 2 and 1540.
 #[repr(C)]
@@ -34,6 +34,21 @@ pub struct EncoderSettings {
     pub scaling: f32,
 }
 
+/// How many floats each buffer of a [`forward`](crate::forward) call has to have, by [`EncoderSettings::lengths`].
+#[derive(Clone, Copy, Debug, PartialEq, Eq, Hash)]
+pub struct Lengths {
+    /// The patches: exactly so many.
+    pub patches: usize,
+    /// The weights: exactly so many, with every grid.
+    pub weights: usize,
+    /// Each of the two rotary tables: exactly so many, with every grid.
+    pub tables: usize,
+    /// The scratch: at least so many.
+    pub scratch: usize,
+    /// The output: at least so many, and so many are written.
+    pub out: usize,
+}
+
 impl Default for PictureSettings {
     fn default() -> Self {
         PictureSettings { patch_size: 14, spatial_merge_size: 2, image_size: 1540 }
@@ -56,13 +71,6 @@ impl Default for EncoderSettings {
 }
 
 impl PictureSettings {
-    fn check(&self) -> Result<(), Refusal> {
-        let allowed = (1..=32).contains(&self.patch_size)
-            && (1..=4).contains(&self.spatial_merge_size)
-            && (1..=2048).contains(&self.image_size);
-        allowed.then_some(()).ok_or(Refusal::Setting)
-    }
-
     /// The grid that a picture of these sides gives: `grid_h` and `grid_w`. Refused with 1, 2 or 4.
     ///
     /// ```
@@ -70,7 +78,12 @@ impl PictureSettings {
     /// assert_eq!(settings.grid(29, 28), Ok((4, 2)));
     /// ```
     pub fn grid(&self, height: usize, width: usize) -> Result<(usize, usize), Refusal> {
-        self.check()?;
+        let allowed = (1..=32).contains(&self.patch_size)
+            && (1..=4).contains(&self.spatial_merge_size)
+            && (1..=2048).contains(&self.image_size);
+        if !allowed {
+            return Err(Refusal::Setting);
+        }
         let sides = 1..=8192;
         if !(sides.contains(&height) && sides.contains(&width)) {
             return Err(Refusal::Side);
@@ -96,71 +109,71 @@ impl PictureSettings {
     /// How many bytes [`restore`](crate::restore) writes for this grid, as many as there are floats in its patches.
     /// Refused with 1 or 6.
     pub fn restored_len(&self, grid_h: usize, grid_w: usize) -> Result<usize, Refusal> {
-        Ok(self.tokens(grid_h, grid_w)? * 3 * self.patch_size * self.patch_size)
-    }
-
-    /// The patches of an allowed grid, at most 2048².
-    fn tokens(&self, grid_h: usize, grid_w: usize) -> Result<usize, Refusal> {
-        self.check()?;
-        let most = self.image_size / self.patch_size;
-        let allowed = |side: usize| (1..=most).contains(&side) && side % self.spatial_merge_size == 0;
-        if !(allowed(grid_h) && allowed(grid_w)) {
-            return Err(Refusal::Grid);
-        }
-        Ok(grid_h * grid_w)
+        // Patches are as long for every encoder, so any that is allowed serves.
+        let encoder = EncoderSettings { picture: *self, ..EncoderSettings::default() };
+        Ok(encoder.lengths(grid_h, grid_w)?.patches)
     }
 }
 
 impl EncoderSettings {
-    fn check(&self) -> Result<(), Refusal> {
-        self.picture.check()?;
-        let allowed = (4..=2048).contains(&self.hidden_size)
-            && (1..=64).contains(&self.num_heads)
-            && (4..=256).contains(&self.head_dim)
-            && self.head_dim % 4 == 0
-            && self.num_heads * self.head_dim == self.hidden_size
-            && self.num_layers <= 48
-            && (1..=8192).contains(&self.intermediate_size)
-            && (1..=8192).contains(&self.text_hidden_size)
-            && self.scaling > 0.0
-            && self.scaling.is_finite();
-        allowed.then_some(()).ok_or(Refusal::Setting)
+    /// How many floats each buffer of a [`forward`](crate::forward) call with this grid has to have: the lengths that
+    /// `forward` is proved to compare with. Refused with 1 or 6.
+    ///
+    /// ```
+    /// # fn main() -> Result<(), kyzgultam::Refusal> {
+    /// let settings = kyzgultam::EncoderSettings::default();
+    /// let lengths = settings.lengths(2, 4)?;
+    /// assert_eq!(lengths.patches, 2 * 4 * 3 * 14 * 14);
+    /// assert_eq!(lengths.tables, 110 * 110 * 64);
+    /// assert_eq!(lengths.out, 2 * 5120);
+    /// assert_eq!(settings.lengths(2, 3), Err(kyzgultam::Refusal::Grid));
+    /// # Ok(())
+    /// # }
+    /// ```
+    pub fn lengths(&self, grid_h: usize, grid_w: usize) -> Result<Lengths, Refusal> {
+        // Safe, since the call takes any numbers and touches no memory.
+        let report = unsafe { face::kz_lengths(*self, grid_h, grid_w) };
+        Refusal::check(report.number)?;
+        Ok(Lengths {
+            patches: report.patches,
+            weights: report.weights,
+            tables: report.tables,
+            scratch: report.scratch,
+            out: report.out,
+        })
     }
 
-    /// How many floats the weights have. Refused with 1.
+    /// The lengths for the smallest grid, merge × merge: where it is refused, every grid is.
+    fn smallest(&self) -> Result<Lengths, Refusal> {
+        let merge = self.picture.spatial_merge_size;
+        self.lengths(merge, merge)
+    }
+
+    /// How many floats the weights have. Refused with 1, and with 6 where no grid is allowed at all: where the image
+    /// size is below patch × merge, no call of [`forward`](crate::forward) can be accepted.
     ///
     /// They are, in this order: patch_conv, ln_pre; for each layer attention_norm, q, k, v, o, ffn_norm, gate, up,
     /// down; then the projector's norm, merging_layer, linear_1, linear_2. Matrices are row-major, `[out, in]`.
     pub fn weights_len(&self) -> Result<usize, Refusal> {
-        self.check()?;
-        let (h, i, x) = (self.hidden_size, self.intermediate_size, self.text_hidden_size);
-        let (p, m) = (self.picture.patch_size, self.picture.spatial_merge_size);
-        let layer = 2 * h + 4 * h * h + 3 * h * i;
-        let projector = h + h * h * m * m + x * h + x * x;
-        Ok(h * 3 * p * p + h + self.num_layers * layer + projector)
+        Ok(self.smallest()?.weights)
     }
 
-    /// How many floats each rotary table has: P² × `head_dim`, with P = image size / patch. Refused with 1.
+    /// How many floats each rotary table has: P² × `head_dim`, with P = image size / patch. Refused with 1 and 6, as
+    /// [`weights_len`](Self::weights_len) is.
     ///
     /// The row of the patch at row h and column w of the grid is the one at h × P + w.
     pub fn tables_len(&self) -> Result<usize, Refusal> {
-        self.check()?;
-        let most = self.picture.image_size / self.picture.patch_size;
-        Ok(most * most * self.head_dim)
+        Ok(self.smallest()?.tables)
     }
 
     /// How many floats of scratch [`forward`](crate::forward) needs for this grid. Refused with 1 or 6.
     pub fn scratch_len(&self, grid_h: usize, grid_w: usize) -> Result<usize, Refusal> {
-        let tokens = self.tokens_len(grid_h, grid_w)?;
-        let t = grid_h * grid_w;
-        Ok(7 * t * self.hidden_size + 2 * t * self.intermediate_size + t + 2 * tokens)
+        Ok(self.lengths(grid_h, grid_w)?.scratch)
     }
 
     /// How many floats [`forward`](crate::forward) writes for this grid: a vector of `text_hidden_size` for each
     /// merge × merge patches. Refused with 1 or 6.
     pub fn tokens_len(&self, grid_h: usize, grid_w: usize) -> Result<usize, Refusal> {
-        self.check()?;
-        let merge = self.picture.spatial_merge_size;
-        Ok(self.picture.tokens(grid_h, grid_w)? / (merge * merge) * self.text_hidden_size)
+        Ok(self.lengths(grid_h, grid_w)?.out)
     }
 }

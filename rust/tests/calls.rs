@@ -1,11 +1,10 @@
-//! What accepted calls give, and that the sizes helpers agree with what the calls accept.
+//! What accepted calls give, and that the lengths of a picture's buffers are those that the calls accept.
 
 mod common;
 
 use common::{same, Random};
 use kyzgultam::{
-    bf16, exp, forward, half_to_f32, patch, pixtral_preprocess, restore, root, tanh, Patches, Picture, PictureSettings,
-    Refusal,
+    bf16, exp, half_to_f32, patch, pixtral_preprocess, restore, root, tanh, Patches, Picture, PictureSettings, Refusal,
 };
 
 #[test]
@@ -85,55 +84,6 @@ fn patches_len_agrees_and_restore_undoes() {
         assert!(same(&again, &exact));
     }
     assert!(accepted > 500 && refused > 100, "{accepted} {refused}");
-}
-
-#[test]
-fn encoder_lens_agree() {
-    let mut random = Random(1_234_567);
-    let (mut accepted, mut refused) = (0, 0);
-    for _ in 0..400 {
-        let s = random.encoder();
-        let (grid_h, grid_w) = (random.from(0, 9), random.from(0, 9));
-        let p = s.picture.patch_size;
-        let patches = random.floats(grid_h * grid_w * 3 * p * p, 1.0);
-        let weights = random.floats(s.weights_len().unwrap() + 1, 0.2);
-        let table = random.floats(s.tables_len().unwrap() + 1, 1.0);
-        let (w, t) = (weights.len() - 1, table.len() - 1);
-        let (need, room) = (s.scratch_len(grid_h, grid_w), s.tokens_len(grid_h, grid_w));
-        let mut scratch = vec![0.0; need.unwrap_or(0)];
-        let mut out = vec![0.0; room.unwrap_or(0)];
-        let mut call = |w: usize, cos: usize, sin: usize, less: usize, short: usize| {
-            let n = scratch.len();
-            let m = out.len();
-            forward(
-                &s,
-                &patches,
-                grid_h,
-                grid_w,
-                &weights[..w],
-                &table[..cos],
-                &table[..sin],
-                &mut scratch[..n - less.min(n)],
-                &mut out[..m - short.min(m)],
-            )
-        };
-        let found = call(w, t, t, 0, 0);
-        assert_eq!(found.map(|count| count * s.text_hidden_size), room);
-        assert_eq!(need.err(), room.err());
-        if found.is_err() {
-            assert_eq!(found, Err(Refusal::Grid));
-            refused += 1;
-            continue;
-        }
-        accepted += 1;
-        assert_eq!(call(w + 1, t, t, 0, 0), Err(Refusal::WeightsLength));
-        assert_eq!(call(w - 1, t, t, 0, 0), Err(Refusal::WeightsLength));
-        assert_eq!(call(w, t + 1, t, 0, 0), Err(Refusal::TableLength));
-        assert_eq!(call(w, t, t - 1, 0, 0), Err(Refusal::TableLength));
-        assert_eq!(call(w, t, t, 0, 1), Err(Refusal::Output));
-        assert_eq!(call(w, t, t, 1, 0), Err(Refusal::Scratch));
-    }
-    assert!(accepted > 50 && refused > 50, "{accepted} {refused}");
 }
 
 #[test]

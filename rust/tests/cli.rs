@@ -183,6 +183,8 @@ fn refused_with_file_number_and_advice() {
     }
     run("patches a.ppm -o out --settings image=2049", &["--settings: refused, number 1"]);
     run("patches a.ppm -o out --settings image=27", &["a.ppm: ", "number 4", "image="]);
+    run("encode a.ppm -o out --settings image=27", &["a.ppm: ", "number 4", "image="]);
+    run("bench --size 8x8 --settings image=27", &["--settings: refused, number 4"]);
     run("compare a.ppm a.ppm --settings merge=5", &["--settings: refused, number 1"]);
     folder.put("wide.ppm", b"P6 8193 1 255 ");
     folder.put("flat.pgm", b"P5 0 0 255 ");

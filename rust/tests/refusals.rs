@@ -241,6 +241,7 @@ fn settings_at_their_ends() {
             let mut bad = good_forward();
             bad.settings.picture = settings;
             assert_eq!(run_forward(&bad), Err(Refusal::Setting));
+            assert_eq!(bad.settings.lengths(2, 4), Err(Refusal::Setting));
             assert_eq!(bad.settings.weights_len(), Err(Refusal::Setting));
         }
     }
@@ -257,6 +258,7 @@ fn settings_at_their_ends() {
             let mut bad = good_forward();
             *field(&mut bad.settings) = *value;
             assert_eq!(run_forward(&bad), Err(Refusal::Setting));
+            assert_eq!(bad.settings.lengths(2, 4), Err(Refusal::Setting));
             assert_eq!(bad.settings.weights_len(), Err(Refusal::Setting));
             assert_eq!(bad.settings.tables_len(), Err(Refusal::Setting));
             assert_eq!(bad.settings.scratch_len(2, 4), Err(Refusal::Setting));
@@ -267,6 +269,28 @@ fn settings_at_their_ends() {
         let mut bad = good_forward();
         bad.settings.scaling = scaling;
         assert_eq!(run_forward(&bad), Err(Refusal::Setting));
+        assert_eq!(bad.settings.lengths(2, 4), Err(Refusal::Setting));
         assert_eq!(bad.settings.weights_len(), Err(Refusal::Setting));
+    }
+}
+
+#[test]
+fn lengths_refuse() {
+    for side in [0, 1, 3, 5, 6, usize::MAX] {
+        for (grid_h, grid_w) in [(side, 4), (2, side), (side, side)] {
+            assert_eq!(ENCODER.lengths(grid_h, grid_w), Err(Refusal::Grid));
+            assert_eq!(ENCODER.scratch_len(grid_h, grid_w), Err(Refusal::Grid));
+            assert_eq!(ENCODER.tokens_len(grid_h, grid_w), Err(Refusal::Grid));
+            assert_eq!(PICTURE.restored_len(grid_h, grid_w), Err(Refusal::Grid));
+            // A setting comes first.
+            assert_eq!(EncoderSettings { num_layers: 49, ..ENCODER }.lengths(grid_h, grid_w), Err(Refusal::Setting));
+        }
+    }
+    // An image size of patch × merge allows one grid; one less allows none, and then no weights have a length.
+    for (image_size, refusal) in [(4, None), (3, Some(Refusal::Grid)), (0, Some(Refusal::Setting))] {
+        let settings = EncoderSettings { picture: PictureSettings { image_size, ..PICTURE }, ..ENCODER };
+        assert_eq!(settings.lengths(2, 2).err(), refusal);
+        assert_eq!(settings.weights_len().err(), refusal);
+        assert_eq!(settings.tables_len().err(), refusal);
     }
 }

@@ -26,18 +26,22 @@ pub struct Model {
 impl Model {
     pub fn read(given: &Given) -> Result<Model, Fail> {
         let settings = given.settings()?;
-        let len = |len: Result<usize, Refusal>| len.map_err(refused_settings);
-        let (weights_len, table_len) = (len(settings.weights_len())?, len(settings.tables_len())?);
         let files = ["--weights", "--tables"].map(|name| given.path(name));
-        let room = || weights_room(&settings, weights_len);
+        let merge = settings.picture.spatial_merge_size;
+        let lengths = match settings.lengths(merge, merge) {
+            // No grid is allowed: each picture is refused with 4, before the model is used.
+            Err(Refusal::Grid) => return Ok(Model { settings, weights: vec![], cos: vec![], sin: vec![], files }),
+            lengths => lengths.map_err(refused_settings)?,
+        };
+        let room = || weights_room(&settings, lengths.weights);
         let weights = match &files[0] {
-            Some(file) => floats(file, weights_len, room, Refusal::WeightsLength, "").map(|[weights]| weights)?,
+            Some(file) => floats(file, lengths.weights, room, Refusal::WeightsLength, "").map(|[weights]| weights)?,
             None => seeded(&settings, room()?),
         };
-        let room = || table_room(&settings, table_len);
+        let room = || table_room(&settings, lengths.tables);
         let order = ", the cosines and then the sines";
         let [cos, sin] = match &files[1] {
-            Some(file) => floats(file, table_len, room, Refusal::TableLength, order)?,
+            Some(file) => floats(file, lengths.tables, room, Refusal::TableLength, order)?,
             None => precompute_2d_rope(&settings, 10000.0, [room()?, room()?]),
         };
         Ok(Model { settings, weights, cos, sin, files })
@@ -46,15 +50,13 @@ impl Model {
     /// Room for the token vectors and the scratch of a grid; words where there is none.
     pub fn lend(&self, grid: (usize, usize), lent: &mut Lent) -> Result<(), String> {
         let s = self.settings;
-        let refused = |refusal: Refusal| numbered(refusal, RANGES);
-        let tokens = s.tokens_len(grid.0, grid.1).map_err(refused)?;
-        let scratch = s.scratch_len(grid.0, grid.1).map_err(refused)?;
+        let lengths = s.lengths(grid.0, grid.1).map_err(|refusal| numbered(refusal, RANGES))?;
         let of = format!("of its grid of {}x{} patches", grid.0, grid.1);
         let (hidden, intermediate, text) = (s.hidden_size, s.intermediate_size, s.text_hidden_size);
         let sizes = format!("text={text}, image={}", s.picture.image_size);
-        room::fit(&mut lent.tokens, tokens, &format!("the token vectors {of} ({sizes})"), SMALLER)?;
+        room::fit(&mut lent.tokens, lengths.out, &format!("the token vectors {of} ({sizes})"), SMALLER)?;
         let sizes = format!("hidden={hidden}, intermediate={intermediate}, {sizes}");
-        room::fit(&mut lent.scratch, scratch, &format!("the scratch {of} ({sizes})"), SMALLER)
+        room::fit(&mut lent.scratch, lengths.scratch, &format!("the scratch {of} ({sizes})"), SMALLER)
     }
 
     /// The token vectors of patches, to what was lent for their grid.

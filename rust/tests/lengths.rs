@@ -1,0 +1,199 @@
+//! The lengths of the buffers of a forward call: those that the scope document states, and those that forward takes.
+
+mod common;
+
+use common::Random;
+use kyzgultam::{forward, EncoderSettings, Lengths, PictureSettings, Refusal};
+
+/// Numbers 1 and 6, and the lengths, as the scope document states them.
+fn stated(s: &EncoderSettings, grid_h: usize, grid_w: usize) -> Result<Lengths, Refusal> {
+    let (p, m) = (s.picture.patch_size, s.picture.spatial_merge_size);
+    let (h, i, x) = (s.hidden_size, s.intermediate_size, s.text_hidden_size);
+    let allowed = (1..=32).contains(&p)
+        && (1..=4).contains(&m)
+        && (1..=2048).contains(&s.picture.image_size)
+        && (4..=2048).contains(&h)
+        && (1..=64).contains(&s.num_heads)
+        && (4..=256).contains(&s.head_dim)
+        && s.head_dim % 4 == 0
+        && s.num_heads * s.head_dim == h
+        && s.num_layers <= 48
+        && (1..=8192).contains(&i)
+        && (1..=8192).contains(&x)
+        && s.scaling > 0.0
+        && s.scaling.is_finite();
+    if !allowed {
+        return Err(Refusal::Setting);
+    }
+    let most = s.picture.image_size / p;
+    if [grid_h, grid_w].iter().any(|side| !(1..=most).contains(side) || side % m != 0) {
+        return Err(Refusal::Grid);
+    }
+    let t = grid_h * grid_w;
+    let o = t / (m * m);
+    let layer = 2 * h + 4 * h * h + 3 * h * i;
+    let projector = h + h * h * m * m + x * h + x * x;
+    Ok(Lengths {
+        patches: t * 3 * p * p,
+        weights: h * 3 * p * p + h + s.num_layers * layer + projector,
+        tables: most * most * s.head_dim,
+        scratch: 7 * t * h + 2 * t * i + t + 2 * o * x,
+        out: o * x,
+    })
+}
+
+/// The lengths by the call and by each method, against those that are stated.
+fn compare(s: &EncoderSettings, grid_h: usize, grid_w: usize) -> Result<Lengths, Refusal> {
+    let right = stated(s, grid_h, grid_w);
+    assert_eq!(s.lengths(grid_h, grid_w), right, "{s:?} {grid_h} {grid_w}");
+    assert_eq!(s.scratch_len(grid_h, grid_w), right.map(|n| n.scratch), "{s:?} {grid_h} {grid_w}");
+    assert_eq!(s.tokens_len(grid_h, grid_w), right.map(|n| n.out), "{s:?} {grid_h} {grid_w}");
+    let merge = s.picture.spatial_merge_size;
+    let smallest = stated(s, merge, merge);
+    assert_eq!(s.weights_len(), smallest.map(|n| n.weights), "{s:?}");
+    assert_eq!(s.tables_len(), smallest.map(|n| n.tables), "{s:?}");
+    // Of the encoder's own settings restore knows nothing.
+    let picture = EncoderSettings { picture: s.picture, ..EncoderSettings::default() };
+    let bytes = stated(&picture, grid_h, grid_w).map(|n| n.patches);
+    assert_eq!(s.picture.restored_len(grid_h, grid_w), bytes, "{s:?} {grid_h} {grid_w}");
+    right
+}
+
+/// Settings from all of what is allowed.
+fn any(random: &mut Random) -> EncoderSettings {
+    let head_dim = 4 * random.from(1, 64);
+    let num_heads = random.from(1, (2048 / head_dim).min(64));
+    EncoderSettings {
+        picture: PictureSettings {
+            patch_size: random.from(1, 32),
+            spatial_merge_size: random.from(1, 4),
+            image_size: random.from(1, 2048),
+        },
+        hidden_size: num_heads * head_dim,
+        num_heads,
+        head_dim,
+        num_layers: random.from(0, 48),
+        intermediate_size: random.from(1, 8192),
+        text_hidden_size: random.from(1, 8192),
+        scaling: 0.5,
+    }
+}
+
+type Field = fn(&mut EncoderSettings) -> &mut usize;
+const FIELDS: [Field; 9] = [
+    |s| &mut s.picture.patch_size,
+    |s| &mut s.picture.spatial_merge_size,
+    |s| &mut s.picture.image_size,
+    |s| &mut s.hidden_size,
+    |s| &mut s.num_heads,
+    |s| &mut s.head_dim,
+    |s| &mut s.num_layers,
+    |s| &mut s.intermediate_size,
+    |s| &mut s.text_hidden_size,
+];
+
+const MAX: usize = usize::MAX;
+/// 0, in and beside the ranges, and the end of usize.
+const ENDS: [usize; 21] =
+    [0, 1, 2, 3, 4, 5, 32, 33, 48, 49, 64, 65, 256, 260, 2048, 2049, 8192, 8193, 1 << 32, MAX - 3, MAX];
+
+#[test]
+fn lengths_are_those_stated() {
+    let mut random = Random(20_260_815);
+    let mut seen = [0; 7];
+    let mut count = |found: Result<Lengths, Refusal>| seen[found.err().map_or(0, |r| r.number() as usize)] += 1;
+    for i in 0..20_000 {
+        let mut s = any(&mut random);
+        let (merge, most) = (s.picture.spatial_merge_size, s.picture.image_size / s.picture.patch_size);
+        let mut side = || random.from(0, most / merge + 1) * merge;
+        let mut grid = [side(), side()];
+        if i % 4 == 1 {
+            grid[random.from(0, 1)] = random.from(0, most + 2);
+        }
+        if i % 4 >= 2 {
+            *FIELDS[random.from(0, 8)](&mut s) = ENDS[random.from(0, ENDS.len() - 1)];
+        }
+        count(compare(&s, grid[0], grid[1]));
+    }
+    // Each setting and each side at every end.
+    for end in ENDS {
+        for field in FIELDS {
+            let mut s = EncoderSettings::default();
+            *field(&mut s) = end;
+            count(compare(&s, 2, 4));
+        }
+        for (grid_h, grid_w) in [(end, 4), (2, end), (end, end)] {
+            count(compare(&EncoderSettings::default(), grid_h, grid_w));
+        }
+    }
+    for scaling in [0.0, -0.0, -1.0, 1e-45, f32::MAX, f32::INFINITY, f32::NEG_INFINITY, f32::NAN] {
+        count(compare(&EncoderSettings { scaling, ..EncoderSettings::default() }, 2, 4));
+    }
+    assert!([0, 1, 6].iter().all(|n| seen[*n] > 1000) && seen.iter().sum::<usize>() > 20_000, "{seen:?}");
+}
+
+/// What is longest: 2048 × 2048 patches, the widest layers and as many as can be.
+#[test]
+fn the_largest() {
+    let settings = EncoderSettings {
+        picture: PictureSettings { patch_size: 1, spatial_merge_size: 1, image_size: 2048 },
+        hidden_size: 2048,
+        num_heads: 8,
+        head_dim: 256,
+        num_layers: 48,
+        intermediate_size: 8192,
+        text_hidden_size: 8192,
+        scaling: 0.0625,
+    };
+    let lengths = Lengths {
+        patches: 12_582_912,
+        weights: 3_309_512_704,
+        tables: 1_073_741_824,
+        scratch: 197_572_689_920,
+        out: 34_359_738_368,
+    };
+    assert_eq!(compare(&settings, 2048, 2048), Ok(lengths));
+}
+
+/// With these lengths a call is accepted. With one float less it is refused with that buffer's number, and with one
+/// more it is where the length is to be exact.
+#[test]
+fn forward_takes_just_these() {
+    use Refusal::{Output, PatchesLength, Scratch, TableLength, WeightsLength};
+    let mut random = Random(1_234_567);
+    let (mut accepted, mut refused, mut hopeless) = (0, 0, 0);
+    for _ in 0..400 {
+        let s = random.encoder();
+        let (grid_h, grid_w) = (random.from(0, 9), random.from(0, 9));
+        let found = s.lengths(grid_h, grid_w);
+        let Ok(n) = found else {
+            let call = forward(&s, &[], grid_h, grid_w, &[], &[], &[], &mut [], &mut []);
+            assert_eq!(call.err(), found.err(), "{s:?} {grid_h} {grid_w}");
+            refused += 1;
+            // Without a length for the weights there is no picture that gives a grid.
+            assert_eq!(s.weights_len().err(), s.picture.grid(1, 1).err().map(|_| Refusal::Grid), "{s:?}");
+            hopeless += usize::from(s.weights_len().is_err());
+            continue;
+        };
+        accepted += 1;
+        let lens = [n.patches, n.weights, n.tables, n.tables, n.scratch, n.out];
+        let floats = lens.map(|len| random.floats(len + 1, 0.2));
+        let call = |lens: [usize; 6]| {
+            let [patches, weights, cos, sin, scratch, out] = &floats;
+            let (mut scratch, mut out) = (scratch[..lens[4]].to_vec(), out[..lens[5]].to_vec());
+            let (cos, sin) = (&cos[..lens[2]], &sin[..lens[3]]);
+            let (patches, weights) = (&patches[..lens[0]], &weights[..lens[1]]);
+            forward(&s, patches, grid_h, grid_w, weights, cos, sin, &mut scratch, &mut out)
+        };
+        assert_eq!(call(lens).map(|count| count * s.text_hidden_size), Ok(n.out));
+        let numbers = [PatchesLength, WeightsLength, TableLength, TableLength, Scratch, Output];
+        for (k, number) in numbers.into_iter().enumerate() {
+            let (mut less, mut more) = (lens, lens);
+            less[k] -= 1;
+            more[k] += 1;
+            assert_eq!(call(less), Err(number), "{s:?} {grid_h} {grid_w}");
+            assert_eq!(call(more).err(), (k < 4).then_some(number), "{s:?} {grid_h} {grid_w}");
+        }
+    }
+    assert!(accepted > 50 && refused > 50 && hopeless > 10, "{accepted} {refused} {hopeless}");
+}
