@@ -1,4 +1,4 @@
-//! Compares libkyzgultam's kz_forward with the Rust, byte for byte.
+//! Compares libkyzgultam's kz_forward with the Rust, byte for byte, and kz_lengths with the text of the paper.
 //!
 //! The Rust's `PixtralEncoder::forward`, the types and all that it calls are cut from its source, with E and T in
 //! the place of the platform's exp and tanh (`run` does it), one thread, and no log and no progress bar. The order of
@@ -173,8 +173,21 @@ struct Report {
     tokens: usize,
 }
 
+#[repr(C)]
+#[derive(Debug, Default, PartialEq)]
+struct Lengths {
+    number: u32,
+    patches: usize,
+    weights: usize,
+    /// Of each table.
+    tables: usize,
+    scratch: usize,
+    out: usize,
+}
+
 #[link(name = "kyzgultam", kind = "static")]
 extern "C" {
+    fn kz_lengths(s: Settings, grid_h: usize, grid_w: usize) -> Lengths;
     fn kz_forward(
         s: Settings,
         patches: *const f32,
@@ -244,9 +257,8 @@ fn scratch_floats(s: &Settings, t: usize, o: usize) -> usize {
     7 * t * s.hidden_size + 2 * t * s.intermediate_size + t + 2 * o * s.text_hidden_size
 }
 
-/// 1, 6, 7, 9, 10, 5, 11, in that order; 0 where none applies.
-fn refusal(c: &Call) -> u32 {
-    let s = &c.s;
+/// 1 and 6, or what the buffers' lengths are compared with.
+fn lengths(s: &Settings, grid: [usize; 2]) -> Lengths {
     let allowed = (1..=32).contains(&s.patch_size)
         && (1..=4).contains(&s.spatial_merge_size)
         && (1..=2048).contains(&s.image_size)
@@ -261,27 +273,43 @@ fn refusal(c: &Call) -> u32 {
         && s.scaling > 0.0
         && s.scaling < f32::INFINITY;
     if !allowed {
-        return 1;
+        return Lengths { number: 1, ..Lengths::default() };
     }
     let most = s.image_size / s.patch_size;
-    if c.grid.iter().any(|g| !(1..=most).contains(g) || g % s.spatial_merge_size != 0) {
-        return 6;
+    if grid.iter().any(|g| !(1..=most).contains(g) || g % s.spatial_merge_size != 0) {
+        return Lengths { number: 6, ..Lengths::default() };
     }
-    let t = c.grid[0] * c.grid[1];
+    let t = grid[0] * grid[1];
     let o = t / (s.spatial_merge_size * s.spatial_merge_size);
-    if c.patches.len() != t * 3 * s.patch_size * s.patch_size {
+    Lengths {
+        number: 0,
+        patches: t * 3 * s.patch_size * s.patch_size,
+        weights: weight_floats(s),
+        tables: most * most * s.head_dim,
+        scratch: scratch_floats(s, t, o),
+        out: o * s.text_hidden_size,
+    }
+}
+
+/// 1, 6, 7, 9, 10, 5, 11, in that order; 0 where none applies.
+fn refusal(c: &Call) -> u32 {
+    let n = lengths(&c.s, c.grid);
+    if n.number != 0 {
+        return n.number;
+    }
+    if c.patches.len() != n.patches {
         return 7;
     }
-    if c.weights.len() != weight_floats(s) {
+    if c.weights.len() != n.weights {
         return 9;
     }
-    if [&c.cos, &c.sin].iter().any(|table| table.len() != most * most * s.head_dim) {
+    if [&c.cos, &c.sin].iter().any(|table| table.len() != n.tables) {
         return 10;
     }
-    if c.out.len() < o * s.text_hidden_size {
+    if c.out.len() < n.out {
         return 5;
     }
-    if c.scratch.len() < scratch_floats(s, t, o) {
+    if c.scratch.len() < n.scratch {
         return 11;
     }
     0
@@ -530,6 +558,7 @@ fn ours(c: &Call, scratch: &mut [f32], out: &mut [f32]) -> Report {
 #[derive(Default)]
 struct Tally {
     calls: usize,
+    lengths: usize,
     accepted: usize,
     differ: usize,
     numbers: BTreeMap<u32, usize>,
@@ -537,8 +566,20 @@ struct Tally {
 }
 
 impl Tally {
+    fn lengths(&mut self, s: &Settings, grid: [usize; 2]) {
+        let (found, right) = (unsafe { kz_lengths(*s, grid[0], grid[1]) }, lengths(s, grid));
+        self.lengths += 1;
+        if found != right {
+            self.differ += 1;
+            if self.differ <= 5 {
+                println!("encoder: {s:?} grid {grid:?}: {found:?}, expected {right:?}");
+            }
+        }
+    }
+
     /// The stage that the call stops at.
     fn compare(&mut self, c: &Call) -> Option<&'static str> {
+        self.lengths(&c.s, c.grid);
         let a = answer(c);
         let number = a.number;
         if let Some(stage) = a.stage {
@@ -673,6 +714,53 @@ fn changed(r: &mut Random, c: &mut Call) {
     }
 }
 
+/// The lengths with each integer, and each two, at 0, in and beside every range, and at the end of usize; for small
+/// settings, for those of a real model and for the largest.
+fn every_end(tally: &mut Tally) {
+    const MAX: usize = usize::MAX;
+    const ENDS: [usize; 22] =
+        [0, 1, 2, 3, 4, 5, 32, 33, 48, 49, 64, 65, 256, 260, 2048, 2049, 8192, 8193, 1 << 32, 1 << 63, MAX - 3, MAX];
+    let put = |s: &mut Settings, grid: &mut [usize; 2], k: usize, n: usize| match k {
+        0 => s.patch_size = n,
+        1 => s.spatial_merge_size = n,
+        2 => s.image_size = n,
+        3 => s.hidden_size = n,
+        4 => s.num_heads = n,
+        5 => s.head_dim = n,
+        6 => s.num_layers = n,
+        7 => s.intermediate_size = n,
+        8 => s.text_hidden_size = n,
+        _ => grid[k - 9] = n,
+    };
+    let small = Settings { hidden_size: 8, num_heads: 2, head_dim: 4, num_layers: 1, text_hidden_size: 3, ..real(4) };
+    let largest = Settings {
+        patch_size: 1,
+        spatial_merge_size: 1,
+        image_size: 2048,
+        hidden_size: 2048,
+        num_heads: 8,
+        head_dim: 256,
+        num_layers: 48,
+        intermediate_size: 8192,
+        text_hidden_size: 8192,
+        scaling: f32::MAX,
+    };
+    for (base, sides) in [(small, [2, 4]), (real(110), [110, 58]), (largest, [2048, 2048])] {
+        tally.lengths(&base, sides);
+        for (j, k) in (0..11).flat_map(|j| (0..=j).map(move |k| (j, k))) {
+            for (a, b) in ENDS.into_iter().flat_map(|a| ENDS.map(|b| (a, b))) {
+                let (mut s, mut grid) = (base, sides);
+                put(&mut s, &mut grid, j, a);
+                put(&mut s, &mut grid, k, b);
+                tally.lengths(&s, grid);
+            }
+        }
+        for scaling in [0.0, -0.0, -1.0, 1e-45, -1e-45, f32::MAX, f32::NAN, f32::INFINITY, f32::NEG_INFINITY] {
+            tally.lengths(&Settings { scaling, ..base }, sides);
+        }
+    }
+}
+
 fn edges_and_random() -> bool {
     let mut r = Random(SEED);
     let mut tally = Tally::default();
@@ -717,11 +805,14 @@ fn edges_and_random() -> bool {
             println!("encoder: a call that is to stop at {stage:?} stops at {stopped:?}");
         }
     }
+    every_end(&mut tally);
     let all = tally.every_stage();
     eprintln!("encoder: numbers {:?}, stages {:?}", tally.numbers, tally.stages);
     println!(
-        "encoder: {} forward calls compared with the Rust, {} accepted, stopped at {} stages of {}; {} differ",
+        "encoder: {} forward and {} lengths calls compared with the Rust; of forward {} accepted, stopped at {} stages \
+         of {}; {} differ",
         tally.calls,
+        tally.lengths,
         tally.accepted,
         tally.stages.len(),
         stages::examined(1).len(),
