@@ -19,16 +19,23 @@ enum { SIDE_H = 4, SIDE_W = 8, FLOATS = SIDE_H * SIDE_W * 3, TAIL = 5 };
 
 static const struct kz_picture_settings picture = {2, 2, 8};
 
-static float mark(size_t i) { return 1e9f + (float)i * 1024.0f; }
+/* A NaN with bits of its own: no contract can say that they are kept, so they are looked at here. */
+static uint32_t mark(size_t i) { return UINT32_C(0x7F800001) + (uint32_t)i; }
 
 static void mark_all(float *x, size_t n) {
-    for (size_t i = 0; i < n; i++) x[i] = mark(i);
+    for (size_t i = 0; i < n; i++) {
+        uint32_t bits = mark(i);
+        memcpy(x + i, &bits, sizeof bits);
+    }
 }
 
-/* Whether x is marked from a place on. */
+/* Whether x is marked from a place on, by its bits. */
 static int marked(const float *x, size_t from, size_t n) {
-    for (size_t i = from; i < n; i++)
-        if (x[i] != mark(i)) return 0;
+    for (size_t i = from; i < n; i++) {
+        uint32_t bits;
+        memcpy(&bits, x + i, sizeof bits);
+        if (bits != mark(i)) return 0;
+    }
     return 1;
 }
 
