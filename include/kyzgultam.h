@@ -39,7 +39,15 @@ struct kz_picture_settings {
     size_t patch_size;         /* 1..32 */
     size_t spatial_merge_size; /* 1..4 */
     size_t image_size;         /* 1..2048 */
+    size_t resize_rule;        /* 1 or 2: 1 cuts each side by itself, 2 keeps the shape of a long picture */
 };
+
+/*
+ * An initializer for the common call, with resize rule 1:
+ *     struct kz_picture_settings s = KZ_PICTURE_SETTINGS(14, 2, 1540);
+ * Without it a rule may be forgotten: that is 0, which is refused with 1.
+ */
+#define KZ_PICTURE_SETTINGS(patch, merge, image) {(patch), (merge), (image), 1}
 
 struct kz_preprocess_report {
     uint32_t number; /* an enum kz_number, as in each report */
@@ -59,11 +67,14 @@ struct kz_patch_place {
 /*
  * The patches of a picture: height * width pixels of three bytes, by row. Patches run by row; a patch has its samples
  * by channel, row and column: 3 * patch^2 floats. Refused with 1, 2, 3, 4, 5.
+ * The picture is resized first, once. Rule 1 takes each side by itself: rounded up to a multiple of patch * merge, cut
+ * to the image size S, rounded down to a multiple. Rule 2 does the same after a step of its own: where the longer side
+ * m is above S, each side becomes side * S / m, rounded down and at least 1.
  */
 struct kz_preprocess_report kz_preprocess(struct kz_picture_settings settings, const uint8_t *rgb, size_t rgb_len,
                                           size_t height, size_t width, float *out, size_t out_len);
 
-/* The resized picture that gave the patches. Refused with 1, 6, 7, 5, 8. */
+/* The resized picture that gave the patches, the same by both resize rules. Refused with 1, 6, 7, 5, 8. */
 struct kz_restore_report kz_restore(struct kz_picture_settings settings, const float *patches, size_t patches_len,
                                     size_t grid_h, size_t grid_w, uint8_t *out, size_t out_len);
 

@@ -157,6 +157,7 @@ struct Settings {
     patch_size: usize,
     spatial_merge_size: usize,
     image_size: usize,
+    resize_rule: usize,
     hidden_size: usize,
     num_heads: usize,
     head_dim: usize,
@@ -262,6 +263,7 @@ fn lengths(s: &Settings, grid: [usize; 2]) -> Lengths {
     let allowed = (1..=32).contains(&s.patch_size)
         && (1..=4).contains(&s.spatial_merge_size)
         && (1..=2048).contains(&s.image_size)
+        && (1..=2).contains(&s.resize_rule)
         && (4..=2048).contains(&s.hidden_size)
         && (1..=64).contains(&s.num_heads)
         && (4..=256).contains(&s.head_dim)
@@ -600,6 +602,14 @@ impl Tally {
         a.stage
     }
 
+    /// With rule 1 and with rule 2, between which forward and lengths make no difference.
+    fn under_both(&mut self, c: &mut Call) -> [Option<&'static str>; 2] {
+        [1, 2].map(|rule| {
+            c.s.resize_rule = rule;
+            self.compare(c)
+        })
+    }
+
     /// Whether the stages that are examined, and those that calls stopped at, are those of stages.rs.
     fn every_stage(&self) -> bool {
         let calm = &stages::calls(&mut Random(SEED))[0].1;
@@ -624,6 +634,7 @@ fn small(r: &mut Random) -> Call {
         patch_size: patch,
         spatial_merge_size: merge,
         image_size: (grid[0].max(grid[1]) + r.from(0, 2)) * patch + r.from(0, patch - 1),
+        resize_rule: r.from(1, 2),
         hidden_size: heads * d,
         num_heads: heads,
         head_dim: d,
@@ -641,6 +652,7 @@ fn real(side: usize) -> Settings {
         patch_size: 14,
         spatial_merge_size: 2,
         image_size: 14 * side,
+        resize_rule: 1,
         hidden_size: 1024,
         num_heads: 16,
         head_dim: 64,
@@ -679,7 +691,7 @@ fn changed(r: &mut Random, c: &mut Call) {
     let n = end[r.from(0, end.len() - 1)];
     let odd = [f32::NAN, f32::INFINITY, f32::NEG_INFINITY, 3.0e38, -3.0e38];
     let v = odd[r.from(0, odd.len() - 1)];
-    match r.from(0, 22) {
+    match r.from(0, 23) {
         0 => c.s.patch_size = n,
         1 => c.s.spatial_merge_size = n,
         2 => c.s.image_size = n,
@@ -699,17 +711,41 @@ fn changed(r: &mut Random, c: &mut Call) {
         16 => c.sin.push(0.0),
         17 => c.out.truncate(r.from(0, c.out.len())),
         18 => c.scratch.truncate(c.scratch.len() - r.from(0, 4)),
+        19 => c.s.resize_rule = n,
         k => {
             let buffer = match k {
-                19 => &mut c.patches,
-                20 => &mut c.cos,
-                21 => &mut c.sin,
+                20 => &mut c.patches,
+                21 => &mut c.cos,
+                22 => &mut c.sin,
                 _ => &mut c.weights,
             };
             if !buffer.is_empty() {
                 let at = r.from(0, buffer.len() - 1);
                 buffer[at] = v;
             }
+        }
+    }
+}
+
+/// Numbers of no resize rule, alone and beside each other refusal; the low 32 bits of the last two are 1 and 2.
+fn no_rules(r: &mut Random, tally: &mut Tally) {
+    let other: [fn(&mut Call); 9] = [
+        |_| (),
+        |c| c.s.num_layers = 49,
+        |c| c.grid[0] = 0,
+        |c| shorter(&mut c.patches),
+        |c| shorter(&mut c.weights),
+        |c| shorter(&mut c.sin),
+        |c| c.out.clear(),
+        |c| c.scratch.clear(),
+        |c| c.weights[0] = f32::NAN,
+    ];
+    for rule in [0, 3, usize::MAX, 1 << 63, 1 << 32, (1 << 32) + 1, (1 << 32) + 2] {
+        for change in other {
+            let mut c = small(r);
+            change(&mut c);
+            c.s.resize_rule = rule;
+            tally.compare(&c);
         }
     }
 }
@@ -730,13 +766,15 @@ fn every_end(tally: &mut Tally) {
         6 => s.num_layers = n,
         7 => s.intermediate_size = n,
         8 => s.text_hidden_size = n,
-        _ => grid[k - 9] = n,
+        9 => s.resize_rule = n,
+        _ => grid[k - 10] = n,
     };
     let small = Settings { hidden_size: 8, num_heads: 2, head_dim: 4, num_layers: 1, text_hidden_size: 3, ..real(4) };
     let largest = Settings {
         patch_size: 1,
         spatial_merge_size: 1,
         image_size: 2048,
+        resize_rule: 2,
         hidden_size: 2048,
         num_heads: 8,
         head_dim: 256,
@@ -747,7 +785,7 @@ fn every_end(tally: &mut Tally) {
     };
     for (base, sides) in [(small, [2, 4]), (real(110), [110, 58]), (largest, [2048, 2048])] {
         tally.lengths(&base, sides);
-        for (j, k) in (0..11).flat_map(|j| (0..=j).map(move |k| (j, k))) {
+        for (j, k) in (0..12).flat_map(|j| (0..=j).map(move |k| (j, k))) {
             for (a, b) in ENDS.into_iter().flat_map(|a| ENDS.map(|b| (a, b))) {
                 let (mut s, mut grid) = (base, sides);
                 put(&mut s, &mut grid, j, a);
@@ -787,6 +825,7 @@ fn edges_and_random() -> bool {
             patch_size: 14,
             spatial_merge_size: 2,
             image_size: 1540,
+            resize_rule: 1,
             hidden_size: 8,
             num_heads: 1,
             head_dim: 8,
@@ -795,16 +834,18 @@ fn edges_and_random() -> bool {
             text_hidden_size: 8,
             scaling: 0.5,
         };
-        tally.compare(&sized(&mut r, s, grid, 1.0));
+        tally.under_both(&mut sized(&mut r, s, grid, 1.0));
     }
     tally.compare(&sized(&mut r, real(4), [2, 2], 0.05));
-    for (stage, c) in stages::calls(&mut r) {
-        let stopped = tally.compare(&c);
-        if stopped != stage {
-            tally.differ += 1;
-            println!("encoder: a call that is to stop at {stage:?} stops at {stopped:?}");
+    for (stage, mut c) in stages::calls(&mut r) {
+        for stopped in tally.under_both(&mut c) {
+            if stopped != stage {
+                tally.differ += 1;
+                println!("encoder: a call that is to stop at {stage:?} stops at {stopped:?}");
+            }
         }
     }
+    no_rules(&mut r, &mut tally);
     every_end(&mut tally);
     let all = tally.every_stage();
     eprintln!("encoder: numbers {:?}, stages {:?}", tally.numbers, tally.stages);
@@ -875,7 +916,7 @@ impl Asked {
         list.extend(self.grid);
         list.extend(self.lengths);
         list.extend([self.seed as usize, self.damage, self.place]);
-        list.extend([a.number as usize, tokens, hash(&out), hash(&work)]);
+        list.extend([a.number as usize, tokens, hash(&out), hash(&work), s.resize_rule]);
         sample::line(&list)
     }
 }
@@ -890,6 +931,7 @@ fn asked(r: &mut Random, layers: usize) -> Asked {
         patch_size: patch,
         spatial_merge_size: merge,
         image_size: (grid[0].max(grid[1]) + r.from(0, 1)) * patch + r.from(0, patch - 1),
+        resize_rule: 1,
         hidden_size: heads * d,
         num_heads: heads,
         head_dim: d,
@@ -1015,12 +1057,22 @@ fn sample_stopped(r: &mut Random, list: &mut Vec<Asked>) {
     eprintln!("encoder: stages {seen:?}");
 }
 
+/// Rule 2, and what is no rule.
+fn sample_rules(r: &mut Random, list: &mut Vec<Asked>) {
+    for rule in [2, 2, 0, 3, usize::MAX] {
+        let mut a = asked(r, 1);
+        a.s.resize_rule = rule;
+        list.push(a);
+    }
+}
+
 fn sample() -> std::io::Result<()> {
     let mut r = Random(SEED);
     let mut list = Vec::new();
     sample_accepted(&mut r, &mut list);
     sample_refused(&mut r, &mut list);
     sample_stopped(&mut r, &mut list);
+    sample_rules(&mut r, &mut list);
     let mut out = std::io::stdout().lock();
     list.iter().try_for_each(|a| writeln!(out, "{}", a.answered()))
 }

@@ -2,6 +2,8 @@
 //!
 //! `pixtral_preprocess` and `bilinear_resize_rgb` are the Rust's own, cut from its source. The Rust has
 //! no refusal numbers, no restore and no lookup: these follow the text of the paper that adds them.
+//! Nor has it resize rule 2: the sides follow the text of 2026-07, and the Rust's own two functions
+//! resize a picture to these sides, in one step, and cut it into patches.
 //!
 //!     picture            edges, and random calls with a fixed seed
 //!     picture CALL       one call, in the words in which a difference is printed
@@ -42,6 +44,7 @@ struct Settings {
     patch_size: usize,
     spatial_merge_size: usize,
     image_size: usize,
+    resize_rule: usize,
 }
 
 #[repr(C)]
@@ -102,12 +105,17 @@ const SMALL: usize = 1 << 19;
 const MAX: usize = usize::MAX;
 const SEED: u64 = 0x6B79_7A67_756C_7461;
 const USUAL: Settings = of(14, 2, 1540);
+const RULES: [usize; 2] = [1, 2];
+/// Numbers of no rule; the low 32 bits of the last two are 1 and 2.
+const NO_RULES: [usize; 7] = [0, 3, MAX, 1 << 63, 1 << 32, (1 << 32) + 1, (1 << 32) + 2];
 
+/// Settings with rule 1.
 const fn of(patch_size: usize, spatial_merge_size: usize, image_size: usize) -> Settings {
     Settings {
         patch_size,
         spatial_merge_size,
         image_size,
+        resize_rule: 1,
     }
 }
 
@@ -117,10 +125,18 @@ type Sides = [usize; 2];
 // --- The paper's text ---
 
 impl Settings {
+    fn rule(self, resize_rule: usize) -> Settings {
+        Settings {
+            resize_rule,
+            ..self
+        }
+    }
+
     fn allowed(self) -> bool {
         (1..=32).contains(&self.patch_size)
             && (1..=4).contains(&self.spatial_merge_size)
             && (1..=2048).contains(&self.image_size)
+            && RULES.contains(&self.resize_rule)
     }
 
     fn align(self) -> usize {
@@ -136,10 +152,20 @@ impl Settings {
         self.image_size / self.patch_size
     }
 
+    /// Rule 2, with S the image size and m the longer side: max(1, floor(side × S / m)) where m > S.
+    fn scaled(self, sides: Sides) -> Sides {
+        let (s, m) = (self.image_size, usize::max(sides[0], sides[1]));
+        match self.resize_rule == 2 && m > s {
+            true => sides.map(|side| usize::max(1, side * s / m)),
+            false => sides,
+        }
+    }
+
     /// Rounded up to a multiple of the align, cut to the image size, rounded down to a multiple.
     fn resized(self, sides: Sides) -> Sides {
         let a = self.align();
-        sides.map(|side| usize::min(side.div_ceil(a) * a, self.image_size) / a * a)
+        self.scaled(sides)
+            .map(|side| usize::min(side.div_ceil(a) * a, self.image_size) / a * a)
     }
 
     fn grid(self, sides: Sides) -> Sides {
@@ -240,7 +266,8 @@ fn placed(floats: usize, patch_size: usize, i: usize) -> [usize; 2] {
 impl fmt::Display for Settings {
     fn fmt(&self, to: &mut fmt::Formatter) -> fmt::Result {
         let (patch, merge) = (self.patch_size, self.spatial_merge_size);
-        write!(to, "patch {patch} merge {merge} image {}", self.image_size)
+        let (image, rule) = (self.image_size, self.resize_rule);
+        write!(to, "patch {patch} merge {merge} image {image} rule {rule}")
     }
 }
 
@@ -352,7 +379,7 @@ impl fmt::Display for Fill {
     }
 }
 
-/// A picture that preprocess accepts, and the Rust's answers.
+/// A picture that preprocess accepts, and the answers by the Rust.
 struct Picture {
     of: (Settings, Sides, Fill),
     rgb: Vec<u8>,
@@ -361,6 +388,7 @@ struct Picture {
     resized: Vec<u8>,
 }
 
+/// The Rust's own preprocess, which is that of rule 1.
 fn preprocess_in_rust(s: Settings, rgb: &[u8], [height, width]: Sides) -> (Vec<f32>, usize, usize) {
     let config = rust::PixtralVisionConfig {
         patch_size: s.patch_size,
@@ -373,10 +401,18 @@ fn preprocess_in_rust(s: Settings, rgb: &[u8], [height, width]: Sides) -> (Vec<f
 
 fn picture(s: Settings, sides: Sides, fill: Fill) -> Picture {
     let rgb = fill.bytes(sides[0] * sides[1] * 3, sides);
-    let (patches, grid_h, grid_w) = preprocess_in_rust(s, &rgb, sides);
     let [height, width] = s.resized(sides);
     let mut resized = vec![0; height * width * 3];
     rust::bilinear_resize_rgb(&rgb, sides[0], sides[1], &mut resized, height, width);
+    // Sides that are multiples of the align and not above the image size are resized to themselves.
+    let (patches, grid_h, grid_w) = match s.resize_rule {
+        1 => preprocess_in_rust(s, &rgb, sides),
+        _ => preprocess_in_rust(s, &resized, [height, width]),
+    };
+    assert!(
+        [grid_h, grid_w] == s.grid(sides),
+        "the Rust gives another grid than the paper: {s}, {sides:?}"
+    );
     Picture {
         of: (s, sides, fill),
         rgb,
@@ -600,7 +636,10 @@ impl Comparison {
         let pairs = pairs.chunks_exact(2);
         let text = |name| Some(pairs.clone().find(|pair| pair[0] == name)?[1]);
         let number = |name| text(name)?.parse::<usize>().ok();
-        let settings = || Some(of(number("patch")?, number("merge")?, number("image")?));
+        let settings = || {
+            let s = of(number("patch")?, number("merge")?, number("image")?);
+            Some(s.rule(number("rule")?))
+        };
         let sides = || Some([number("height")?, number("width")?]);
         let rgb = || Fill::of(text("rgb")?);
         match *kind {
@@ -712,10 +751,12 @@ impl Comparison {
             [1540, 1541],
             [1540, 1540],
         ] {
-            let fill = self.random.fill();
-            self.there_and_back(USUAL, sides, fill);
+            for s in under_both(&[USUAL]) {
+                let fill = self.random.fill();
+                self.there_and_back(s, sides, fill);
+            }
         }
-        for s in [USUAL, of(32, 4, 2048), of(1, 1, 1), of(3, 4, 61)] {
+        for s in under_both(&[USUAL, of(32, 4, 2048), of(1, 1, 1), of(3, 4, 61)]) {
             for sides in [[1, 8192], [8192, 1], [2, 8191], [8191, 3]] {
                 let fill = self.random.fill();
                 self.there_and_back(s, sides, fill);
@@ -723,7 +764,24 @@ impl Comparison {
         }
         let fill = self.random.fill();
         self.there_and_back(of(32, 4, 2048), [8192, 8192], fill);
-        self.there_and_back(of(31, 3, 2047), [2048, 2047], Fill::Checks);
+        // 4099 × 2048 / 8192 is 1024.75.
+        let fill = self.random.fill();
+        self.there_and_back(of(32, 4, 2048).rule(2), [8192, 4099], fill);
+        for s in under_both(&[of(31, 3, 2047)]) {
+            self.there_and_back(s, [2048, 2047], Fill::Checks);
+        }
+        // Rule 2's settled grids, upright and lying.
+        for (s, sides, grid) in [
+            (USUAL.rule(2), [3080, 1540], [110, 56]),
+            (USUAL.rule(2), [1540, 3080], [56, 110]),
+            (of(1, 1, 2).rule(2), [8192, 1], [2, 1]),
+            (of(1, 1, 2).rule(2), [1, 8192], [1, 2]),
+        ] {
+            let found = differ(["grid_h", "grid_w"], s.grid(sides), grid);
+            self.note(found, || format!("settled {s} sides {sides:?}"));
+            let fill = self.random.fill();
+            self.there_and_back(s, sides, fill);
+        }
     }
 
     /// Every kind of side, below, at and above the align and the image size, with every fill.
@@ -753,17 +811,44 @@ impl Comparison {
         for s in settings {
             let (a, n) = (s.align(), s.image_size);
             let mut list = vec![1, a - 1, a, a + 1, 2 * a, n - 1, n, n + 1];
-            list.extend([2, 3, 5, 13, 31, 61, 127, 251]);
-            for [height, width] in pairs(list) {
-                let sides = [height, width];
-                if !sides.contains(&0) && usize::max(height * width * 3, s.size(sides)) <= SMALL {
-                    let fill = match self.random.below(8) {
-                        k if k < FILLS.len() => FILLS[k].1,
-                        _ => self.random.fill(),
-                    };
-                    self.there_and_back(s, sides, fill);
-                }
+            for sides in pairs(list.clone()) {
+                self.small_picture(s.rule(2), sides);
             }
+            self.long_pictures(s.rule(2));
+            list.extend([2, 3, 5, 13, 31, 61, 127, 251]);
+            for sides in pairs(list) {
+                self.small_picture(s, sides);
+            }
+        }
+    }
+
+    /// The longer side around multiples of the image size, and 8192; the other at and beside the first
+    /// that is scaled to 1, and to 1 more than a multiple of the align.
+    fn long_pictures(&mut self, s: Settings) {
+        let (a, n) = (s.align(), s.image_size);
+        for longer in [n + 1, 2 * n - 1, 2 * n, 2 * n + 1, 3 * n, 8192] {
+            let mut list = vec![1, longer / 2, longer - 1, longer];
+            for most in [0, a, 2 * a, n / a * a] {
+                let above = ((most + 1) * longer).div_ceil(n);
+                list.extend([above - 1, above]);
+            }
+            list.sort();
+            list.dedup();
+            for side in list.into_iter().filter(|side| *side <= longer) {
+                self.small_picture(s, [longer, side]);
+                self.small_picture(s, [side, longer]);
+            }
+        }
+    }
+
+    /// One whose buffers are not long, with any fill.
+    fn small_picture(&mut self, s: Settings, sides: Sides) {
+        if !sides.contains(&0) && usize::max(sides[0] * sides[1] * 3, s.size(sides)) <= SMALL {
+            let fill = match self.random.below(8) {
+                k if k < FILLS.len() => FILLS[k].1,
+                _ => self.random.fill(),
+            };
+            self.there_and_back(s, sides, fill);
         }
     }
 
@@ -780,14 +865,15 @@ impl Comparison {
                 _ => image / a * a + random.below(3),
             };
             let sides = [side(random), side(random)];
-            let fill = random.fill();
-            self.there_and_back(of(patch, merge, image), sides, fill);
+            let (rule, fill) = (random.pick(&RULES), random.fill());
+            self.there_and_back(of(patch, merge, image).rule(rule), sides, fill);
         }
     }
 
     /// Preprocess at and past each limit, and where products come round to small numbers.
     fn refused_pictures(&mut self) {
-        for s in [USUAL, of(1, 1, 1), of(32, 4, 2048), of(32, 4, 128)] {
+        let settings = [USUAL, of(1, 1, 1), of(32, 4, 2048), of(32, 4, 128)];
+        for s in under_both(&settings) {
             for sides in [[1, 1], [3, 5], [28, 29]] {
                 let (rgb, n) = (sides[0] * sides[1] * 3, s.size(sides));
                 for rgb in [0, 1, rgb - 1, rgb, rgb + 1, 2 * rgb] {
@@ -798,7 +884,7 @@ impl Comparison {
             }
         }
         for image in 1..=200 {
-            for s in [of(14, 2, image), of(32, 4, image)] {
+            for s in under_both(&[of(14, 2, image), of(32, 4, image)]) {
                 self.preprocess(s, [3, 2], Fill::Ramp, 18, 200 * 200 * 3);
             }
         }
@@ -818,8 +904,10 @@ impl Comparison {
         for sides in pairs(list) {
             let product = sides[0].wrapping_mul(sides[1]).wrapping_mul(3);
             for rgb in [0, 3, product] {
-                if rgb <= SMALL {
-                    self.preprocess(of(14, 2, 28), sides, Fill::Ramp, rgb, 3000);
+                for s in under_both(&[of(14, 2, 28)]) {
+                    if rgb <= SMALL {
+                        self.preprocess(s, sides, Fill::Ramp, rgb, 3000);
+                    }
                 }
             }
         }
@@ -840,7 +928,18 @@ impl Comparison {
                     for sides in pairs(list.clone()) {
                         let rgb = self.random.pick(&[0, 0, 3, 6, 12]);
                         let out = self.random.pick(&[0, 1, 3, 12, 49152]);
-                        self.preprocess(of(patch, merge, image), sides, Fill::Ramp, rgb, out);
+                        let s = of(patch, merge, image).rule(self.random.pick(&RULES));
+                        self.preprocess(s, sides, Fill::Ramp, rgb, out);
+                    }
+                }
+            }
+        }
+        // What is no rule, alone and where 1, 2, 3, 4 and 5 have other reasons too.
+        for s in [USUAL, of(0, 2, 1540), of(33, 5, 2049), of(14, 2, 27)] {
+            for rule in NO_RULES {
+                for sides in [[3, 5], [0, 5], [3, 8193]] {
+                    for (rgb, out) in [(45, 2352), (44, 2352), (45, 2351), (0, 0)] {
+                        self.preprocess(s.rule(rule), sides, Fill::Ramp, rgb, out);
                     }
                 }
             }
@@ -864,7 +963,7 @@ impl Comparison {
             of(32, 1, 64),
             of(16, 4, 2048),
         ];
-        for s in settings {
+        for s in under_both(&settings) {
             let (m, most) = (s.spatial_merge_size, s.most());
             let mut list = vec![
                 0,
@@ -902,7 +1001,21 @@ impl Comparison {
                         let floats = self.random.pick(&[0, 3, 12, 48]);
                         let out = self.random.pick(&[0, 2, 3, 12, 48]);
                         let source = Source::Samples(Fill::Ramp);
-                        self.restore(of(patch, merge, image), grid, source, floats, out, &[]);
+                        let s = of(patch, merge, image).rule(self.random.pick(&RULES));
+                        self.restore(s, grid, source, floats, out, &[]);
+                    }
+                }
+            }
+        }
+        // What is no rule, alone and where 1, 6, 7, 5 and 8 have other reasons too.
+        for s in [of(1, 1, 2), of(0, 1, 2), of(33, 5, 2049), of(1, 2, 1)] {
+            for rule in NO_RULES {
+                for grid in [[1, 2], [0, 1], [3, 1]] {
+                    for (floats, out) in [(6, 6), (5, 6), (6, 5), (1, 0)] {
+                        for set in [&[][..], &[(0, 0x7FC0_0000)]] {
+                            let source = Source::Samples(Fill::Ramp);
+                            self.restore(s.rule(rule), grid, source, floats, out, set);
+                        }
                     }
                 }
             }
@@ -916,6 +1029,7 @@ impl Comparison {
             (of(1, 2, 3), [2, 3]),
             (of(14, 2, 28), [5, 9]),
             (of(5, 1, 23), [30, 7]),
+            (of(5, 1, 23).rule(2), [7, 30]),
             (of(32, 1, 64), [40, 64]),
         ] {
             let fill = self.random.fill();
@@ -976,7 +1090,11 @@ impl Comparison {
             let patch = random.pick(&[1, 1, 2, 2, 3, 4, 0, 33]);
             let merge = random.pick(&[1, 1, 2, 2, 3, 4, 0, 5]);
             let image = random.pick(&[1, 3, 4, 6, 8, 9, 12, 16, 0, 2049]);
-            let s = of(patch, merge, image);
+            let rule = match random.below(16) {
+                0 => random.pick(&NO_RULES),
+                _ => random.pick(&RULES),
+            };
+            let s = of(patch, merge, image).rule(rule);
             let near = |random: &mut Random, n: usize| match random.below(3) {
                 0 => (n.min(1000) + random.below(3)).saturating_sub(1),
                 _ => n.min(1000),
@@ -1039,6 +1157,12 @@ impl Comparison {
             }
         }
     }
+}
+
+/// Each with rule 1 and with rule 2.
+fn under_both(settings: &[Settings]) -> Vec<Settings> {
+    let both = |s: &Settings| RULES.map(|rule| s.rule(rule));
+    settings.iter().flat_map(both).collect()
 }
 
 /// Every pair of two members of the list.
@@ -1225,7 +1349,7 @@ impl Asked {
         list.extend([self.grid[0], self.grid[1], self.floats, self.bytes]);
         list.extend([self.damage, self.place]);
         list.extend(back);
-        list.push(bytes_hash as usize);
+        list.extend([bytes_hash as usize, s.resize_rule]);
         sample::line(&list)
     }
 }
@@ -1263,12 +1387,17 @@ fn sample_pictures(random: &mut Random, list: &mut Vec<Asked>) {
     }
 }
 
+/// A record that both calls accept, to be changed.
+fn accepted(random: &mut Random, rule: usize) -> Asked {
+    let s = random.pick(&[of(14, 2, 56), of(3, 2, 20), of(2, 1, 9), of(16, 4, 64)]);
+    let sides = [1 + random.below(30), 1 + random.below(30)];
+    asked(s.rule(rule), sides, random.next() as u32)
+}
+
 /// Each number of either call in several ways, each damage, and refusals that meet.
 fn sample_refusals(random: &mut Random, list: &mut Vec<Asked>) {
     let mut from = |change: &dyn Fn(&mut Asked)| {
-        let s = random.pick(&[of(14, 2, 56), of(3, 2, 20), of(2, 1, 9), of(16, 4, 64)]);
-        let sides = [1 + random.below(30), 1 + random.below(30)];
-        let mut a = asked(s, sides, random.next() as u32);
+        let mut a = accepted(random, 1);
         change(&mut a);
         list.push(a);
     };
@@ -1322,11 +1451,58 @@ fn sample_refusals(random: &mut Random, list: &mut Vec<Asked>) {
     from(&|a| (a.bytes, a.damage) = (a.bytes - 1, 2));
 }
 
+/// Rule 2, with the longer side at the image size and above, at and beside the sides that it scales to
+/// a whole number; each number of either call under it; and what is no rule.
+fn sample_rules(random: &mut Random, list: &mut Vec<Asked>) {
+    for (s, sides) in [
+        (of(1, 1, 1), [64, 1]),
+        (of(1, 1, 2), [64, 1]),
+        (of(1, 1, 2), [1, 64]),
+        (of(1, 1, 20), [20, 7]),
+        (of(1, 1, 20), [21, 7]),
+        (of(1, 1, 20), [7, 21]),
+        (of(1, 1, 20), [40, 39]),
+        (of(1, 1, 20), [20, 41]),
+        (of(1, 2, 20), [39, 21]),
+        (of(2, 3, 13), [64, 27]),
+        (of(3, 2, 20), [1, 61]),
+        (of(4, 4, 64), [64, 1]),
+        (of(5, 3, 50), [61, 64]),
+        (of(7, 2, 60), [64, 64]),
+        (of(14, 2, 28), [17, 64]),
+        (of(14, 2, 56), [64, 33]),
+        (of(14, 2, 56), [34, 64]),
+    ] {
+        let mut a = asked(s.rule(2), sides, random.next() as u32);
+        a.out += random.pick(&[0, 0, 1, 40]);
+        a.bytes += random.pick(&[0, 0, 1, 40]);
+        list.push(a);
+    }
+    let mut from = |change: &dyn Fn(&mut Asked)| {
+        let mut a = accepted(random, 2);
+        change(&mut a);
+        list.push(a);
+    };
+    from(&|a| a.sides[0] = 0);
+    from(&|a| a.rgb += 1);
+    from(&|a| a.s.image_size = a.s.align() - 1);
+    from(&|a| a.out -= 1);
+    from(&|a| a.grid[0] = a.s.most() + 1);
+    from(&|a| a.floats -= 1);
+    from(&|a| a.bytes -= 1);
+    from(&|a| (a.damage, a.place) = (1, a.floats / 2));
+    for rule in [0, 3, MAX] {
+        from(&|a| a.s.resize_rule = rule);
+    }
+    from(&|a| (a.s.resize_rule, a.sides[0], a.rgb, a.grid[0]) = (0, 0, 1, 0));
+}
+
 fn sample() -> std::io::Result<()> {
     let mut random = Random(SEED);
     let mut list = Vec::new();
     sample_pictures(&mut random, &mut list);
     sample_refusals(&mut random, &mut list);
+    sample_rules(&mut random, &mut list);
     let bytes = bytes_by_bits();
     let mut out = std::io::stdout().lock();
     list.iter()

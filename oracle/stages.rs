@@ -71,6 +71,7 @@ fn calm(r: &mut Random) -> Call {
         patch_size: 1,
         spatial_merge_size: 1,
         image_size: 5,
+        resize_rule: 1,
         hidden_size: 4,
         num_heads: 1,
         head_dim: 4,

@@ -25,16 +25,31 @@ pub struct Picture {
 
 /// The patches of a picture: `height` × `width` pixels of three bytes, by row.
 ///
-/// Each side is rounded up to a multiple of patch × merge, cut to the image size and rounded down again, and the
-/// picture is resized to these sides. Patches run by row; a patch has its samples by channel, row and column.
-/// Refused with the first of 1, 2, 3, 4, 5.
+/// The picture is resized first, once, to sides that the resize rule gives. Rule 1, the Rust's, takes each side by
+/// itself: rounded up to a multiple of patch × merge, cut to the image size and rounded down again, so that a long
+/// picture is squashed. Rule 2 keeps its shape: with S the image size and m the longer side, where m is above S each
+/// side becomes max(1, ⌊side × S / m⌋) before the same rounding. Where no side is above the image size, both rules give
+/// the same patches.
+///
+/// Patches run by row; a patch has its samples by channel, row and column. Refused with the first of 1, 2, 3, 4, 5.
 ///
 /// ```
 /// # fn main() -> Result<(), kyzgultam::Refusal> {
-/// let settings = kyzgultam::PictureSettings::default();
+/// use kyzgultam::{pixtral_preprocess, PictureSettings};
+///
+/// let settings = PictureSettings::default();
 /// let mut out = vec![0.0; settings.patches_len(28, 56)?];
-/// let patches = kyzgultam::pixtral_preprocess(&[7; 28 * 56 * 3], 28, 56, &settings, &mut out)?;
+/// let patches = pixtral_preprocess(&[7; 28 * 56 * 3], 28, 56, &settings, &mut out)?;
 /// assert_eq!((patches.grid_h, patches.grid_w, patches.floats), (2, 4, 4704));
+///
+/// // A panoramic sweep: 112 × 448, for an image size of 224.
+/// let sweep = vec![7; 112 * 448 * 3];
+/// for (resize_rule, grid) in [(1, (8, 16)), (2, (4, 16))] {
+///     let settings = PictureSettings { resize_rule, ..PictureSettings::new(14, 2, 224) };
+///     let mut out = vec![0.0; settings.patches_len(112, 448)?];
+///     let patches = pixtral_preprocess(&sweep, 112, 448, &settings, &mut out)?;
+///     assert_eq!((patches.grid_h, patches.grid_w), grid);
+/// }
 /// # Ok(())
 /// # }
 /// ```
@@ -53,7 +68,7 @@ pub fn pixtral_preprocess(
 }
 
 /// The resized picture that gave the patches; the picture itself where both its sides are multiples of patch × merge
-/// and neither is above the image size.
+/// and neither is above the image size. It is the same by both resize rules: the grid says its sides.
 ///
 /// Refused with the first of 1, 6, 7, 5, 8: with 8 exactly where no picture gives these patches.
 ///
@@ -157,7 +172,7 @@ pub fn forward(
 /// # fn main() -> Result<(), kyzgultam::Refusal> {
 /// # use kyzgultam::{EncoderSettings, PictureSettings};
 /// # let settings = EncoderSettings {
-/// #     picture: PictureSettings { patch_size: 2, spatial_merge_size: 1, image_size: 8 },
+/// #     picture: PictureSettings::new(2, 1, 8),
 /// #     hidden_size: 4, num_heads: 1, head_dim: 4, num_layers: 0, intermediate_size: 1,
 /// #     text_hidden_size: 3, scaling: 0.5,
 /// # };

@@ -12,7 +12,7 @@
 //!
 //! # fn main() -> Result<(), kyzgultam::Refusal> {
 //! // A picture of 30 rows and 50 columns, to patches.
-//! let picture = PictureSettings { patch_size: 14, spatial_merge_size: 2, image_size: 112 };
+//! let picture = PictureSettings::new(14, 2, 112);
 //! let rgb = vec![200u8; 30 * 50 * 3];
 //! let mut patches = vec![0.0; picture.patches_len(30, 50)?];
 //! let grid = pixtral_preprocess(&rgb, 30, 50, &picture, &mut patches)?;

@@ -1,6 +1,6 @@
 use crate::{face, Refusal};
 
-/// How a picture is cut. The default is a Pixtral's: 14, 2 and 1540.
+/// How a picture is resized and cut. The default is a Pixtral's: 14, 2 and 1540, with resize rule 1, the Rust's.
 #[repr(C)]
 #[derive(Clone, Copy, Debug, PartialEq, Eq, Hash)]
 pub struct PictureSettings {
@@ -10,13 +10,16 @@ pub struct PictureSettings {
     pub spatial_merge_size: usize,
     /// 1..2048.
     pub image_size: usize,
+    /// 1 or 2: 1 cuts each side by itself, 2 keeps the shape of a long picture.
+    /// [`pixtral_preprocess`](crate::pixtral_preprocess) says how.
+    pub resize_rule: usize,
 }
 
 /// The sizes of an encoder. The default is the one that the Rust takes where a config says nothing.
 #[repr(C)]
 #[derive(Clone, Copy, Debug, PartialEq)]
 pub struct EncoderSettings {
-    /// How a picture is cut.
+    /// How a picture is resized and cut.
     pub picture: PictureSettings,
     /// 4..2048, and `num_heads` × `head_dim`.
     pub hidden_size: usize,
@@ -51,7 +54,7 @@ pub struct Lengths {
 
 impl Default for PictureSettings {
     fn default() -> Self {
-        PictureSettings { patch_size: 14, spatial_merge_size: 2, image_size: 1540 }
+        PictureSettings::new(14, 2, 1540)
     }
 }
 
@@ -71,6 +74,19 @@ impl Default for EncoderSettings {
 }
 
 impl PictureSettings {
+    /// The settings of the common call, with resize rule 1.
+    ///
+    /// ```
+    /// use kyzgultam::PictureSettings;
+    ///
+    /// assert_eq!(PictureSettings::new(14, 2, 1540), PictureSettings::default());
+    /// let panoramic = PictureSettings { resize_rule: 2, ..PictureSettings::new(14, 2, 1540) };
+    /// assert_eq!(panoramic.grid(3080, 1540), Ok((110, 56)));
+    /// ```
+    pub const fn new(patch_size: usize, spatial_merge_size: usize, image_size: usize) -> Self {
+        PictureSettings { patch_size, spatial_merge_size, image_size, resize_rule: 1 }
+    }
+
     /// The grid that a picture of these sides gives: `grid_h` and `grid_w`. Refused with 1, 2 or 4.
     ///
     /// ```
@@ -80,7 +96,8 @@ impl PictureSettings {
     pub fn grid(&self, height: usize, width: usize) -> Result<(usize, usize), Refusal> {
         let allowed = (1..=32).contains(&self.patch_size)
             && (1..=4).contains(&self.spatial_merge_size)
-            && (1..=2048).contains(&self.image_size);
+            && (1..=2048).contains(&self.image_size)
+            && (1..=2).contains(&self.resize_rule);
         if !allowed {
             return Err(Refusal::Setting);
         }
@@ -92,7 +109,10 @@ impl PictureSettings {
         if self.image_size < align {
             return Err(Refusal::ImageSize);
         }
+        let longer = height.max(width);
+        let scaled = self.resize_rule == 2 && longer > self.image_size;
         let patches = |side: usize| {
+            let side = if scaled { (side * self.image_size / longer).max(1) } else { side };
             let cut = side.next_multiple_of(align).min(self.image_size);
             cut / align * self.spatial_merge_size
         };

@@ -4,12 +4,18 @@ mod common;
 
 use common::{same, Random};
 use kyzgultam::{
-    bf16, exp, half_to_f32, patch, pixtral_preprocess, restore, root, tanh, Patches, Picture, PictureSettings, Refusal,
+    bf16, exp, forward, half_to_f32, patch, pixtral_preprocess, restore, root, tanh, EncoderSettings, Patches, Picture,
+    PictureSettings, Refusal,
 };
+
+fn by_rule(resize_rule: usize, settings: PictureSettings) -> PictureSettings {
+    PictureSettings { resize_rule, ..settings }
+}
 
 #[test]
 fn settled_examples() {
-    let s = |patch_size, spatial_merge_size, image_size| PictureSettings { patch_size, spatial_merge_size, image_size };
+    let s = PictureSettings::new;
+    let long = |patch, merge, image| by_rule(2, s(patch, merge, image));
     let grids = [
         (s(14, 2, 1540), (1, 1), Ok((2, 2))),
         (s(14, 2, 1540), (29, 28), Ok((4, 2))),
@@ -20,6 +26,16 @@ fn settled_examples() {
         (s(14, 2, 28), (200, 200), Ok((2, 2))),
         (s(14, 2, 1540), (0, 1), Err(Refusal::Side)),
         (s(14, 2, 1540), (1, 8193), Err(Refusal::Side)),
+        (s(14, 2, 1540), (3080, 1540), Ok((110, 110))),
+        (long(14, 2, 1540), (3080, 1540), Ok((110, 56))),
+        (long(14, 2, 1540), (1540, 3080), Ok((56, 110))),
+        (long(14, 2, 1540), (1540, 1541), Ok((110, 110))),
+        (s(14, 2, 100), (200, 100), Ok((6, 6))),
+        (long(14, 2, 100), (200, 100), Ok((6, 4))),
+        (long(1, 1, 2), (8192, 1), Ok((2, 1))),
+        (long(1, 1, 2), (1, 8192), Ok((1, 2))),
+        (long(14, 2, 27), (200, 200), Err(Refusal::ImageSize)),
+        (long(14, 2, 1540), (8193, 1), Err(Refusal::Side)),
     ];
     for (settings, (height, width), grid) in grids {
         assert_eq!(settings.grid(height, width), grid);
@@ -84,6 +100,92 @@ fn patches_len_agrees_and_restore_undoes() {
         assert!(same(&again, &exact));
     }
     assert!(accepted > 500 && refused > 100, "{accepted} {refused}");
+}
+
+/// The sides that a picture is resized to, as the definition of the resize rules reads.
+fn sides(s: &PictureSettings, height: usize, width: usize) -> (usize, usize) {
+    let (align, m) = (s.patch_size * s.spatial_merge_size, height.max(width));
+    let side = |side: usize| {
+        let replaced = if s.resize_rule == 2 && m > s.image_size { 1.max(side * s.image_size / m) } else { side };
+        let up = (replaced..).find(|x| x % align == 0).unwrap();
+        (1..=up.min(s.image_size)).rev().find(|x| x % align == 0).unwrap()
+    };
+    (side(height), side(width))
+}
+
+/// The Rust's resize.
+fn resize(rgb: &[u8], (height, width): (usize, usize), (to_height, to_width): (usize, usize)) -> Vec<u8> {
+    let near = |i: usize, source: usize, target: usize| {
+        let place = i as f64 * (source as f64 / target as f64);
+        let first = (place.floor() as usize).min(source - 1);
+        (first, (first + 1).min(source - 1), place - first as f64)
+    };
+    let value = |k: usize| {
+        let (y0, y1, v) = near(k / 3 / to_width, height, to_height);
+        let (x0, x1, u) = near(k / 3 % to_width, width, to_width);
+        let at = |y: usize, x: usize| f64::from(rgb[(y * width + x) * 3 + k % 3]);
+        let upper = at(y0, x0) * (1.0 - u) * (1.0 - v) + at(y0, x1) * u * (1.0 - v);
+        (upper + at(y1, x0) * (1.0 - u) * v + at(y1, x1) * u * v).round().clamp(0.0, 255.0) as u8
+    };
+    (0..to_height * to_width * 3).map(value).collect()
+}
+
+/// The patches of a picture, their grid, and what they bring back.
+fn there_and_back(s: &PictureSettings, rgb: &[u8], height: usize, width: usize) -> (Patches, Vec<f32>, Vec<u8>) {
+    let mut patches = vec![0.0; s.patches_len(height, width).unwrap()];
+    let made = pixtral_preprocess(rgb, height, width, s, &mut patches).unwrap();
+    let mut back = vec![0; patches.len()];
+    restore(&patches, made.grid_h, made.grid_w, s, &mut back).unwrap();
+    (made, patches, back)
+}
+
+#[test]
+fn a_picture_is_resized_by_its_rule() {
+    let mut random = Random(20_260_701);
+    let (mut whole, mut squashed) = (0, 0);
+    for _ in 0..1500 {
+        let settings = random.picture();
+        if settings.image_size < settings.patch_size * settings.spatial_merge_size {
+            continue;
+        }
+        let (height, width) = (random.from(1, 200), random.from(1, 60));
+        let rgb = random.bytes(height * width * 3);
+        let [(one, first), (two, second)] = [1, 2].map(|rule| {
+            let settings = by_rule(rule, settings);
+            let (to_height, to_width) = sides(&settings, height, width);
+            let (made, patches, back) = there_and_back(&settings, &rgb, height, width);
+            assert_eq!((made.grid_h * settings.patch_size, made.grid_w * settings.patch_size), (to_height, to_width));
+            assert_eq!(back, resize(&rgb, (height, width), (to_height, to_width)), "{settings:?} {height} {width}");
+            // The grid says what restore needs of a rule.
+            let mut other = vec![0; back.len()];
+            restore(&patches, made.grid_h, made.grid_w, &by_rule(3 - rule, settings), &mut other).unwrap();
+            assert_eq!(other, back);
+            (made, patches)
+        });
+        if height.max(width) <= settings.image_size {
+            assert!(one == two && same(&first, &second), "{settings:?} {height} {width}");
+            whole += 1;
+        } else {
+            squashed += usize::from(one != two);
+        }
+    }
+    assert!(whole > 100 && squashed > 100, "{whole} {squashed}");
+}
+
+#[test]
+fn forward_has_the_same_bits_by_both_rules() {
+    let mut random = Random(20_260_702);
+    let mut settings = EncoderSettings { picture: PictureSettings::new(2, 2, 16), ..random.encoder() };
+    let n = settings.lengths(4, 6).unwrap();
+    let [patches, weights, cos, sin] = [n.patches, n.weights, n.tables, n.tables].map(|len| random.floats(len, 0.5));
+    let [one, two] = [1, 2].map(|rule| {
+        settings.picture.resize_rule = rule;
+        let (mut scratch, mut out) = (vec![0.0; n.scratch], vec![0.0; n.out]);
+        forward(&settings, &patches, 4, 6, &weights, &cos, &sin, &mut scratch, &mut out).unwrap();
+        assert_eq!(settings.lengths(4, 6), Ok(n));
+        out
+    });
+    assert!(same(&one, &two) && one.iter().any(|x| *x != 0.0));
 }
 
 #[test]

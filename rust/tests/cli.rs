@@ -4,7 +4,7 @@ mod common;
 
 use common::tool::{npy, p6, plain, sweep, Folder, LIST, TABLE, TINY, WEIGHTS};
 use common::Random;
-use kyzgultam::{pixtral_preprocess, restore};
+use kyzgultam::{pixtral_preprocess, restore, PictureSettings};
 use std::fs;
 use std::path::Path;
 
@@ -19,6 +19,7 @@ fn help_fits_a_screen() {
         assert!(text.starts_with("kz"), "{words}");
         assert!(text.lines().count() <= 24, "{words}");
         assert!(text.lines().all(|l| l.chars().count() < 80), "{words}");
+        assert!(text.contains("rule") || words.starts_with("bench"), "{words}");
     }
 }
 
@@ -46,6 +47,10 @@ fn usage() {
         ("encode a.ppm -o out --settings patch=x", "--settings: patch=x"),
         ("encode a.ppm -o out --settings patch=-1", "--settings: patch=-1"),
         ("encode a.ppm -o out --settings patch=99999999999999999999", "--settings: patch=9"),
+        ("encode a.ppm -o out --settings rule", "--settings: rule: a list"),
+        ("patches a.ppm -o out --settings rule=", "--settings: rule=: a list"),
+        ("compare a.ppm a.ppm --settings rule=two", "--settings: rule=two: a list"),
+        ("restore a.patches -o out.ppm --settings rules=2", "keys: patch merge image rule hidden"),
         ("encode a.ppm -o out --settings colour=1", "--settings: colour=1"),
         ("encode a.ppm -o out --settings scale=wide", "--settings: scale=wide"),
         ("encode a.ppm b/a.ppm -o out", "same file"),
@@ -85,7 +90,8 @@ fn patches_and_back() {
 
         let file = format!("out/{name}.patches.npy");
         let said = folder.done(&format!("patches {name}.ppm -o out {LIST}"));
-        assert_eq!(said, format!("{file}: {}x{} patches of 12 floats\n", cut.grid_h, cut.grid_w));
+        let rule = if name == "long" { "; resized by rule 1" } else { "" };
+        assert_eq!(said, format!("{file}: {}x{} patches of 12 floats{rule}\n", cut.grid_h, cut.grid_w));
         assert_eq!(folder.get(&file), npy([cut.grid_h, cut.grid_w, 12], &patches));
 
         folder.done(&format!("restore {file} -o {name}.back.ppm {LIST}"));
@@ -103,6 +109,57 @@ fn patches_and_back() {
         }
     }
     assert!(folder.names("out").is_empty());
+}
+
+#[test]
+fn a_long_sweep_is_resized_by_its_rule() {
+    let folder = Folder::new("rule");
+    let mut rgb = sweep(&folder, "a.ppm", 12, 48, 7);
+    // A pixel that both rules take: row 9, column 33, on its way to row 9 or 3, column 11.
+    rgb[(9 * 48 + 33) * 3] ^= 1;
+    folder.put("b.ppm", &p6(12, 48, &rgb));
+    for (resize_rule, [h, w], place) in [(1, [6, 8], [4, 5]), (2, [2, 8], [1, 5])] {
+        let settings = PictureSettings { resize_rule, ..TINY };
+        let mut patches = vec![0.0; settings.patches_len(12, 48).unwrap()];
+        pixtral_preprocess(&rgb, 12, 48, &settings, &mut patches).unwrap();
+        let mut resized = vec![0; patches.len()];
+        restore(&patches, h, w, &settings, &mut resized).unwrap();
+
+        let (list, by) = (format!("{LIST},rule={resize_rule}"), format!("; resized by rule {resize_rule}\n"));
+        let (file, count) = (format!("{resize_rule}/b.patches.npy"), h * w);
+        let said = folder.done(&format!("patches b.ppm -o {resize_rule} {list}"));
+        assert_eq!(said, format!("{file}: {h}x{w} patches of 12 floats{by}"));
+        assert_eq!(folder.get(&file), npy([h, w, 12], &patches));
+        let said = folder.done(&format!("encode b.ppm -o {resize_rule} {list}"));
+        assert_eq!(said, format!("{resize_rule}/b.tokens.npy: {}x{} tokens of 3 floats{by}", h / 2, w / 2));
+
+        // The way back needs no rule, and takes either.
+        for list in [LIST.to_string(), format!("{LIST},rule=1"), format!("{LIST},rule=2")] {
+            folder.done(&format!("restore {file} -o back.ppm --force {list}"));
+            assert_eq!(folder.get("back.ppm"), p6(2 * h, 2 * w, &resized));
+        }
+        let said = folder.done(&format!("compare b.ppm b.ppm {list}"));
+        assert_eq!(said, format!("{count} of {count} patches are equal{by}"));
+        let said = folder.done(&format!("compare a.ppm b.ppm -o map{resize_rule}.ppm {list}"));
+        let first = format!("the first that differs is at row {}, column {} (from 0)", place[0], place[1]);
+        assert!(said.starts_with(&format!("{} of {count} patches are equal; {first}{by}", count - 1)), "{said}");
+        let map = folder.get(&format!("map{resize_rule}.ppm"));
+        assert!(map.starts_with(format!("P6\n{} {}\n", 2 * w, 2 * h).as_bytes()));
+    }
+    // Without a rule it is 1. Where no side is above the image size the rules are alike, and none is named.
+    folder.done(&format!("patches b.ppm -o none {LIST}"));
+    assert_eq!(folder.get("none/b.patches.npy"), folder.get("1/b.patches.npy"));
+    sweep(&folder, "whole.ppm", 5, 16, 3);
+    for rule in [1, 2] {
+        let said = folder.done(&format!("patches whole.ppm -o {rule} {LIST},rule={rule}"));
+        assert_eq!(said, format!("{rule}/whole.patches.npy: 4x8 patches of 12 floats\n"));
+    }
+    assert_eq!(folder.get("1/whole.patches.npy"), folder.get("2/whole.patches.npy"));
+    // One grid by rule 1, and two by rule 2.
+    sweep(&folder, "square.ppm", 48, 48, 3);
+    sweep(&folder, "tall.ppm", 48, 24, 3);
+    folder.done(&format!("compare square.ppm tall.ppm {LIST}"));
+    folder.fails(1, &format!("compare square.ppm tall.ppm {LIST},rule=2"), &["square.ppm", "8x8", "tall.ppm", "8x4"]);
 }
 
 #[test]
@@ -186,6 +243,11 @@ fn refused_with_file_number_and_advice() {
     run("encode a.ppm -o out --settings image=27", &["a.ppm: ", "number 4", "image="]);
     run("bench --size 8x8 --settings image=27", &["--settings: refused, number 4"]);
     run("compare a.ppm a.ppm --settings merge=5", &["--settings: refused, number 1"]);
+    for rule in [0, 3, usize::MAX] {
+        for words in ["encode a.ppm -o out", "patches a.ppm -o out", "compare a.ppm a.ppm", "bench --size 8x8"] {
+            run(&format!("{words} {LIST},rule={rule}"), &["--settings: refused, number 1: ", "`kz encode --help`"]);
+        }
+    }
     folder.put("wide.ppm", b"P6 8193 1 255 ");
     folder.put("flat.pgm", b"P5 0 0 255 ");
     run("patches wide.ppm -o out", &["wide.ppm: ", "number 2", "1x8193"]);
@@ -199,6 +261,8 @@ fn refused_with_file_number_and_advice() {
     list("restore plain -o b.ppm --grid 4x10", &["number 6"]);
     list("restore plain -o b.ppm --grid 2x4", &["number 7", "2x4", "--grid"]);
     run("restore a.patches.npy -o b.ppm --settings patch=33", &["--settings: refused, number 1"]);
+    run(&format!("restore a.patches.npy -o b.ppm {LIST},rule=0"), &["--settings: refused, number 1"]);
+    run(&format!("restore a.patches.npy -o b.ppm {LIST},rule=3"), &["--settings: refused, number 1"]);
     folder.put("cut", &floats[..floats.len() - 4]);
     list("restore cut -o b.ppm --grid 4x4", &["cut: ", "number 7"]);
     folder.put("torn", &floats[..floats.len() - 1]);
@@ -321,6 +385,10 @@ fn bench_times_every_call() {
     for call in ["preprocess", "forward", "restore"] {
         assert!(said.contains(call), "{said}");
     }
+    for (rule, grid) in [(1, " 4x8 "), (2, " 2x8 ")] {
+        let said = folder.done(&format!("bench --size 8x48 {LIST},rule={rule}"));
+        assert!(said.contains(&format!(", image 16, rule {rule}\n")) && said.contains(grid), "{said}");
+    }
 }
 
 /// With the Rust's source, in the place of what KZ_RUST_SRC says if one is given: status, output and errors.
@@ -382,14 +450,20 @@ fn demo() {
     let folder = Folder::new("demo");
     let said = folder.done("demo -o d");
     assert!(said.contains("1728 patches: identical to resized.png"), "{said}");
-    let names = ["overview.png", "resized.png", "restored.png", "similarity.png", "sweep.png", "sweep.ppm"];
-    assert_eq!(folder.names("d"), names);
+    let names = ["overview.png", "panorama.ppm", "resized.png", "restored.png", "rules.png", "similarity.png"];
+    assert_eq!(folder.names("d"), [&names[..], &["sweep.png", "sweep.ppm"]].concat());
     assert_eq!(png_head(&folder.get("d/sweep.png")), (490, 650, 0));
     assert_eq!(png_head(&folder.get("d/resized.png")), (504, 672, 0));
     assert_eq!(folder.get("d/restored.png"), folder.get("d/resized.png"));
     assert_eq!(png_head(&folder.get("d/similarity.png")), (504, 672, 2));
     folder.fails(1, "demo -o d", &["d/sweep.png", "--force"]);
-    // Its sweep is one for the other commands.
+    // Two pictures of one width, each below a label.
+    assert!(said.contains("by rule 1 420x560, squashed; by rule 2 140x560, in its shape"), "{said}");
+    let label = 26;
+    assert_eq!(png_head(&folder.get("d/rules.png")), (label + 420 + label + 140, 560, 0));
+    // Its sweeps are some for the other commands.
     folder.done("patches d/sweep.ppm -o d");
     assert!(Path::new(&folder.path("d/sweep.patches.npy")).exists());
+    let said = folder.done("patches d/panorama.ppm -o d --settings image=560,rule=2");
+    assert!(said.ends_with(": 10x40 patches of 588 floats; resized by rule 2\n"), "{said}");
 }

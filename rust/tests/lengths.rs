@@ -12,6 +12,7 @@ fn stated(s: &EncoderSettings, grid_h: usize, grid_w: usize) -> Result<Lengths, 
     let allowed = (1..=32).contains(&p)
         && (1..=4).contains(&m)
         && (1..=2048).contains(&s.picture.image_size)
+        && [1, 2].contains(&s.picture.resize_rule)
         && (4..=2048).contains(&h)
         && (1..=64).contains(&s.num_heads)
         && (4..=256).contains(&s.head_dim)
@@ -65,9 +66,8 @@ fn any(random: &mut Random) -> EncoderSettings {
     let num_heads = random.from(1, (2048 / head_dim).min(64));
     EncoderSettings {
         picture: PictureSettings {
-            patch_size: random.from(1, 32),
-            spatial_merge_size: random.from(1, 4),
-            image_size: random.from(1, 2048),
+            resize_rule: random.from(1, 2),
+            ..PictureSettings::new(random.from(1, 32), random.from(1, 4), random.from(1, 2048))
         },
         hidden_size: num_heads * head_dim,
         num_heads,
@@ -80,10 +80,11 @@ fn any(random: &mut Random) -> EncoderSettings {
 }
 
 type Field = fn(&mut EncoderSettings) -> &mut usize;
-const FIELDS: [Field; 9] = [
+const FIELDS: [Field; 10] = [
     |s| &mut s.picture.patch_size,
     |s| &mut s.picture.spatial_merge_size,
     |s| &mut s.picture.image_size,
+    |s| &mut s.picture.resize_rule,
     |s| &mut s.hidden_size,
     |s| &mut s.num_heads,
     |s| &mut s.head_dim,
@@ -111,7 +112,7 @@ fn lengths_are_those_stated() {
             grid[random.from(0, 1)] = random.from(0, most + 2);
         }
         if i % 4 >= 2 {
-            *FIELDS[random.from(0, 8)](&mut s) = ENDS[random.from(0, ENDS.len() - 1)];
+            *FIELDS[random.from(0, FIELDS.len() - 1)](&mut s) = ENDS[random.from(0, ENDS.len() - 1)];
         }
         count(compare(&s, grid[0], grid[1]));
     }
@@ -136,7 +137,7 @@ fn lengths_are_those_stated() {
 #[test]
 fn the_largest() {
     let settings = EncoderSettings {
-        picture: PictureSettings { patch_size: 1, spatial_merge_size: 1, image_size: 2048 },
+        picture: PictureSettings::new(1, 1, 2048),
         hidden_size: 2048,
         num_heads: 8,
         head_dim: 256,

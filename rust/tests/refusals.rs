@@ -7,7 +7,7 @@ use kyzgultam::{
     forward, pixtral_preprocess, restore, EncoderSettings, Patches, PictureSettings, PixtralEncoder, Refusal,
 };
 
-const PICTURE: PictureSettings = PictureSettings { patch_size: 2, spatial_merge_size: 2, image_size: 8 };
+const PICTURE: PictureSettings = PictureSettings::new(2, 2, 8);
 
 const ENCODER: EncoderSettings = EncoderSettings {
     picture: PICTURE,
@@ -72,11 +72,16 @@ fn preprocess(c: &Preprocess) -> Result<(), Refusal> {
     found.map(drop)
 }
 
+fn good_preprocess() -> Preprocess {
+    Preprocess { settings: PICTURE, rgb: vec![9; 3 * 5 * 3], height: 3, width: 5, out: 4 * 8 * 3 + 7 }
+}
+
 #[test]
 fn preprocess_refuses() {
-    let good = Preprocess { settings: PICTURE, rgb: vec![9; 3 * 5 * 3], height: 3, width: 5, out: 4 * 8 * 3 + 7 };
+    let good = good_preprocess();
     let spoils: Spoils<Preprocess> = vec![
         (1, |c| c.settings.spatial_merge_size = 0),
+        (1, |c| c.settings.resize_rule = 0),
         (2, |c| c.width = 8193),
         (3, |c| c.rgb.push(0)),
         (4, |c| c.settings.image_size = 3),
@@ -85,7 +90,11 @@ fn preprocess_refuses() {
     each(&good, spoils, preprocess);
     for side in [0, 8193, usize::MAX] {
         for (height, width) in [(side, 5), (3, side), (side, side)] {
-            assert_eq!(preprocess(&Preprocess { height, width, ..good.clone() }), Err(Refusal::Side));
+            for resize_rule in [1, 2] {
+                let settings = PictureSettings { resize_rule, ..PICTURE };
+                assert_eq!(preprocess(&Preprocess { settings, height, width, ..good.clone() }), Err(Refusal::Side));
+                assert_eq!(settings.grid(height, width), Err(Refusal::Side));
+            }
         }
     }
     for rgb in [vec![], vec![9; 44]] {
@@ -118,12 +127,17 @@ fn patches_of(rgb: &[u8], height: usize, width: usize) -> Vec<f32> {
     patches
 }
 
+fn good_restore() -> Restore {
+    let patches = patches_of(&Random(3).bytes(4 * 8 * 3), 4, 8);
+    Restore { settings: PICTURE, patches, grid: (2, 4), out: 4 * 8 * 3 + 5 }
+}
+
 #[test]
 fn restore_refuses() {
-    let patches = patches_of(&Random(3).bytes(4 * 8 * 3), 4, 8);
-    let good = Restore { settings: PICTURE, patches, grid: (2, 4), out: 4 * 8 * 3 + 5 };
+    let good = good_restore();
     let spoils: Spoils<Restore> = vec![
         (1, |c| c.settings.patch_size = 33),
+        (1, |c| c.settings.resize_rule = 3),
         (6, |c| c.grid.1 = 6),
         (7, |c| c.patches.push(0.0)),
         (5, |c| c.out = 4 * 8 * 3 - 1),
@@ -193,6 +207,7 @@ fn forward_refuses() {
     let good = good_forward();
     let spoils: Spoils<Forward> = vec![
         (1, |c| c.settings.num_layers = 49),
+        (1, |c| c.settings.picture.resize_rule = 0),
         (6, |c| c.grid.0 = 3),
         (7, |c| c.patches.truncate(c.patches.len() - 1)),
         (9, |c| c.weights.truncate(c.weights.len() - 1)),
@@ -228,14 +243,19 @@ fn forward_refuses() {
 #[test]
 fn settings_at_their_ends() {
     type Field<S> = fn(&mut S) -> &mut usize;
-    let picture: [(Field<PictureSettings>, usize); 3] =
-        [(|s| &mut s.patch_size, 32), (|s| &mut s.spatial_merge_size, 4), (|s| &mut s.image_size, 2048)];
+    let picture: [(Field<PictureSettings>, usize); 4] = [
+        (|s| &mut s.patch_size, 32),
+        (|s| &mut s.spatial_merge_size, 4),
+        (|s| &mut s.image_size, 2048),
+        (|s| &mut s.resize_rule, 2),
+    ];
     for (field, most) in picture {
         for value in [0, most + 1, usize::MAX] {
             let mut settings = PICTURE;
             *field(&mut settings) = value;
-            assert_eq!(pixtral_preprocess(&[0; 3], 1, 1, &settings, &mut [0.0; 48]), Err(Refusal::Setting));
-            assert_eq!(restore(&[], 2, 2, &settings, &mut []), Err(Refusal::Setting));
+            assert_eq!(preprocess(&Preprocess { settings, ..good_preprocess() }), Err(Refusal::Setting));
+            assert_eq!(run_restore(&Restore { settings, ..good_restore() }), Err(Refusal::Setting));
+            assert_eq!(settings.grid(1, 1), Err(Refusal::Setting));
             assert_eq!(settings.patches_len(1, 1), Err(Refusal::Setting));
             assert_eq!(settings.restored_len(2, 2), Err(Refusal::Setting));
             let mut bad = good_forward();

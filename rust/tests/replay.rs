@@ -49,7 +49,7 @@ fn pictures() {
     let byte = |x: u32| (x >> 24) as u8;
     let mut seen = [0; 13];
     for v in records(include_str!("../../crates/picture_replay/stdin")) {
-        let settings = PictureSettings { patch_size: v[0], spatial_merge_size: v[1], image_size: v[2] };
+        let settings = PictureSettings { resize_rule: v[23], ..PictureSettings::new(v[0], v[1], v[2]) };
         let rgb: Vec<u8> = states(v[7] as u32).map(byte).take(v[5]).collect();
         let mut cells: Vec<f32> = marks().map(f32::from_bits).take(12352).collect();
         let made = pixtral_preprocess(&rgb, v[3], v[4], &settings, &mut cells[..v[6]]);
@@ -65,7 +65,7 @@ fn pictures() {
         let back = restore(&floats(&bits)[..v[15]], v[13], v[14], &settings, &mut bytes);
         let sides = back.map_or([0; 2], |p| [p.height, p.width]);
         let left = hash(&bytes.iter().map(|b| u32::from(*b)).collect::<Vec<_>>());
-        assert_eq!([number(&back), sides[0], sides[1], left as usize][..], v[19..]);
+        assert_eq!([number(&back), sides[0], sides[1], left as usize][..], v[19..23]);
         seen[number(&back)] += 1;
     }
     assert!([0, 1, 2, 3, 4, 5, 6, 7, 8].iter().all(|n| seen[*n] > 0), "{seen:?}");
@@ -78,7 +78,7 @@ fn token_vectors() {
     let mut seen = [0; 13];
     for v in records(include_str!("../../crates/encoder_replay/stdin")) {
         let settings = EncoderSettings {
-            picture: PictureSettings { patch_size: v[0], spatial_merge_size: v[1], image_size: v[2] },
+            picture: PictureSettings { resize_rule: v[25], ..PictureSettings::new(v[0], v[1], v[2]) },
             hidden_size: v[3],
             num_heads: v[4],
             head_dim: v[5],
@@ -96,7 +96,7 @@ fn token_vectors() {
         let (cos, sin) = (part(2), part(3));
         let found = forward(&settings, part(0), v[10], v[11], part(1), cos, sin, &mut scratch, &mut out);
         let answer = [number(&found), found.unwrap_or(0), hash_floats(&out) as usize, hash_floats(&scratch) as usize];
-        assert_eq!(answer[..], v[21..]);
+        assert_eq!(answer[..], v[21..25]);
         seen[number(&found)] += 1;
     }
     assert!([0, 1, 5, 6, 7, 9, 10, 11, 12].iter().all(|n| seen[*n] > 0), "{seen:?}");

@@ -17,7 +17,13 @@ static void expect(int ok, const char *what, int line) {
 
 enum { SIDE_H = 4, SIDE_W = 8, FLOATS = SIDE_H * SIDE_W * 3, TAIL = 5 };
 
-static const struct kz_picture_settings picture = {2, 2, 8};
+static const struct kz_picture_settings picture = KZ_PICTURE_SETTINGS(2, 2, 8);
+
+static struct kz_picture_settings ruled(size_t rule) {
+    struct kz_picture_settings settings = picture;
+    settings.resize_rule = rule;
+    return settings;
+}
 
 /* A NaN with bits of its own: no contract can say that they are kept, so they are looked at here. */
 static uint32_t mark(size_t i) { return UINT32_C(0x7F800001) + (uint32_t)i; }
@@ -74,16 +80,19 @@ static void preprocess(void) {
         struct kz_picture_settings settings;
         size_t rgb_len, height, width, out_len;
     } calls[] = {
-        {KZ_SETTING, {0, 2, 8}, FLOATS, SIDE_H, SIDE_W, FLOATS},
-        {KZ_SETTING, {2, 5, 8}, 0, 0, 0, 0},
-        {KZ_SETTING, {2, 2, SIZE_MAX}, FLOATS, SIDE_H, SIDE_W, FLOATS},
-        {KZ_SIDE, {2, 2, 8}, FLOATS, 0, SIDE_W, FLOATS},
-        {KZ_SIDE, {2, 2, 3}, 0, SIDE_H, 8193, 0},
-        {KZ_RGB_LENGTH, {2, 2, 8}, FLOATS - 1, SIDE_H, SIDE_W, FLOATS},
-        {KZ_RGB_LENGTH, {2, 2, 3}, 0, SIDE_H, SIDE_W, 0},
-        {KZ_IMAGE_SIZE, {2, 2, 3}, FLOATS, SIDE_H, SIDE_W, 0},
-        {KZ_OUTPUT, {2, 2, 8}, FLOATS, SIDE_H, SIDE_W, FLOATS - 1},
-        {KZ_OUTPUT, {2, 2, 8}, FLOATS, SIDE_H, SIDE_W, 0},
+        {KZ_SETTING, KZ_PICTURE_SETTINGS(0, 2, 8), FLOATS, SIDE_H, SIDE_W, FLOATS},
+        {KZ_SETTING, KZ_PICTURE_SETTINGS(2, 5, 8), 0, 0, 0, 0},
+        {KZ_SETTING, KZ_PICTURE_SETTINGS(2, 2, SIZE_MAX), FLOATS, SIDE_H, SIDE_W, FLOATS},
+        {KZ_SETTING, ruled(0), FLOATS, SIDE_H, SIDE_W, FLOATS},
+        {KZ_SETTING, ruled(3), FLOATS, SIDE_H, SIDE_W, FLOATS},
+        {KZ_SETTING, ruled(SIZE_MAX), 0, 0, 0, 0},
+        {KZ_SIDE, KZ_PICTURE_SETTINGS(2, 2, 8), FLOATS, 0, SIDE_W, FLOATS},
+        {KZ_SIDE, KZ_PICTURE_SETTINGS(2, 2, 3), 0, SIDE_H, 8193, 0},
+        {KZ_RGB_LENGTH, KZ_PICTURE_SETTINGS(2, 2, 8), FLOATS - 1, SIDE_H, SIDE_W, FLOATS},
+        {KZ_RGB_LENGTH, KZ_PICTURE_SETTINGS(2, 2, 3), 0, SIDE_H, SIDE_W, 0},
+        {KZ_IMAGE_SIZE, KZ_PICTURE_SETTINGS(2, 2, 3), FLOATS, SIDE_H, SIDE_W, 0},
+        {KZ_OUTPUT, KZ_PICTURE_SETTINGS(2, 2, 8), FLOATS, SIDE_H, SIDE_W, FLOATS - 1},
+        {KZ_OUTPUT, KZ_PICTURE_SETTINGS(2, 2, 8), FLOATS, SIDE_H, SIDE_W, 0},
     };
     for (size_t i = 0; i < sizeof calls / sizeof *calls; i++) {
         mark_all(out, FLOATS + TAIL);
@@ -111,13 +120,16 @@ static void restore(void) {
         size_t patches_len, grid_h, grid_w, out_len;
         float damage; /* added to sample 7 */
     } calls[] = {
-        {KZ_SETTING, {33, 2, 8}, FLOATS, 2, 4, FLOATS, 0},
-        {KZ_GRID, {2, 2, 8}, FLOATS, 2, 6, FLOATS, 0},
-        {KZ_GRID, {2, 2, 8}, 0, 3, 4, 0, 0},
-        {KZ_GRID, {2, 2, 8}, 0, SIZE_MAX - 1, SIZE_MAX - 1, 0, 0},
-        {KZ_PATCHES_LENGTH, {2, 2, 8}, FLOATS - 1, 2, 4, 0, 0},
-        {KZ_OUTPUT, {2, 2, 8}, FLOATS, 2, 4, FLOATS - 1, 1},
-        {KZ_SAMPLE, {2, 2, 8}, FLOATS, 2, 4, FLOATS, 1},
+        {KZ_SETTING, KZ_PICTURE_SETTINGS(33, 2, 8), FLOATS, 2, 4, FLOATS, 0},
+        {KZ_SETTING, ruled(0), FLOATS, 2, 4, FLOATS, 0},
+        {KZ_SETTING, ruled(3), FLOATS, 2, 4, FLOATS, 0},
+        {KZ_SETTING, ruled(SIZE_MAX), 0, 0, 0, 0, 0},
+        {KZ_GRID, KZ_PICTURE_SETTINGS(2, 2, 8), FLOATS, 2, 6, FLOATS, 0},
+        {KZ_GRID, KZ_PICTURE_SETTINGS(2, 2, 8), 0, 3, 4, 0, 0},
+        {KZ_GRID, KZ_PICTURE_SETTINGS(2, 2, 8), 0, SIZE_MAX - 1, SIZE_MAX - 1, 0, 0},
+        {KZ_PATCHES_LENGTH, KZ_PICTURE_SETTINGS(2, 2, 8), FLOATS - 1, 2, 4, 0, 0},
+        {KZ_OUTPUT, KZ_PICTURE_SETTINGS(2, 2, 8), FLOATS, 2, 4, FLOATS - 1, 1},
+        {KZ_SAMPLE, KZ_PICTURE_SETTINGS(2, 2, 8), FLOATS, 2, 4, FLOATS, 1},
     };
     for (size_t i = 0; i < sizeof calls / sizeof *calls; i++) {
         float damaged[FLOATS];
@@ -129,6 +141,39 @@ static void restore(void) {
         EXPECT(r.number == calls[i].number && r.height == 0 && r.width == 0);
         EXPECT(memcmp(out, before, sizeof out) == 0);
     }
+}
+
+/* What a long picture becomes by each resize rule. */
+static void rules(void) {
+    enum { LARGE = 8 * 16 * 3, THIN = 8192 * 3 };
+    static uint8_t large[LARGE], thin[THIN], back[LARGE];
+    static float out[LARGE];
+    struct kz_picture_settings least = KZ_PICTURE_SETTINGS(1, 1, 2);
+    struct kz_preprocess_report p;
+    struct kz_restore_report r;
+
+    for (size_t i = 0; i < LARGE; i++) large[i] = (uint8_t)(i * 89 + i / 7);
+    p = kz_preprocess(picture, large, LARGE, 8, 16, out, LARGE);
+    EXPECT(p.number == KZ_ACCEPTED && p.grid_h == 4 && p.grid_w == 4 && p.floats == 2 * FLOATS);
+    mark_all(out, LARGE);
+    p = kz_preprocess(ruled(2), large, LARGE, 8, 16, out, LARGE);
+    EXPECT(p.number == KZ_ACCEPTED && p.grid_h == 2 && p.grid_w == 4 && p.floats == FLOATS);
+    EXPECT(marked(out, FLOATS, LARGE) && !marked(out, FLOATS - 1, FLOATS));
+    /* Both sides are halved: every other pixel of every other row. */
+    r = kz_restore(ruled(2), out, FLOATS, 2, 4, back, LARGE);
+    EXPECT(r.number == KZ_ACCEPTED && r.height == 4 && r.width == 8);
+    for (size_t i = 0; i < FLOATS; i++) {
+        size_t row = i / 3 / 8, column = i / 3 % 8;
+        EXPECT(back[i] == large[(2 * row * 16 + 2 * column) * 3 + i % 3]);
+    }
+    /* A side is never less than 1. */
+    for (size_t i = 0; i < THIN; i++) thin[i] = (uint8_t)(i * 89 + i / 7);
+    least.resize_rule = 2;
+    p = kz_preprocess(least, thin, THIN, 8192, 1, out, 6);
+    EXPECT(p.number == KZ_ACCEPTED && p.grid_h == 2 && p.grid_w == 1 && p.floats == 6);
+    r = kz_restore(least, out, 6, 2, 1, back, 6);
+    EXPECT(r.number == KZ_ACCEPTED && r.height == 2 && r.width == 1);
+    EXPECT(memcmp(back, thin, 3) == 0 && memcmp(back + 3, thin + 4096 * 3, 3) == 0);
 }
 
 static void patch(void) {
@@ -155,7 +200,7 @@ enum {
 };
 
 static void forward(void) {
-    const struct kz_encoder_settings good = {{2, 2, 8}, 4, 1, 4, 1, 5, 3, 0.5f};
+    const struct kz_encoder_settings good = {KZ_PICTURE_SETTINGS(2, 2, 8), 4, 1, 4, 1, 5, 3, 0.5f};
     float weights[WEIGHTS], rope_cos[TABLE], rope_sin[TABLE], scratch[SCRATCH + TAIL], out[TOKENS + TAIL];
     float first[TOKENS];
     struct kz_forward_report r;
@@ -178,26 +223,37 @@ static void forward(void) {
     r = kz_forward(good, patches, FLOATS, 2, 4, weights, WEIGHTS, rope_cos, TABLE, rope_sin, TABLE, scratch, SCRATCH,
                    out, TOKENS);
     EXPECT(r.number == KZ_ACCEPTED && memcmp(first, out, sizeof first) == 0);
+    /* And by the other rule: of a rule forward only asks whether there is one. */
+    struct kz_encoder_settings other = good;
+    other.picture = ruled(2);
+    mark_all(out, TOKENS);
+    r = kz_forward(other, patches, FLOATS, 2, 4, weights, WEIGHTS, rope_cos, TABLE, rope_sin, TABLE, scratch, SCRATCH,
+                   out, TOKENS);
+    EXPECT(r.number == KZ_ACCEPTED && memcmp(first, out, sizeof first) == 0);
 
     struct {
         uint32_t number;
-        size_t layers, grid_w, patches_len, weights_len, cos_len, sin_len, out_len, scratch_len;
+        size_t rule, layers, grid_w, patches_len, weights_len, cos_len, sin_len, out_len, scratch_len;
         float damage; /* over the last weight */
     } calls[] = {
-        {KZ_SETTING, 49, 4, FLOATS, WEIGHTS, TABLE, TABLE, TOKENS, SCRATCH, 0},
-        {KZ_GRID, 1, 5, FLOATS, WEIGHTS, TABLE, TABLE, TOKENS, SCRATCH, 0},
-        {KZ_PATCHES_LENGTH, 1, 4, FLOATS - 1, 0, 0, 0, 0, 0, 0},
-        {KZ_WEIGHTS_LENGTH, 0, 4, FLOATS, WEIGHTS, 0, 0, 0, 0, 0},
-        {KZ_WEIGHTS_LENGTH, 1, 4, FLOATS, WEIGHTS - 1, TABLE, TABLE, TOKENS, SCRATCH, 0},
-        {KZ_TABLE_LENGTH, 1, 4, FLOATS, WEIGHTS, TABLE - 1, TABLE, 0, 0, 0},
-        {KZ_TABLE_LENGTH, 1, 4, FLOATS, WEIGHTS, TABLE, 0, TOKENS, SCRATCH, 0},
-        {KZ_OUTPUT, 1, 4, FLOATS, WEIGHTS, TABLE, TABLE, TOKENS - 1, 0, 0},
-        {KZ_SCRATCH, 1, 4, FLOATS, WEIGHTS, TABLE, TABLE, TOKENS, SCRATCH - 1, 1},
-        {KZ_NOT_FINITE, 1, 4, FLOATS, WEIGHTS, TABLE, TABLE, TOKENS, SCRATCH, 1},
+        {KZ_SETTING, 0, 1, 4, FLOATS, WEIGHTS, TABLE, TABLE, TOKENS, SCRATCH, 0},
+        {KZ_SETTING, 3, 1, 4, FLOATS, WEIGHTS, TABLE, TABLE, TOKENS, SCRATCH, 0},
+        {KZ_SETTING, SIZE_MAX, 1, 5, 0, 0, 0, 0, TOKENS, SCRATCH, 1},
+        {KZ_SETTING, 1, 49, 4, FLOATS, WEIGHTS, TABLE, TABLE, TOKENS, SCRATCH, 0},
+        {KZ_GRID, 1, 1, 5, FLOATS, WEIGHTS, TABLE, TABLE, TOKENS, SCRATCH, 0},
+        {KZ_PATCHES_LENGTH, 1, 1, 4, FLOATS - 1, 0, 0, 0, 0, 0, 0},
+        {KZ_WEIGHTS_LENGTH, 1, 0, 4, FLOATS, WEIGHTS, 0, 0, 0, 0, 0},
+        {KZ_WEIGHTS_LENGTH, 1, 1, 4, FLOATS, WEIGHTS - 1, TABLE, TABLE, TOKENS, SCRATCH, 0},
+        {KZ_TABLE_LENGTH, 1, 1, 4, FLOATS, WEIGHTS, TABLE - 1, TABLE, 0, 0, 0},
+        {KZ_TABLE_LENGTH, 1, 1, 4, FLOATS, WEIGHTS, TABLE, 0, TOKENS, SCRATCH, 0},
+        {KZ_OUTPUT, 1, 1, 4, FLOATS, WEIGHTS, TABLE, TABLE, TOKENS - 1, 0, 0},
+        {KZ_SCRATCH, 1, 1, 4, FLOATS, WEIGHTS, TABLE, TABLE, TOKENS, SCRATCH - 1, 1},
+        {KZ_NOT_FINITE, 1, 1, 4, FLOATS, WEIGHTS, TABLE, TABLE, TOKENS, SCRATCH, 1},
     };
     for (size_t i = 0; i < sizeof calls / sizeof *calls; i++) {
         struct kz_encoder_settings s = good;
         float last = weights[WEIGHTS - 1];
+        s.picture = ruled(calls[i].rule);
         s.num_layers = calls[i].layers;
         if (calls[i].damage != 0) weights[WEIGHTS - 1] = strtof("inf", NULL);
         mark_all(scratch, SCRATCH);
@@ -213,8 +269,8 @@ static void forward(void) {
 }
 
 static void lengths(void) {
-    const struct kz_encoder_settings good = {{2, 2, 8}, 4, 1, 4, 1, 5, 3, 0.5f};
-    const struct kz_encoder_settings largest = {{1, 1, 2048}, 2048, 8, 256, 48, 8192, 8192, 0.5f};
+    const struct kz_encoder_settings good = {KZ_PICTURE_SETTINGS(2, 2, 8), 4, 1, 4, 1, 5, 3, 0.5f};
+    const struct kz_encoder_settings largest = {KZ_PICTURE_SETTINGS(1, 1, 2048), 2048, 8, 256, 48, 8192, 8192, 0.5f};
     const size_t t = 2048 * 2048, h = 2048, i = 8192, x = 8192;
     struct kz_lengths_report r = kz_lengths(good, 2, 4);
 
@@ -235,21 +291,24 @@ static void lengths(void) {
         struct kz_encoder_settings settings;
         size_t grid_h, grid_w;
     } calls[] = {
-        {KZ_SETTING, {{0, 2, 8}, 4, 1, 4, 1, 5, 3, 0.5f}, 2, 4},
-        {KZ_SETTING, {{2, 5, 8}, 4, 1, 4, 1, 5, 3, 0.5f}, 2, 4},
-        {KZ_SETTING, {{2, 2, SIZE_MAX}, 4, 1, 4, 1, 5, 3, 0.5f}, 2, 4},
-        {KZ_SETTING, {{2, 2, 8}, 8, 1, 4, 1, 5, 3, 0.5f}, 2, 4},
-        {KZ_SETTING, {{2, 2, 8}, 4, 0, 4, 1, 5, 3, 0.5f}, 2, 4},
-        {KZ_SETTING, {{2, 2, 8}, 6, 1, 6, 1, 5, 3, 0.5f}, 2, 4},
-        {KZ_SETTING, {{2, 2, 8}, 4, 1, 4, 49, 5, 3, 0.5f}, 0, 5},
-        {KZ_SETTING, {{2, 2, 8}, 4, 1, 4, 1, 8193, 3, 0.5f}, 2, 4},
-        {KZ_SETTING, {{2, 2, 8}, 4, 1, 4, 1, 5, 0, 0.5f}, 2, 4},
-        {KZ_SETTING, {{2, 2, 8}, 4, 1, 4, 1, 5, 3, 0.0f}, 2, 4},
-        {KZ_GRID, {{2, 2, 8}, 4, 1, 4, 1, 5, 3, 0.5f}, 0, 4},
-        {KZ_GRID, {{2, 2, 8}, 4, 1, 4, 1, 5, 3, 0.5f}, 2, 6},
-        {KZ_GRID, {{2, 2, 8}, 4, 1, 4, 1, 5, 3, 0.5f}, 3, 4},
-        {KZ_GRID, {{2, 2, 8}, 4, 1, 4, 1, 5, 3, 0.5f}, SIZE_MAX - 1, SIZE_MAX - 1},
-        {KZ_GRID, {{2, 2, 3}, 4, 1, 4, 1, 5, 3, 0.5f}, 2, 2},
+        {KZ_SETTING, {KZ_PICTURE_SETTINGS(0, 2, 8), 4, 1, 4, 1, 5, 3, 0.5f}, 2, 4},
+        {KZ_SETTING, {KZ_PICTURE_SETTINGS(2, 5, 8), 4, 1, 4, 1, 5, 3, 0.5f}, 2, 4},
+        {KZ_SETTING, {KZ_PICTURE_SETTINGS(2, 2, SIZE_MAX), 4, 1, 4, 1, 5, 3, 0.5f}, 2, 4},
+        {KZ_SETTING, {ruled(0), 4, 1, 4, 1, 5, 3, 0.5f}, 2, 4},
+        {KZ_SETTING, {ruled(3), 4, 1, 4, 1, 5, 3, 0.5f}, 2, 4},
+        {KZ_SETTING, {ruled(SIZE_MAX), 4, 1, 4, 1, 5, 3, 0.5f}, 0, 5},
+        {KZ_SETTING, {KZ_PICTURE_SETTINGS(2, 2, 8), 8, 1, 4, 1, 5, 3, 0.5f}, 2, 4},
+        {KZ_SETTING, {KZ_PICTURE_SETTINGS(2, 2, 8), 4, 0, 4, 1, 5, 3, 0.5f}, 2, 4},
+        {KZ_SETTING, {KZ_PICTURE_SETTINGS(2, 2, 8), 6, 1, 6, 1, 5, 3, 0.5f}, 2, 4},
+        {KZ_SETTING, {KZ_PICTURE_SETTINGS(2, 2, 8), 4, 1, 4, 49, 5, 3, 0.5f}, 0, 5},
+        {KZ_SETTING, {KZ_PICTURE_SETTINGS(2, 2, 8), 4, 1, 4, 1, 8193, 3, 0.5f}, 2, 4},
+        {KZ_SETTING, {KZ_PICTURE_SETTINGS(2, 2, 8), 4, 1, 4, 1, 5, 0, 0.5f}, 2, 4},
+        {KZ_SETTING, {KZ_PICTURE_SETTINGS(2, 2, 8), 4, 1, 4, 1, 5, 3, 0.0f}, 2, 4},
+        {KZ_GRID, {KZ_PICTURE_SETTINGS(2, 2, 8), 4, 1, 4, 1, 5, 3, 0.5f}, 0, 4},
+        {KZ_GRID, {KZ_PICTURE_SETTINGS(2, 2, 8), 4, 1, 4, 1, 5, 3, 0.5f}, 2, 6},
+        {KZ_GRID, {KZ_PICTURE_SETTINGS(2, 2, 8), 4, 1, 4, 1, 5, 3, 0.5f}, 3, 4},
+        {KZ_GRID, {KZ_PICTURE_SETTINGS(2, 2, 8), 4, 1, 4, 1, 5, 3, 0.5f}, SIZE_MAX - 1, SIZE_MAX - 1},
+        {KZ_GRID, {KZ_PICTURE_SETTINGS(2, 2, 3), 4, 1, 4, 1, 5, 3, 0.5f}, 2, 2},
     };
     for (size_t k = 0; k < sizeof calls / sizeof *calls; k++) {
         r = kz_lengths(calls[k].settings, calls[k].grid_h, calls[k].grid_w);
@@ -273,6 +332,7 @@ int main(void) {
     for (size_t i = 0; i < FLOATS; i++) rgb[i] = (uint8_t)(i * 89 + 17);
     preprocess();
     restore();
+    rules();
     patch();
     forward();
     lengths();

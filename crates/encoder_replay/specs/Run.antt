@@ -27,7 +27,7 @@ answerOf s gh gw w cos sin x scratch out =
     (floatHash (outOf s gh gw w cos sin x (length scratch) out))
     (floatHash (scratchOf s gh gw w cos sin x (length out) scratch))
 
--- ---- a record of 25 numbers
+-- ---- a record of 26 numbers
 
 abbrev pub at : List ℕ → ℕ → ℕ
 at v k = getD v k 0
@@ -35,7 +35,7 @@ at v k = getD v k 0
 abbrev pub settingsOf : List ℕ → EncoderSettings
 settingsOf v =
     record {
-      picture = record { «patch_size» = at v 0; «spatial_merge_size» = at v 1; «image_size» = at v 2 };
+      picture = record { «patch_size» = at v 0; «spatial_merge_size» = at v 1; «image_size» = at v 2; «resize_rule» = at v 25 };
       «hidden_size» = at v 3;
       «num_heads» = at v 4;
       «head_dim» = at v 5;

@@ -1,4 +1,4 @@
-// A record's call. v holds its 25 numbers, in the order that main.rt lists.
+// A record's call. v holds its 26 numbers, in the order that main.rt lists.
 ghost use mathlib.Core.Path.{_≡_};
 ghost use lib.ListN.{length};
 ghost use Rattle.encoder_replay.specs.Run.{answerOf, settingsOf, inputsFrom, callOf, runOf};
@@ -59,13 +59,14 @@ fn encode(
     }
 }
 
-fn settings(v: &[usize; 25]) -> EncoderSettings
+fn settings(v: &[usize; 26]) -> EncoderSettings
     ensures { λ r. ⌜ r ≡ settingsOf (now (v .entry)) ⌝ }
 {
     let p = PictureSettings {
         patch_size: v[0],
         spatial_merge_size: v[1],
         image_size: v[2],
+        resize_rule: v[25],
     };
     EncoderSettings {
         picture: p,
@@ -80,7 +81,7 @@ fn settings(v: &[usize; 25]) -> EncoderSettings
 }
 
 // The inputs of a record's seed, once they are damaged.
-fn inputs(v: &[usize; 25], cells: &mut [f32])
+fn inputs(v: &[usize; 26], cells: &mut [f32])
     ensures { λ _. ⌜ now (cells .exit) ≡ inputsFrom (now (v .entry)) (length (now (cells .entry))) ⌝ }
 {
     fill_units(v[18], cells);
@@ -88,7 +89,7 @@ fn inputs(v: &[usize; 25], cells: &mut [f32])
 }
 
 // The call over the front of each buffer.
-fn call(v: &[usize; 25], cells: &[f32], scratch: &mut [f32], out: &mut [f32]) -> Answer
+fn call(v: &[usize; 26], cells: &[f32], scratch: &mut [f32], out: &mut [f32]) -> Answer
     requires { ⌜ Small (now v) ⌝ }
     requires { ⌜ Room (length (now cells)) (length (now scratch)) (length (now out)) ⌝ }
     ensures { λ r. ⌜ r ≡ callOf (now (v .entry)) (now (cells .entry)) (now (scratch .entry)) (now (out .entry)) ⌝ }
@@ -112,7 +113,7 @@ fn call(v: &[usize; 25], cells: &[f32], scratch: &mut [f32], out: &mut [f32]) ->
     )
 }
 
-pub(crate) fn run(v: &[usize; 25]) -> Answer
+pub(crate) fn run(v: &[usize; 26]) -> Answer
     requires { ⌜ Small (now v) ⌝ }
     ensures { λ r. ⌜ r ≡ runOf (now (v .entry)) ⌝ }
 {

@@ -13,7 +13,7 @@ use Rattle.number_exp_tanh.specs.Exp.{series, E, expBits}
 use Rattle.picture_limits.specs.declared.PictureSettings.{PictureSettings}
 use Rattle.picture.specs.declared.Preprocessed.{Preprocessed}
 use Rattle.picture_limits.specs.Settings.{allowed}
-use Rattle.picture_limits.specs.Sides.{side, resized}
+use Rattle.picture_limits.specs.Sides.{kept, side, thOf, twOf}
 use Rattle.picture_resize.specs.Resize.{whole, near, blend, toByte, mix}
 use Rattle.picture.specs.Preprocess.{preprocessed, resizedBytes}
 use Rattle.encoder_stages.specs.Merge.{mergeOf}
@@ -51,50 +51,71 @@ unfolding root rootOfNumber nearRoot wholeRoot
 root-of-four = refl
 
 -- ---- pictures: patch, merge, image size
+abbrev ruled : ℕ → ℕ → ℕ → ℕ → PictureSettings
+ruled r p m n = record { «patch_size» = p; «spatial_merge_size» = m; «image_size» = n; «resize_rule» = r }
+
 abbrev vision : ℕ → ℕ → ℕ → PictureSettings
-vision p m n = record { «patch_size» = p; «spatial_merge_size» = m; «image_size» = n }
+vision p m n = ruled 1 p m n
 
 -- 1 × 1: grid 2 × 2, 2352 floats, resized 28 × 28
 pub one-pixel : preprocessed (vision 14 2 1540) 3 1 1 2352 ≡ Preprocessed.Patches 2 2 2352
-unfolding preprocessed allowed side
+unfolding preprocessed allowed kept side
 one-pixel = refl
 
-pub one-pixel-side : resized (vision 14 2 1540) 1 ≡ 28
-unfolding side
+pub one-pixel-side : thOf (vision 14 2 1540) 1 1 ≡ 28
+unfolding kept side
 one-pixel-side = refl
 
 -- 29 × 28: 56 × 28, grid 4 × 2; 28 stays 28
 pub tall : preprocessed (vision 14 2 1540) (29 * 28 * 3) 29 28 4704 ≡ Preprocessed.Patches 4 2 4704
-unfolding preprocessed allowed side
+unfolding preprocessed allowed kept side
 tall = refl
 
-pub tall-side : resized (vision 14 2 1540) 29 ≡ 56
-unfolding side
+pub tall-side : thOf (vision 14 2 1540) 29 28 ≡ 56
+unfolding kept side
 tall-side = refl
 
-pub stays : resized (vision 14 2 1540) 28 ≡ 28
-unfolding side
+pub stays : twOf (vision 14 2 1540) 29 28 ≡ 28
+unfolding kept side
 stays = refl
 
 -- image 100, height and width 200: 84 × 84, grid 6 × 6
 pub cut : preprocessed (vision 14 2 100) (200 * 200 * 3) 200 200 21168 ≡ Preprocessed.Patches 6 6 21168
-unfolding preprocessed allowed side
+unfolding preprocessed allowed kept side
 cut = refl
 
-pub cut-side : resized (vision 14 2 100) 200 ≡ 84
-unfolding side
+pub cut-side : thOf (vision 14 2 100) 200 200 ≡ 84
+unfolding kept side
 cut-side = refl
+
+-- rule 2, 3080 × 1540: 1540 × 784, grid 110 × 56; rule 1: grid 110 × 110
+pub panoramic : preprocessed (ruled 2 14 2 1540) (3080 * 1540 * 3) 3080 1540 3622080 ≡ Preprocessed.Patches 110 56 3622080
+unfolding preprocessed allowed kept side
+panoramic = refl
+
+pub panoramic-sides : (thOf (ruled 2 14 2 1540) 3080 1540 ≡ 1540) × (twOf (ruled 2 14 2 1540) 3080 1540 ≡ 784)
+unfolding kept side
+panoramic-sides = (refl, refl)
+
+pub squashed : preprocessed (vision 14 2 1540) (3080 * 1540 * 3) 3080 1540 7114800 ≡ Preprocessed.Patches 110 110 7114800
+unfolding preprocessed allowed kept side
+squashed = refl
+
+-- rule 2, 8192 × 1, patch 1, merge 1, image 2: the shorter side, which would become 0, is 1
+pub thin : preprocessed (ruled 2 1 1 2) (8192 * 1 * 3) 8192 1 6 ≡ Preprocessed.Patches 2 1 6
+unfolding preprocessed allowed kept side
+thin = refl
 
 -- one row 0, 255, patch 1, merge 4, image 4: each row 0, 128, 255, 255
 pub wider : resizedBytes (vision 1 4 4) (0 ∷ 0 ∷ 0 ∷ 255 ∷ 255 ∷ 255 ∷ []) 1 2
     ≡ rows 4 (λ y. 0 ∷ 0 ∷ 0 ∷ 128 ∷ 128 ∷ 128 ∷ 255 ∷ 255 ∷ 255 ∷ 255 ∷ 255 ∷ 255 ∷ [])
-unfolding rows tab side near mix toByte blend whole add sub mul div lt ofInt ofBits toUnsigned
+unfolding rows tab kept side near mix toByte blend whole add sub mul div lt ofInt ofBits toUnsigned
 wider = refl
 
 -- one row 10, 20, 30, 40, patch 1, merge 2, image 2: each row 10, 30
 pub narrower : resizedBytes (vision 1 2 2) (10 ∷ 10 ∷ 10 ∷ 20 ∷ 20 ∷ 20 ∷ 30 ∷ 30 ∷ 30 ∷ 40 ∷ 40 ∷ 40 ∷ []) 1 4
     ≡ rows 2 (λ y. 10 ∷ 10 ∷ 10 ∷ 30 ∷ 30 ∷ 30 ∷ [])
-unfolding rows tab side near mix toByte blend whole add sub mul div lt ofInt ofBits toUnsigned
+unfolding rows tab kept side near mix toByte blend whole add sub mul div lt ofInt ofBits toUnsigned
 narrower = refl
 
 -- ---- the spatial merge

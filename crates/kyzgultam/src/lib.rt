@@ -17,6 +17,7 @@ pub struct PictureSettings {
     pub patch_size: usize,
     pub spatial_merge_size: usize,
     pub image_size: usize,
+    pub resize_rule: usize,
 }
 
 #[repr(C)]
@@ -77,6 +78,7 @@ fn settings(s: PictureSettings) -> picture_limits::PictureSettings
         patch_size: s.patch_size,
         spatial_merge_size: s.spatial_merge_size,
         image_size: s.image_size,
+        resize_rule: s.resize_rule,
     }
 }
 

@@ -15,7 +15,7 @@ use Rattle.picture.specs.declared.Preprocessed.{Preprocessed}
 use Rattle.picture.specs.declared.Preprocessed.the-variants.{Patches, Refused}
 use Rattle.buffers.specs.Region.{over}
 use Rattle.picture_limits.specs.Settings.{allowed, sided, align}
-use Rattle.picture_limits.specs.Sides.{gridOf}
+use Rattle.picture_limits.specs.Sides.{ghOf, gwOf}
 use Rattle.picture.specs.Preprocess.{floatsOf, preprocessed, patchesOf, patchesLeft}
 use Rattle.picture_limits.proofs.Refusals.{passed}
 
@@ -27,7 +27,7 @@ pub record Accepts (s : PictureSettings) (len h w room : ℕ) : Type 0 where
   pub image : align s ≤ s .«image_size»
   pub fits : floatsOf s h w ≤ room
 
-pub accepted : (s : PictureSettings) (len h w room : ℕ) → Accepts s len h w room → preprocessed s len h w room ≡ Patches (gridOf s h) (gridOf s w) (floatsOf s h w)
+pub accepted : (s : PictureSettings) (len h w room : ℕ) → Accepts s len h w room → preprocessed s len h w room ≡ Patches (ghOf s h w) (gwOf s h w) (floatsOf s h w)
 unfolding preprocessed
 accepted s len h w room a = simp (a .settings, a .sides, eq-eqb _ _ (a .bytes), le-leb _ _ (a .image), le-leb _ _ (a .fits))
 
@@ -36,8 +36,8 @@ never r gh gw n e = let z : _≡_ {A = ℕ} 0 1 = cc in omega arith
 
 pub record Accepted (s : PictureSettings) (len h w room gh gw n : ℕ) : Type 0 where
   pub asks : Accepts s len h w room
-  pub tall : gh ≡ gridOf s h
-  pub wide : gw ≡ gridOf s w
+  pub tall : gh ≡ ghOf s h w
+  pub wide : gw ≡ gwOf s h w
   pub count : n ≡ floatsOf s h w
 
 pub acceptance : (s : PictureSettings) (len h w room gh gw n : ℕ) → preprocessed s len h w room ≡ Patches gh gw n → Accepted s len h w room gh gw n

@@ -9,7 +9,7 @@ use Rattle.picture.specs.declared.Preprocessed.{Preprocessed}
 use Rattle.picture.specs.declared.Preprocessed.the-variants.{Patches, Refused}
 use Rattle.picture_limits.specs.Refusal.{unless, reported}
 use Rattle.picture_limits.specs.Settings.{allowed, sided, align}
-use Rattle.picture_limits.specs.Sides.{gridOf}
+use Rattle.picture_limits.specs.Sides.{ghOf, gwOf}
 use Rattle.picture.specs.Preprocess.{floatsOf, preprocessed, preprocessNumber, number, gridH, gridW, floats, Numbered}
 
 -- the ladder of answers and that of numbers, test by test
@@ -33,7 +33,7 @@ module _ (s : PictureSettings) (len h w room : ℕ) where
   pub numbered : (a : Preprocessed) → a ≡ preprocessed s len h w room → Numbered s len h w room a
   unfolding preprocessed preprocessNumber
   numbered a e =
-      let t = told (allowed s) (sided h w) (eqb len (h * w * 3)) (leb (align s) (s .«image_size»)) (leb (floatsOf s h w) room) (gridOf s h) (gridOf s w) (floatsOf s h w) in
+      let t = told (allowed s) (sided h w) (eqb len (h * w * 3)) (leb (align s) (s .«image_size»)) (leb (floatsOf s h w) room) (ghOf s h w) (gwOf s h w) (floatsOf s h w) in
       subst (Numbered s len h w room) (sym e) (record { number-is = t .number-is; grid-h-is = t .grid-h-is; grid-w-is = t .grid-w-is; floats-is = t .floats-is })
 
   -- an answer and what stands beside it, with its numbers

@@ -2,8 +2,8 @@
 use mathlib.Core.Path.{_≡_, refl, sym, ap, _∙_}
 use mathlib.Core.Bool.{Bool, true, false}
 use mathlib.Core.List.{List}
-use Prim.Native.Nat.{ℕ, _+_, _*_, _/_, _%_, _≤_, _<_}
-use native.Mathlib.Nat.{mul-assoc, mul-pos}
+use Prim.Native.Nat.{ℕ, _+_, _*_, _/_, _%_, _≤_, _<_, max}
+use native.Mathlib.Nat.{mul-assoc, mul-pos, max-le}
 use native.Mathlib.Omega.{arith}
 use borrow.Author.Tests.{le-leb, eq-eqb}
 use lib.Dec.{T, leb}
@@ -18,7 +18,7 @@ use Rattle.picture_limits.specs.declared.Refusal.{Refusal}
 use Rattle.picture.specs.declared.Preprocessed.{Preprocessed}
 use Rattle.picture_restore.specs.declared.Restored.{Restored}
 use Rattle.picture_limits.specs.Settings.{within, allowed, align}
-use Rattle.picture_limits.specs.Sides.{resized, gridOf}
+use Rattle.picture_limits.specs.Sides.{side, thOf, twOf, ghOf, gwOf}
 use Rattle.picture_samples.specs.Samples.{sample, sampleBits, byteOf}
 use Rattle.picture_limits.specs.Places.{patchFloats, picture, samplePlace}
 use Rattle.picture_limits.specs.Shape.{gridAllowed}
@@ -30,13 +30,14 @@ use Rattle.picture_restore.proofs.Known.{known-at}
 use Rattle.picture_limits.proofs.Places.{patch-in, place-in-patch, picture-at, length-picture}
 use Rattle.picture_patches.proofs.Patches.{length-patches}
 use Rattle.picture.proofs.Places.{patches-self}
-use Rattle.picture_limits.proofs.Sides.{allowed-says, sided-says, side-same}
+use Rattle.picture_limits.proofs.Sides.{allowed-says, sided-says, kept-same, side-same}
+use Rattle.picture_limits.proofs.Shapes.{grid-side-says}
 use Rattle.picture.proofs.Accepts.{Accepts, accepted, acceptance}
 use Rattle.picture_resize.proofs.Same.{byte-below, pixel-same, picture-same}
 use Rattle.buffers.specs.Lent.{Bytes, Floats}
 use Rattle.buffers.proofs.Bytes.{bytes-tab, bytes-rows}
 use Rattle.picture_limits.specs.Refusal.{unless}
-use Rattle.picture.specs.Undo.{Undo, UndoCalls, OwnBytes, Asked, Source, Eight}
+use Rattle.picture.specs.Undo.{Undo, UndoCalls, Unresized, OwnBytes, Asked, Source, Eight}
 use Rattle.picture.proofs.Spans.{spanned, spans}
 use Rattle.picture.proofs.Given.{known-of, bytes-of, samples, given-is}
 
@@ -49,33 +50,33 @@ decides s l gh gw room a = simp (a .settings, a .grid, eq-eqb _ _ (a .samples), 
 -- ---- 1
 -- in any room that is enough
 pub record Back (s : PictureSettings) (rgb : List ℕ) (h w gh gw room : ℕ) : Type 0 where
-  pub answer : restored s (patchesOf s rgb h w) gh gw room ≡ Restored.Picture (resized s h) (resized s w)
+  pub answer : restored s (patchesOf s rgb h w) gh gw room ≡ Restored.Picture (thOf s h w) (twOf s h w)
   pub bytes : bytesOf s (patchesOf s rgb h w) gh gw ≡ resizedBytes s rgb h w
 
 pub back : (s : PictureSettings) (rgb : List ℕ) (h w gh gw n room room′ : ℕ) → preprocessed s (length rgb) h w room ≡ Preprocessed.Patches gh gw n
-    → resized s h * resized s w * 3 ≤ room′ → Back s rgb h w gh gw room′
+    → thOf s h w * twOf s h w * 3 ≤ room′ → Back s rgb h w gh gw room′
 back s rgb h w gh gw n room room′ e r =
     let p = s .«patch_size» in
     let t = acceptance s (length rgb) h w room gh gw n e in
     let q = t .asks in
     let o = allowed-says s (q .settings) in
     let d = sided-says h w (q .sides) in
-    let a = spanned s h (q .settings) (q .image) (d .0) in
-    let b = spanned s w (q .settings) (q .image) (d .2) in
+    let a = spanned s (max h w) h (q .settings) (q .image) (d .0) in
+    let b = spanned s (max h w) w (q .settings) (q .image) (d .2) in
     let v = resizedPixel s rgb h w in
-    let low = byte-below rgb h w (resized s h) (resized s w) in
+    let low = byte-below rgb h w (thOf s h w) (twOf s h w) in
     let l = patchesOf s rgb h w in
-    let g = given-is p (gridOf s h) (gridOf s w) v in
-    let z : Asked s l (gridOf s h) (gridOf s w) room′ = record {
+    let g = given-is p (ghOf s h w) (gwOf s h w) v in
+    let z : Asked s l (ghOf s h w) (gwOf s h w) room′ = record {
       settings = q .settings;
-      grid = and-both (gridAllowed s (gridOf s h)) (gridAllowed s (gridOf s w)) (a .allowed) (b .allowed);
-      samples = length-patches p (λ y x c. sample c (v y x c)) (gridOf s h) (gridOf s w) ∙ sym (mul-assoc (gridOf s h) (gridOf s w) (patchFloats p));
+      grid = and-both (gridAllowed s (ghOf s h w)) (gridAllowed s (gwOf s h w)) (a .allowed) (b .allowed);
+      samples = length-patches p (λ y x c. sample c (v y x c)) (ghOf s h w) (gwOf s h w) ∙ sym (mul-assoc (ghOf s h w) (gwOf s h w) (patchFloats p));
       fits = rw (a .span, b .span) r;
     } in
-    let k : known sampleBits p l ≡ true = ap (known sampleBits p) g ∙ known-of sampleBits samples p (gridOf s h) (gridOf s w) v low (o .patch-low) in
-    let answer : restored s l (gridOf s h) (gridOf s w) room′ ≡ Restored.Picture (resized s h) (resized s w) = decides s l (gridOf s h) (gridOf s w) room′ z ∙ rw (k, a .span, b .span) in
-    let bytes : bytesOf s l (gridOf s h) (gridOf s w) ≡ resizedBytes s rgb h w =
-    ap (λ (x : List Float). bytesFrom sampleBits p x (gridOf s h) (gridOf s w)) g ∙ bytes-of sampleBits samples p (gridOf s h) (gridOf s w) v low (o .patch-low) ∙ rw (a .span, b .span) in
+    let k : known sampleBits p l ≡ true = ap (known sampleBits p) g ∙ known-of sampleBits samples p (ghOf s h w) (gwOf s h w) v low (o .patch-low) in
+    let answer : restored s l (ghOf s h w) (gwOf s h w) room′ ≡ Restored.Picture (thOf s h w) (twOf s h w) = decides s l (ghOf s h w) (gwOf s h w) room′ z ∙ rw (k, a .span, b .span) in
+    let bytes : bytesOf s l (ghOf s h w) (gwOf s h w) ≡ resizedBytes s rgb h w =
+    ap (λ (x : List Float). bytesFrom sampleBits p x (ghOf s h w) (gwOf s h w)) g ∙ bytes-of sampleBits samples p (ghOf s h w) (gwOf s h w) v low (o .patch-low) ∙ rw (a .span, b .span) in
     rw (t .tall, t .wide) (record { answer = answer; bytes = bytes })
 
 pub undo : Undo
@@ -93,8 +94,8 @@ pub patches-count : (s : PictureSettings) (rgb : List ℕ) (h w room gh gw n : �
 patches-count s rgb h w room gh gw n e =
     let p = s .«patch_size» in
     acceptance s (length rgb) h w room gh gw n e .count
-    ∙ mul-assoc (gridOf s h) (gridOf s w) (patchFloats p)
-    ∙ sym (length-patches p (λ y x c. sample c (resizedPixel s rgb h w y x c)) (gridOf s h) (gridOf s w))
+    ∙ mul-assoc (ghOf s h w) (gwOf s h w) (patchFloats p)
+    ∙ sym (length-patches p (λ y x c. sample c (resizedPixel s rgb h w y x c)) (ghOf s h w) (gwOf s h w))
 
 pub patches-front : (s : PictureSettings) (rgb : List ℕ) (h w room gh gw n : ℕ) (old : List Float) → preprocessed s (length rgb) h w room ≡ Preprocessed.Patches gh gw n
     → take n (patchesLeft (preprocessed s (length rgb) h w room) (patchesOf s rgb h w) old) ≡ patchesOf s rgb h w
@@ -114,14 +115,23 @@ undo-calls s rgb h w gh gw n out old e r =
     }
 
 -- ---- 2
+pub sides-kept : (s : PictureSettings) (h w : ℕ) → allowed s ≡ true → Unresized s h w → (thOf s h w ≡ h) × (twOf s h w ≡ w)
+sides-kept s h w e t =
+    let n = s .«image_size» in
+    let r = s .«resize_rule» in
+    let o = allowed-says s e in
+    let a : 0 < align s = mul-pos (o .patch-low) (o .merge-low) in
+    let m : max h w ≤ n = max-le (t .tall-held) (t .wide-held) in (
+      ap (side (align s) n) (kept-same r n (max h w) h m) ∙ side-same (align s) n h a (t .tall) (t .tall-held),
+      ap (side (align s) n) (kept-same r n (max h w) w m) ∙ side-same (align s) n w a (t .wide) (t .wide-held),
+    )
+
 pub own-bytes : OwnBytes
 own-bytes s rgb h w gh gw n room b e t =
     let q = acceptance s (length rgb) h w room gh gw n e .asks in
     let o = allowed-says s (q .settings) in
-    let a : 0 < align s = mul-pos (o .patch-low) (o .merge-low) in
-    let u : resized s h ≡ h = side-same (align s) (s .«image_size») h a (t .tall) (t .tall-held) in
-    let v : resized s w ≡ w = side-same (align s) (s .«image_size») w a (t .wide) (t .wide-held) in
-    rw (u, v) (picture-same rgb h w b (omega (arith, t .tall-held, o .image-high)) (omega (arith, t .wide-held, o .image-high)) (q .bytes))
+    let k = sides-kept s h w (q .settings) t in
+    rw (k .0, k .1) (picture-same rgb h w b (omega (arith, t .tall-held, o .image-high)) (omega (arith, t .wide-held, o .image-high)) (q .bytes))
 
 -- ---- 3
 -- the sample of a found byte is what it was found by
@@ -134,10 +144,13 @@ source : (s : PictureSettings) (l : List Float) (gh gw room : ℕ) → Asked s l
 source s l gh gw room z f k =
     let p = s .«patch_size» in
     let o = allowed-says s (z .settings) in
-    let a = spans s gh (z .settings) (and-left (gridAllowed s gh) (gridAllowed s gw) (z .grid)) in
-    let b = spans s gw (z .settings) (and-right (gridAllowed s gh) (gridAllowed s gw) (z .grid)) in
     let h = gh * p in
     let w = gw * p in
+    let i = and-left (gridAllowed s gh) (gridAllowed s gw) (z .grid) in
+    let j = and-right (gridAllowed s gh) (gridAllowed s gw) (z .grid) in
+    let held : max h w ≤ s .«image_size» = max-le (grid-side-says s gh (o .patch-low) i .high) (grid-side-says s gw (o .patch-low) j .high) in
+    let a = spans s (max h w) gh (z .settings) i held in
+    let b = spans s (max h w) gw (z .settings) j held in
     let v : ℕ → ℕ → ℕ → ℕ = λ y x c. byteOf sampleBits c (toBits binary32 (getD l (samplePlace p gw y x c) nan)) in
     let rgb = picture h w v in
     let low : (y x c : ℕ) → y < h → x < w → c < 3 → v y x c < 256 = λ y x c hy hx hc.
@@ -158,7 +171,7 @@ source s l gh gw room z f k =
       room = floatsOf s h w;
       n = floatsOf s h w;
       bytes = bs;
-      accepted = accepted s (length rgb) h w (floatsOf s h w) q ∙ ap (λ (i : ℕ). Preprocessed.Patches i (gridOf s w) (floatsOf s h w)) (a .back) ∙ ap (λ (i : ℕ). Preprocessed.Patches gh i (floatsOf s h w)) (b .back);
+      accepted = accepted s (length rgb) h w (floatsOf s h w) q ∙ ap (λ (i : ℕ). Preprocessed.Patches i (gwOf s h w) (floatsOf s h w)) (a .back) ∙ ap (λ (i : ℕ). Preprocessed.Patches gh i (floatsOf s h w)) (b .back);
       given =
           rw (a .back, b .back, a .same, b .same)
           (rows-ext gh _ _ (λ i hi. rows-ext gw _ _ (λ j hj. rows-ext 3 _ _ (λ c hc. rows-ext p _ _ (λ t ht. tab-ext p _ _ (λ u hu.
@@ -179,9 +192,9 @@ seen s l gh gw room z c =
     let o = allowed-says s (q .settings) in
     let p = s .«patch_size» in
     let v = resizedPixel s (c .rgb) (c .h) (c .w) in
-    let low = byte-below (c .rgb) (c .h) (c .w) (resized s (c .h)) (resized s (c .w)) in
+    let low = byte-below (c .rgb) (c .h) (c .w) (thOf s (c .h) (c .w)) (twOf s (c .h) (c .w)) in
     let k : known sampleBits p l ≡ true =
-    rw (← c .given) (ap (known sampleBits p) (given-is p (gridOf s (c .h)) (gridOf s (c .w)) v) ∙ known-of sampleBits samples p (gridOf s (c .h)) (gridOf s (c .w)) v low (o .patch-low)) in
+    rw (← c .given) (ap (known sampleBits p) (given-is p (ghOf s (c .h) (c .w)) (gwOf s (c .h) (c .w)) v) ∙ known-of sampleBits samples p (ghOf s (c .h) (c .w)) (gwOf s (c .h) (c .w)) v low (o .patch-low)) in
     decides s l gh gw room z ∙ rw k
 
 pub eight : Eight

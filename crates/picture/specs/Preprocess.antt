@@ -13,13 +13,13 @@ use Rattle.picture.specs.declared.Preprocessed.the-variants.{Patches, Re
 use Rattle.picture_limits.specs.Refusal as R
 use Rattle.picture_limits.specs.Refusal.{unless, reported}
 use Rattle.picture_limits.specs.Settings.{allowed, sided, align}
-use Rattle.picture_limits.specs.Sides.{resized, gridOf}
+use Rattle.picture_limits.specs.Sides.{thOf, twOf, ghOf, gwOf}
 use Rattle.picture_resize.specs.Resize.{resizedAt}
 use Rattle.picture_limits.specs.Places.{patchFloats, picture}
 use Rattle.picture_patches.specs.Resized.{resizedPatches}
 
 abbrev pub floatsOf : PictureSettings → ℕ → ℕ → ℕ
-floatsOf s h w = gridOf s h * gridOf s w * patchFloats (s .«patch_size»)
+floatsOf s h w = ghOf s h w * gwOf s h w * patchFloats (s .«patch_size»)
 
 -- the answer: `len` is the length of the RGB bytes and `room` that of the output
 unfoldable pub preprocessed : PictureSettings → ℕ → ℕ → ℕ → ℕ → Preprocessed
@@ -29,18 +29,18 @@ preprocessed s len h w room =
     (unless (eqb len (h * w * 3)) (Refused RgbLength)
     (unless (leb (align s) (s .«image_size»)) (Refused ImageSize)
     (unless (leb (floatsOf s h w) room) (Refused Output)
-    (Patches (gridOf s h) (gridOf s w) (floatsOf s h w))))))
+    (Patches (ghOf s h w) (gwOf s h w) (floatsOf s h w))))))
 
 -- the resized picture, by row, column and channel
 abbrev pub resizedPixel : PictureSettings → List ℕ → ℕ → ℕ → ℕ → ℕ → ℕ → ℕ
-resizedPixel s rgb h w = resizedAt rgb h w (resized s h) (resized s w)
+resizedPixel s rgb h w = resizedAt rgb h w (thOf s h w) (twOf s h w)
 
 abbrev pub resizedBytes : PictureSettings → List ℕ → ℕ → ℕ → List ℕ
-resizedBytes s rgb h w = picture (resized s h) (resized s w) (resizedPixel s rgb h w)
+resizedBytes s rgb h w = picture (thOf s h w) (twOf s h w) (resizedPixel s rgb h w)
 
 -- its patches
 abbrev pub patchesOf : PictureSettings → List ℕ → ℕ → ℕ → List Float
-patchesOf s rgb h w = resizedPatches rgb h w (resized s h) (resized s w) (s .«patch_size»)
+patchesOf s rgb h w = resizedPatches rgb h w (thOf s h w) (twOf s h w) (s .«patch_size»)
 
 -- the output after the call, from what it was
 abbrev pub patchesLeft : Preprocessed → List Float → List Float → List Float
@@ -80,6 +80,6 @@ preprocessNumber s len h w room =
 
 pub record Numbered (s : PictureSettings) (len h w room : ℕ) (a : Preprocessed) : Type 0 where
   pub number-is : number a ≡ preprocessNumber s len h w room
-  pub grid-h-is : gridH a ≡ reported (number a) (gridOf s h)
-  pub grid-w-is : gridW a ≡ reported (number a) (gridOf s w)
+  pub grid-h-is : gridH a ≡ reported (number a) (ghOf s h w)
+  pub grid-w-is : gridW a ≡ reported (number a) (gwOf s h w)
   pub floats-is : floats a ≡ reported (number a) (floatsOf s h w)

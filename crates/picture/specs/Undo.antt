@@ -13,7 +13,7 @@ use Rattle.picture_limits.specs.declared.Refusal.{Refusal}
 use Rattle.picture.specs.declared.Preprocessed.{Preprocessed}
 use Rattle.picture_restore.specs.declared.Restored.{Restored}
 use Rattle.picture_limits.specs.Settings.{allowed, align}
-use Rattle.picture_limits.specs.Sides.{resized}
+use Rattle.picture_limits.specs.Sides.{thOf, twOf}
 use Rattle.picture_limits.specs.Shape.{gridAllowed}
 use Rattle.picture_limits.specs.Places.{patchFloats}
 use Rattle.picture.specs.Preprocess.{preprocessed, resizedBytes, patchesOf, patchesOut}
@@ -23,14 +23,14 @@ use Rattle.picture_restore.specs.Restore.{restored, bytesOf, bytesOut}
 
 -- into any output that has room for them: restore accepts, reports the resized height and width, and keeps the tail
 pub record Undone (s : PictureSettings) (rgb : List ℕ) (h w gh gw : ℕ) (old : List ℕ) : Type 0 where
-  pub answer : restored s (patchesOf s rgb h w) gh gw (length old) ≡ Restored.Picture (resized s h) (resized s w)
+  pub answer : restored s (patchesOf s rgb h w) gh gw (length old) ≡ Restored.Picture (thOf s h w) (twOf s h w)
   pub bytes : bytesOf s (patchesOf s rgb h w) gh gw ≡ resizedBytes s rgb h w
   pub output : bytesOut s (patchesOf s rgb h w) gh gw old ≡ over (resizedBytes s rgb h w) old
 
 abbrev pub Undo : Type 0
 Undo = (s : PictureSettings) (rgb : List ℕ) (h w gh gw n room : ℕ) (old : List ℕ)
     → preprocessed s (length rgb) h w room ≡ Preprocessed.Patches gh gw n
-    → resized s h * resized s w * 3 ≤ length old
+    → thOf s h w * twOf s h w * 3 ≤ length old
     → Undone s rgb h w gh gw old
 
 -- The same of what the calls leave: the count that preprocess reports is the length of its patches, the front of its
@@ -38,13 +38,13 @@ Undo = (s : PictureSettings) (rgb : List ℕ) (h w gh gw n room : ℕ) (old : Li
 pub record Returned (s : PictureSettings) (rgb : List ℕ) (h w gh gw n : ℕ) (out : List Float) (old : List ℕ) : Type 0 where
   pub count : n ≡ length (patchesOf s rgb h w)
   pub front : take n (patchesOut s rgb h w out) ≡ patchesOf s rgb h w
-  pub answer : restored s (take n (patchesOut s rgb h w out)) gh gw (length old) ≡ Restored.Picture (resized s h) (resized s w)
+  pub answer : restored s (take n (patchesOut s rgb h w out)) gh gw (length old) ≡ Restored.Picture (thOf s h w) (twOf s h w)
   pub output : bytesOut s (take n (patchesOut s rgb h w out)) gh gw old ≡ over (resizedBytes s rgb h w) old
 
 abbrev pub UndoCalls : Type 0
 UndoCalls = (s : PictureSettings) (rgb : List ℕ) (h w gh gw n : ℕ) (out : List Float) (old : List ℕ)
     → preprocessed s (length rgb) h w (length out) ≡ Preprocessed.Patches gh gw n
-    → resized s h * resized s w * 3 ≤ length old
+    → thOf s h w * twOf s h w * 3 ≤ length old
     → Returned s rgb h w gh gw n out old
 
 -- ---- 2. Where nothing was resized these are the sweep's own bytes

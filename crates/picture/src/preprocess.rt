@@ -6,9 +6,11 @@ use picture_limits::settings::settings_allowed;
 use picture_limits::settings::sides_allowed;
 use picture_patches::frame::resized_patches;
 ghost use mathlib.Core.Path.{_≡_};
-ghost use Prim.Native.Nat.{_≤_, _<_};
+ghost use mathlib.Core.Bool.{true};
+ghost use Prim.Native.Nat.{_≤_, _<_, max};
 ghost use lib.ListN.{length};
-ghost use Rattle.picture_limits.specs.Sides.{side};
+ghost use Rattle.picture_limits.specs.Settings.{allowed};
+ghost use Rattle.picture_limits.specs.Sides.{kept, side, resized};
 ghost use Rattle.picture.specs.Preprocess.{preprocessed, patchesOut, Numbered};
 
 // A side x rounded up to a multiple of a, cut to n, rounded down to a multiple of a.
@@ -21,6 +23,32 @@ fn side_of(a: usize, n: usize, x: usize) -> usize
         return up / a * a;
     }
     n / a * a
+}
+
+fn longer(h: usize, w: usize) -> usize
+    ensures { λ r. ⌜ r ≡ max h w ⌝ }
+{
+    if h <= w { w } else { h }
+}
+
+// A side x of a picture whose longer side is m, before the rounding to an image of size n.
+fn kept_side(rule: usize, n: usize, m: usize, x: usize) -> usize
+    requires { ⌜ (0 < m) × (n ≤ 2048) × (x ≤ 8192) ⌝ }
+    ensures { λ r. ⌜ r ≡ kept rule n m x ⌝ }
+{
+    if (rule == 2) & (n < m) {
+        return longer(1, x * n / m);
+    }
+    x
+}
+
+fn resized_side(s: PictureSettings, m: usize, x: usize) -> usize
+    requires { ⌜ (allowed s ≡ true) × (x ≤ m) × (0 < x) × (m ≤ 8192) ⌝ }
+    ensures { λ r. ⌜ r ≡ resized s m x ⌝ }
+{
+    let n = s.image_size;
+    let y = kept_side(s.resize_rule, n, m, x);
+    side_of(s.patch_size * s.spatial_merge_size, n, y)
 }
 
 // The patches of a picture, over the front of `out`.
@@ -50,8 +78,9 @@ pub fn pixtral_preprocess(
     if n < a {
         return Preprocessed::Refused(Refusal::ImageSize);
     }
-    let th = side_of(a, n, height);
-    let tw = side_of(a, n, width);
+    let m = longer(height, width);
+    let th = resized_side(s, m, height);
+    let tw = resized_side(s, m, width);
     let gh = th / p;
     let gw = tw / p;
     let floats = gh * gw * (3 * (p * p));

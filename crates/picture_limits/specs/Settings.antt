@@ -9,7 +9,7 @@ abbrev pub within : ℕ → ℕ → ℕ → Bool
 within low high x = leb low x && leb x high
 
 unfoldable pub allowed : PictureSettings → Bool
-allowed s = within 1 32 (s .«patch_size») && within 1 4 (s .«spatial_merge_size») && within 1 2048 (s .«image_size»)
+allowed s = within 1 32 (s .«patch_size») && within 1 4 (s .«spatial_merge_size») && within 1 2048 (s .«image_size») && within 1 2 (s .«resize_rule»)
 
 -- height and width
 abbrev pub sided : ℕ → ℕ → Bool

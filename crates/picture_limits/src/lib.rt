@@ -5,6 +5,7 @@ pub struct PictureSettings {
     pub patch_size: usize,
     pub spatial_merge_size: usize,
     pub image_size: usize,
+    pub resize_rule: usize,
 }
 
 // Why a call is refused, in the order of the paper's numbers, from 1 on.

@@ -35,7 +35,8 @@ pub fn settings_allowed(s: PictureSettings) -> bool
     let p = s.patch_size;
     let m = s.spatial_merge_size;
     let n = s.image_size;
-    (1 <= p) & (p <= 32) & ((1 <= m) & (m <= 4)) & ((1 <= n) & (n <= 2048))
+    let r = s.resize_rule;
+    (1 <= p) & (p <= 32) & ((1 <= m) & (m <= 4)) & ((1 <= n) & (n <= 2048)) & ((1 <= r) & (r <= 2))
 }
 
 // Height and width.

@@ -43,7 +43,7 @@ unfoldable pub placesFrom : Read → Places
 placesFrom r = cond (r .whole && smallOf (r .list)) (bothOf (r .list)) neither
 
 abbrev pub placesOf : List ℕ → Places
-placesOf line = placesFrom (readOf 23 line)
+placesOf line = placesFrom (readOf 24 line)
 
 -- the counts after each of the lines
 unfoldable pub tally : List ℕ → List (List ℕ) → List ℕ

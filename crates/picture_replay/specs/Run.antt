@@ -40,7 +40,7 @@ brought s l gh gw out = restored s l gh gw (length out)
 unfoldable pub backOf : PictureSettings → List Float → ℕ → ℕ → List ℕ → Back
 backOf s l gh gw out = backFrom (brought s l gh gw out) (byteHash (bytesLeft (brought s l gh gw out) (bytesOf s l gh gw) out))
 
--- ---- a record of 23 numbers
+-- ---- a record of 24 numbers
 
 -- the cells of a buffer: 64 × 64 pixels of three samples, and 64 more
 abbrev pub room : ℕ
@@ -50,7 +50,7 @@ abbrev pub at : List ℕ → ℕ → ℕ
 at v k = getD v k 0
 
 abbrev pub settingsOf : List ℕ → PictureSettings
-settingsOf v = record { «patch_size» = at v 0; «spatial_merge_size» = at v 1; «image_size» = at v 2 }
+settingsOf v = record { «patch_size» = at v 0; «spatial_merge_size» = at v 1; «image_size» = at v 2; «resize_rule» = at v 23 }
 
 abbrev pub rgbOf : List ℕ → List ℕ
 rgbOf v = bytes (seeded (at v 7)) (at v 5)

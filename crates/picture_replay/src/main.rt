@@ -1,13 +1,14 @@
 // Replays answers of the Rust against the crate `picture`, and writes how many calls agree, by the
 // number that they return, and how many do not.
 //
-// Standard input holds a record a line, 23 decimals with a tab between two. The first 8 ask for a
+// Standard input holds a record a line, 24 decimals with a tab between two. The first 8 ask for a
 // preprocess: patch, merge and image size, height, width, the RGB's length, the output's length and
 // the seed of the RGB; 5 are its answer: the number, grid_h, grid_w, the count of floats, and the
 // hash of the output afterwards. Then 6 ask for a restore of the floats just made: grid_h, grid_w,
 // the patches' length, the output's length, and a damage with its place; and 4 are its answer: the
-// number, height, width, and the hash of the output. `oracle/run target/staticlib picture --sample`
-// made the file stdin from the Rust alone.
+// number, height, width, and the hash of the output. The last is the resize rule of both calls.
+// `oracle/run target/staticlib picture --sample` made the file stdin from the Rust and, for rule 2, from
+// its request over the Rust's own resize.
 mod record;
 mod run;
 mod text;

@@ -16,7 +16,7 @@ pub struct Places {
     pub second: usize,
 }
 
-fn made_place(m: Made, v: &[usize; 23]) -> usize
+fn made_place(m: Made, v: &[usize; 24]) -> usize
     ensures { λ r. ⌜ (r ≡ madePlace m (now (v .entry))) × (r < 7) ⌝ }
 {
     let same = (m.number == v[8])
@@ -32,7 +32,7 @@ fn made_place(m: Made, v: &[usize; 23]) -> usize
     6
 }
 
-fn back_place(b: Back, v: &[usize; 23]) -> usize
+fn back_place(b: Back, v: &[usize; 24]) -> usize
     ensures { λ r. ⌜ (r ≡ backPlace b (now (v .entry))) × (r < 10) ⌝ }
 {
     let same = (b.number == v[19]) & (b.height == v[20]) & (b.width == v[21]) & (b.hash == v[22]);
@@ -80,7 +80,7 @@ fn bad(line: &[u8]) -> Places
 }
 
 // Whether the lengths of a record fit the buffers.
-fn small(v: &[usize; 23]) -> bool
+fn small(v: &[usize; 24]) -> bool
     ensures { λ r. ⌜ r ≡ smallOf (now (v .entry)) ⌝ }
 {
     (v[5] <= ROOM) & (v[6] <= ROOM) & (v[15] <= ROOM) & (v[16] <= ROOM)
@@ -89,7 +89,7 @@ fn small(v: &[usize; 23]) -> bool
 pub(crate) fn judge(line: &[u8]) -> Places
     ensures { λ r. ⌜ (r ≡ placesOf (now (line .entry))) × (r .first < 7) × (r .second < 10) ⌝ }
 {
-    let mut v = [0usize; 23];
+    let mut v = [0usize; 24];
     if !read_line(line, &mut v) {
         return bad(line);
     }

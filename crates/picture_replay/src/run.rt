@@ -1,4 +1,4 @@
-// A record's two calls. v holds its 23 numbers, in the order that main.rt lists.
+// A record's two calls. v holds its 24 numbers, in the order that main.rt lists.
 ghost use mathlib.Core.Path.{_≡_};
 ghost use Prim.Native.Nat.{_≤_};
 ghost use lib.ListN.{length};
@@ -81,18 +81,19 @@ fn bring(s: PictureSettings, patches: &[f32], grid_h: usize, grid_w: usize, out:
     }
 }
 
-fn settings(v: &[usize; 23]) -> PictureSettings
+fn settings(v: &[usize; 24]) -> PictureSettings
     ensures { λ r. ⌜ r ≡ settingsOf (now (v .entry)) ⌝ }
 {
     PictureSettings {
         patch_size: v[0],
         spatial_merge_size: v[1],
         image_size: v[2],
+        resize_rule: v[23],
     }
 }
 
 // The preprocess of a record, over the front of the cells.
-pub(crate) fn first(v: &[usize; 23], cells: &mut [f32]) -> Made
+pub(crate) fn first(v: &[usize; 24], cells: &mut [f32]) -> Made
     requires { ⌜ (at (now v) 5 ≤ room) × (at (now v) 6 ≤ length (now cells)) ⌝ }
     ensures answer { λ r. ⌜ r ≡ firstOf (now (v .entry)) (now (cells .entry)) ⌝ }
     ensures output { λ _. ⌜ now (cells .exit) ≡ cellsLeft (now (v .entry)) (now (cells .entry)) ⌝ }
@@ -105,7 +106,7 @@ pub(crate) fn first(v: &[usize; 23], cells: &mut [f32]) -> Made
 }
 
 // The restore of the cells that a record leaves, once they are damaged.
-pub(crate) fn second(v: &[usize; 23], cells: &mut [f32]) -> Back
+pub(crate) fn second(v: &[usize; 24], cells: &mut [f32]) -> Back
     requires { ⌜ (at (now v) 15 ≤ length (now cells)) × (at (now v) 16 ≤ room) ⌝ }
     ensures { λ r. ⌜ r ≡ secondOf (now (v .entry)) (now (cells .entry)) ⌝ }
 {

@@ -4,7 +4,7 @@ use mathlib.Core.Path.{_≡_, refl, ap, _∙_, subst}
 use mathlib.Core.Bool.{Bool, true, false, cond}
 use mathlib.Core.List.{List, [], _∷_, _++_}
 use mathlib.Core.Option.{Option, none, some, Option·some-injective, Option·none-ne-some}
-use Prim.Native.Nat.{ℕ, suc, _+_, _-_, _*_, _/_, _%_, _≤_, _<_}
+use Prim.Native.Nat.{ℕ, suc, _+_, _-_, _*_, _/_, _%_, _≤_, _<_, max}
 use native.Mathlib.Nat.{le-refl, mul-pos}
 use native.Mathlib.Omega.{arith}
 use borrow.Author.Tests.{ltb-false, leb-true}
@@ -19,7 +19,7 @@ use Rattle.picture_restore.specs.declared.Restored.{Restored}
 use Rattle.picture_restore.specs.declared.Restored.the-variants as R
 use Rattle.picture_limits.specs.Refusal.{number}
 use Rattle.picture_limits.specs.Settings.{align}
-use Rattle.picture_limits.specs.Sides.{resized, gridOf}
+use Rattle.picture_limits.specs.Sides.{thOf, twOf, gwOf}
 use Rattle.picture.specs.Preprocess.{floatsOf, preprocessed, resizedPixel, resizedBytes, patchesOf}
 use Rattle.picture_restore.specs.Restore.{restored, bytesOf}
 use Rattle.buffers.specs.Lent.{Bytes}
@@ -29,8 +29,9 @@ use Rattle.picture_limits.proofs.Shapes.{grid-side-says}
 use Rattle.picture_limits.proofs.Places.{times, length-picture}
 use Rattle.picture.proofs.Accepts.{acceptance}
 use Rattle.buffers.proofs.Bytes.{bytes-append, no-bytes, one-byte, bytes-tab, bytes-rows}
+use Rattle.picture.specs.Undo.{Unresized}
 use Rattle.picture.proofs.Spans.{spanned}
-use Rattle.picture.proofs.Undo.{back, own-bytes}
+use Rattle.picture.proofs.Undo.{back, own-bytes, sides-kept}
 use Rattle.number_floats.proofs.Unique.{one}
 use Rattle.unpatch_form.specs.Words.{word, _>>=_, onePiece, end, joined, behind}
 use Rattle.unpatch_form.specs.Decimal.{decimal}
@@ -178,7 +179,7 @@ pub record Printed (t : List ℕ) (gh gw m h w : ℕ) (bs : List ℕ) : Type 0 w
 module _ (t : List ℕ) (q : Request) (gh gw n : ℕ) (inside : form t ≡ some q)
     (call : preprocessed (settings q) (length (q .rgb)) (q .height) (q .width) (floatsOf (settings q) (q .height) (q .width)) ≡ P.Patches gh gw n) where
   -- an accepted picture: the resized one
-  pub printed : Printed t gh gw (q .merge) (resized (settings q) (q .height)) (resized (settings q) (q .width)) (resizedBytes (settings q) (q .rgb) (q .height) (q .width))
+  pub printed : Printed t gh gw (q .merge) (thOf (settings q) (q .height) (q .width)) (twOf (settings q) (q .height) (q .width)) (resizedBytes (settings q) (q .rgb) (q .height) (q .width))
   unfolding answer ran
   printed =
       let s = settings q in
@@ -187,23 +188,23 @@ module _ (t : List ℕ) (q : Request) (gh gw n : ℕ) (inside : form t ≡ some 
       let p = s .«patch_size» in
       let a = acceptance s (length (q .rgb)) h w (floatsOf s h w) gh gw n call in
       let d = sided-says h w (a .asks .sides) in
-      let tall = spanned s h (a .asks .settings) (a .asks .image) (d .0) in
-      let wide = spanned s w (a .asks .settings) (a .asks .image) (d .2) in
+      let tall = spanned s (max h w) h (a .asks .settings) (a .asks .image) (d .0) in
+      let wide = spanned s (max h w) w (a .asks .settings) (a .asks .image) (d .2) in
       let v = resizedPixel s (q .rgb) h w in
-      let low = byte-below (q .rgb) h w (resized s h) (resized s w) in
-      let bs = bytes-rows (resized s h) _ (λ y hy. bytes-rows (resized s w) _ (λ x hx. bytes-tab 3 _ (λ c hc. low y x c))) in
-      let gt : gh * p ≡ resized s h = ap (λ (k : ℕ). k * p) (a .tall) ∙ tall .span in
-      let gd : gw * p ≡ resized s w = ap (λ (k : ℕ). k * p) (a .wide) ∙ wide .span in
-      let fits : resized s h * resized s w * 3 ≤ gh * p * (gw * p) * 3 = rw (gt, gd) (le-refl (resized s h * resized s w * 3)) in
+      let low = byte-below (q .rgb) h w (thOf s h w) (twOf s h w) in
+      let bs = bytes-rows (thOf s h w) _ (λ y hy. bytes-rows (twOf s h w) _ (λ x hx. bytes-tab 3 _ (λ c hc. low y x c))) in
+      let gt : gh * p ≡ thOf s h w = ap (λ (k : ℕ). k * p) (a .tall) ∙ tall .span in
+      let gd : gw * p ≡ twOf s h w = ap (λ (k : ℕ). k * p) (a .wide) ∙ wide .span in
+      let fits : thOf s h w * twOf s h w * 3 ≤ gh * p * (gw * p) * 3 = rw (gt, gd) (le-refl (thOf s h w * twOf s h w * 3)) in
       let o = allowed-says s (a .asks .settings) in
-      let g = grid-side-says s (gridOf s w) (o .patch-low) (wide .allowed) in
+      let g = grid-side-says s (gwOf s h w) (o .patch-low) (wide .allowed) in
       let u = back s (q .rgb) h w gh gw n (floatsOf s h w) (gh * p * (gw * p) * 3) call fits in
       record {
         text =
             ap answered inside ∙ ap (preprocessedText s (q .rgb) h w) call
             ∙ ap (restoredText s gh gw (bytesOf s (patchesOf s (q .rgb) h w) gh gw)) (u .answer)
-            ∙ ap (λ (l : List ℕ). restoredText s gh gw l (R.Picture (resized s h) (resized s w))) (u .bytes);
-        read = rows-back (resized s h) (resized s w * 3) (resizedBytes s (q .rgb) h w) bs (omega (arith, wide .span, times 1 1 (gridOf s w) p (g .low) (o .patch-low))) (length-picture (resized s h) (resized s w) v);
+            ∙ ap (λ (l : List ℕ). restoredText s gh gw l (R.Picture (thOf s h w) (twOf s h w))) (u .bytes);
+        read = rows-back (thOf s h w) (twOf s h w * 3) (resizedBytes s (q .rgb) h w) bs (omega (arith, wide .span, times 1 1 (gwOf s h w) p (g .low) (o .patch-low))) (length-picture (thOf s h w) (twOf s h w) v);
       }
 
   -- where both sides are multiples of patch × merge and not above the image size, the bytes printed, joined, are the bytes
@@ -214,9 +215,10 @@ module _ (t : List ℕ) (q : Request) (gh gw n : ℕ) (inside : form t ≡ some 
       let s = settings q in
       let h = q .height in
       let w = q .width in
-      let o = allowed-says s (acceptance s (length (q .rgb)) h w (floatsOf s h w) gh gw n call .asks .settings) in
-      let a : 0 < align s = mul-pos (o .patch-low) (o .merge-low) in
-      let b = own-bytes s (q .rgb) h w gh gw n (floatsOf s h w) (form-bytes t q inside) call (record { tall = i; wide = j; tall-held = k; wide-held = l }) in
-      let c = subst (Printed t gh gw (q .merge) (resized s h) (resized s w)) b printed in
-      let d = subst (λ (x : ℕ). Printed t gh gw (q .merge) x (resized s w) (q .rgb)) (side-same (align s) (s .«image_size») h a i k) c in
-      subst (λ (x : ℕ). Printed t gh gw (q .merge) h x (q .rgb)) (side-same (align s) (s .«image_size») w a j l) d
+      let e = acceptance s (length (q .rgb)) h w (floatsOf s h w) gh gw n call .asks .settings in
+      let f : Unresized s h w = record { tall = i; wide = j; tall-held = k; wide-held = l } in
+      let a = sides-kept s h w e f in
+      let b = own-bytes s (q .rgb) h w gh gw n (floatsOf s h w) (form-bytes t q inside) call f in
+      let c = subst (Printed t gh gw (q .merge) (thOf s h w) (twOf s h w)) b printed in
+      let d = subst (λ (x : ℕ). Printed t gh gw (q .merge) x (twOf s h w) (q .rgb)) (a .0) c in
+      subst (λ (x : ℕ). Printed t gh gw (q .merge) h x (q .rgb)) (a .1) d

@@ -2,7 +2,7 @@
 use mathlib.Core.Path.{_≡_, refl}
 use mathlib.Core.Bool.{_&&_}
 use mathlib.Core.List.{List}
-use Prim.Native.Nat.{ℕ, _*_, _≤_}
+use Prim.Native.Nat.{ℕ, _*_, _≤_, max}
 use native.Mathlib.Nat.{le-refl, div-mul-le-self}
 use native.Mathlib.Omega.{arith}
 use borrow.Author.Tests.{le-leb}
@@ -18,7 +18,7 @@ use Rattle.picture.specs.declared.Preprocessed.the-variants as P
 use Rattle.picture_restore.specs.declared.Restored.{Restored}
 use Rattle.picture_restore.specs.declared.Restored.the-variants.{Picture, Refused}
 use Rattle.picture_limits.specs.Settings.{align, allowed}
-use Rattle.picture_limits.specs.Sides.{resized, gridOf}
+use Rattle.picture_limits.specs.Sides.{kept, resized, gridOf, ghOf, gwOf}
 use Rattle.picture_limits.specs.Places.{patchFloats}
 use Rattle.picture_limits.specs.Shape.{gridAllowed}
 use Rattle.picture.specs.Preprocess.{floatsOf, preprocessed, patchesOf}
@@ -38,13 +38,13 @@ unfolding preprocessed
 preprocess-room s len h w room e = rw (le-leb (floatsOf s h w) room e, le-leb (floatsOf s h w) (floatsOf s h w) (le-refl (floatsOf s h w))) refl
 
 -- a grid spans no more than the image size
-pub grid-span : (s : PictureSettings) (x : ℕ) → s .«image_size» ≤ 64 → gridOf s x * s .«patch_size» ≤ 64
-grid-span s x h = omega (arith, div-mul-le-self (resized s x) (s .«patch_size»), side-le (align s) (s .«image_size») x)
+pub grid-span : (s : PictureSettings) (l x : ℕ) → s .«image_size» ≤ 64 → gridOf s l x * s .«patch_size» ≤ 64
+grid-span s l x h = omega (arith, div-mul-le-self (resized s l x) (s .«patch_size»), side-le (align s) (s .«image_size») (kept (s .«resize_rule») (s .«image_size») l x))
 
 pub floats-le : (s : PictureSettings) (h w : ℕ) → s .«image_size» ≤ 64 → floatsOf s h w ≤ 12288
 floats-le s h w e =
     let p = s .«patch_size» in
-    omega (arith, times (gridOf s h * p) (gridOf s w * p) 64 64 (grid-span s h e) (grid-span s w e))
+    omega (arith, times (ghOf s h w * p) (gwOf s h w * p) 64 64 (grid-span s (max h w) h e) (grid-span s (max h w) w e))
 
 -- as much as the local arrays have
 pub bytes-fit : (p gh gw : ℕ) → gh * p ≤ 64 → gw * p ≤ 64 → gh * p * (gw * p) * 3 ≤ length (replicate {A = ℕ} 12288 0)
@@ -123,4 +123,4 @@ ran-short s rgb h w i = go (preprocessed s (length rgb) h w (floatsOf s h w)) re
     go (P.Refused r) e = refused-short r
     go (P.Patches gh gw n) e =
         let t = acceptance s (length rgb) h w (floatsOf s h w) gh gw n e in
-        restored-short s (patchesOf s rgb h w) gh gw (rw (t .tall) (grid-span s h i)) (rw (t .wide) (grid-span s w i)) (bytesOf s (patchesOf s rgb h w) gh gw) (gh * s .«patch_size» * (gw * s .«patch_size») * 3)
+        restored-short s (patchesOf s rgb h w) gh gw (rw (t .tall) (grid-span s (max h w) h i)) (rw (t .wide) (grid-span s (max h w) w i)) (bytesOf s (patchesOf s rgb h w) gh gw) (gh * s .«patch_size» * (gw * s .«patch_size») * 3)

@@ -18,7 +18,7 @@ use Rattle.unpatch_form.specs.Form.{Request, form}
 use Rattle.unpatch_text.specs.Print.{refusedLine, outsideLine, gridLine, rowLines}
 
 abbrev pub settings : Request → PictureSettings
-settings q = record { «patch_size» = q .patch; «spatial_merge_size» = q .merge; «image_size» = q .image }
+settings q = record { «patch_size» = q .patch; «spatial_merge_size» = q .merge; «image_size» = q .image; «resize_rule» = 1 }
 
 -- the restored bytes of a grid's patches, by what restore answers
 abbrev pub restoredText : PictureSettings → ℕ → ℕ → List ℕ → Restored → List ℕ

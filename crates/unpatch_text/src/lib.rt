@@ -37,6 +37,7 @@ pub fn unpatch(input: &[u8], out: &mut [u8]) -> usize
                 patch_size: patch,
                 spatial_merge_size: merge,
                 image_size: image,
+                resize_rule: 1,
             };
             run(s, &rgb[..bytes], height, width, out)
         }

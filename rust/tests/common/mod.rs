@@ -29,8 +29,8 @@ impl Random {
     }
 
     pub fn picture(&mut self) -> PictureSettings {
-        let (patch_size, spatial_merge_size) = (self.from(1, 9), self.from(1, 4));
-        PictureSettings { patch_size, spatial_merge_size, image_size: self.from(1, 90) }
+        let settings = PictureSettings::new(self.from(1, 9), self.from(1, 4), self.from(1, 90));
+        PictureSettings { resize_rule: self.from(1, 2), ..settings }
     }
 
     pub fn encoder(&mut self) -> EncoderSettings {

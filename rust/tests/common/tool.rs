@@ -119,6 +119,6 @@ pub fn plain(floats: &[f32]) -> Vec<u8> {
 
 /// The tests' model: small in everything.
 pub const LIST: &str = "--settings patch=2,merge=2,image=16,hidden=8,heads=2,layers=1,intermediate=5,text=3";
-pub const TINY: PictureSettings = PictureSettings { patch_size: 2, spatial_merge_size: 2, image_size: 16 };
+pub const TINY: PictureSettings = PictureSettings::new(2, 2, 16);
 pub const WEIGHTS: usize = 8 * 12 + 8 + (2 * 8 + 4 * 64 + 3 * 8 * 5) + 8 + 8 * 32 + 3 * 8 + 9;
 pub const TABLE: usize = 8 * 8 * 4;

@@ -79,7 +79,7 @@ fn alone(given: &Given) -> Result<(), Fail> {
     let model = Model::read(given)?;
     let s = model.settings;
     say(format_args!(
-        "hidden {}, {} heads of {}, {} layers, intermediate {}, text {}, patch {}, merge {}, image {}",
+        "hidden {}, {} heads of {}, {} layers, intermediate {}, text {}, patch {}, merge {}, image {}, rule {}",
         s.hidden_size,
         s.num_heads,
         s.head_dim,
@@ -88,7 +88,8 @@ fn alone(given: &Given) -> Result<(), Fail> {
         s.text_hidden_size,
         s.picture.patch_size,
         s.picture.spatial_merge_size,
-        s.picture.image_size
+        s.picture.image_size,
+        s.picture.resize_rule
     ));
     say(format_args!("{:<11} {:<9} {:<11} {:>11} {:>17} {:>7}", "picture", "patches", "call", "time", "rate", "share"));
     let sizes = asked.map_or(vec![(280, 280), (490, 650), (1540, 1540)], |size| vec![size]);

@@ -1,6 +1,6 @@
 //! `kz compare`: which patches of two sweeps are equal.
 
-use crate::encode::Cutter;
+use crate::encode::{by_rule, Cutter};
 use crate::fail::Fail;
 use crate::given::Given;
 use crate::netpbm::{ppm, Picture};
@@ -13,10 +13,12 @@ pub const HELP: &str = "\
 kz compare A.ppm B.ppm [-o OUT.png] [--settings LIST] [--force]
 
 Says how many patches of A and B are equal, bit for bit, and which is the
-first that is not. With -o it writes a picture of A in which the patches
-that differ are red (PPM, if OUT ends in .ppm). Exit status 0 whether they
-differ or not, 1 where that cannot be said on standard output. Of --settings
-(`kz encode --help`) patch, merge and image are used.
+first that is not. Both are resized first, by the rule of --settings; where a
+side is above image, the answer names the rule. Sweeps archived before there
+was a choice were cut by rule 1. With -o it writes a picture of A, resized, in
+which the patches that differ are red (PPM, if OUT ends in .ppm). Exit status
+0 whether they differ or not, 1 where that cannot be said on standard output.
+Of --settings (`kz encode --help`) patch, merge, image and rule are used.
 ";
 
 const LARGER: &str = "give a larger patch= or a smaller image= in --settings";
@@ -31,8 +33,8 @@ pub fn run(given: &Given) -> Result<(), Fail> {
     }
     let settings = given.settings()?.picture;
     let (mut first, mut second) = (Cutter::default(), Cutter::default());
-    let grid = first.cut(a, &settings)?;
-    let other = second.cut(b, &settings)?;
+    let (grid, of_a) = first.cut(a, &settings)?;
+    let (other, of_b) = second.cut(b, &settings)?;
     if grid != other {
         let (a, b) = (shown(a), shown(b));
         return Err(Fail::Refused(format!(
@@ -51,7 +53,8 @@ pub fn run(given: &Given) -> Result<(), Fail> {
         Some(i) => format!("; the first that differs is at row {}, column {} (from 0)", i / grid.1, i % grid.1),
         None => String::new(),
     };
-    answer(format_args!("{equal} of {count} patches are equal{tail}"))?;
+    let rule = by_rule(of_a.or(of_b));
+    answer(format_args!("{equal} of {count} patches are equal{tail}{rule}"))?;
     if let Some(out) = out {
         drop(second);
         let mut rgb =

@@ -7,6 +7,7 @@ use crate::netpbm::{ppm, Picture};
 use crate::png::png;
 use crate::shown::shown;
 use crate::{files, paint, room, say, sweep};
+use kyzgultam::PictureSettings;
 use std::path::PathBuf;
 use std::time::Instant;
 
@@ -22,10 +23,28 @@ Writes to DIR (kz-demo, if -o is not given):
   restored.png    what restore makes of the patches: identical, and checked
   similarity.png  how alike each token is to the centre token (cosine)
   overview.png    resized, restored and similarity, side by side
+  rules.png       a panoramic sweep as each resize rule has it: squashed by
+                  rule 1, and below in its shape by rule 2
+  panorama.ppm    that sweep, to try --settings image=560,rule=2 on
 
 The model's weights come from a seed and were never trained: what is alike
 here is brightness and texture.
 ";
+
+/// Sides of the panoramic sweep, and an image size that leaves a third of each where the shape is kept.
+const PANORAMA: (usize, usize) = (420, 1680);
+const THIRD: usize = 560;
+
+const NAMES: [&str; 8] = [
+    "sweep.png",
+    "sweep.ppm",
+    "resized.png",
+    "restored.png",
+    "similarity.png",
+    "overview.png",
+    "panorama.ppm",
+    "rules.png",
+];
 
 const AGAIN: &str = "try it again where there is more";
 
@@ -35,8 +54,7 @@ pub fn run(given: &Given) -> Result<(), Fail> {
     }
     let folder = given.path("-o").unwrap_or(PathBuf::from("kz-demo"));
     files::folder(&folder)?;
-    let names = ["sweep.png", "sweep.ppm", "resized.png", "restored.png", "similarity.png", "overview.png"];
-    for name in names {
+    for name in NAMES {
         files::vacant(&folder.join(name), given.force)?;
     }
     let write = |name: &str, picture: &Picture, words: String| {
@@ -85,6 +103,18 @@ pub fn run(given: &Given) -> Result<(), Fail> {
     write("similarity.png", &heat, words)?;
     let words = "resized, restored and similarity, side by side".into();
     write("overview.png", &paint::strip(&[&resized, &restored, &heat]), words)?;
+
+    let panorama = sweep::panorama(PANORAMA.0, PANORAMA.1, 20);
+    let words = format!("{}x{}, a panoramic sweep, made from a seed", panorama.height, panorama.width);
+    write("panorama.ppm", &panorama, words)?;
+    let by = |resize_rule| back_again(&panorama, &PictureSettings { image_size: THIRD, resize_rule, ..settings });
+    let (squashed, kept) = (by(1)?, by(2)?);
+    let sides = |picture: &Picture| format!("{}x{}", picture.height, picture.width);
+    let (one, two) = (sides(&squashed), sides(&kept));
+    let words = format!("for image={THIRD}: by rule 1 {one}, squashed; by rule 2 {two}, in its shape");
+    let rules = paint::stack(&[("rule 1 squashes", &squashed), ("rule 2 keeps the shape", &kept)]);
+    write("rules.png", &rules, words)?;
+
     let ms = |t: std::time::Duration| t.as_secs_f64() * 1e3;
     say(format_args!(
         "preprocess {:.1} ms, forward {:.0} ms, restore {:.1} ms, on one core",
@@ -95,7 +125,21 @@ pub fn run(given: &Given) -> Result<(), Fail> {
     if restored.rgb != resized.rgb {
         return Err(Fail::file(&folder.join("restored.png"), "is not as resized.png: this is a fault, report it"));
     }
+    if [squashed, kept].iter().any(|by| by.rgb != resize(&panorama, by.height, by.width).rgb) {
+        return Err(Fail::file(&folder.join("rules.png"), "is not as plain Rust resizes: this is a fault, report it"));
+    }
     Ok(())
+}
+
+/// A sweep as it is resized by these settings: what its patches bring back.
+fn back_again(sweep: &Picture, settings: &PictureSettings) -> Result<Picture, Fail> {
+    let floats = settings.patches_len(sweep.height, sweep.width).map_err(refused_settings)?;
+    let mut patches = room::zeros(floats, "the patches", AGAIN).map_err(Fail::Refused)?;
+    let mut rgb = room::zeros(floats, "the restored sweep", AGAIN).map_err(Fail::Refused)?;
+    let cut = kyzgultam::pixtral_preprocess(&sweep.rgb, sweep.height, sweep.width, settings, &mut patches);
+    let cut = cut.map_err(refused_settings)?;
+    let size = kyzgultam::restore(&patches, cut.grid_h, cut.grid_w, settings, &mut rgb).map_err(refused_settings)?;
+    Ok(Picture { height: size.height, width: size.width, rgb })
 }
 
 /// The cosine of each token to one of them.

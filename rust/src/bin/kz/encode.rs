@@ -27,6 +27,12 @@ goes on with --skip-existing, which takes files that are there for done.
   merge 2 (1..4)     heads 4 (1..64)      intermediate 128 (1..8192)
   image 1540         head: hidden / heads text 64 (1..8192)
     (1..2048)          (4, 8 .. 256)      scale: 1 / root of head
+  rule 1 (1, 2)
+The rule is how a sweep is resized. 1, as in the Rust and in all that was
+archived before there was a choice, cuts each side to image by itself and so
+squashes a sweep that is longer; 2 keeps its shape. Where a side is above
+image, what is said of a file names the rule. The file does not, so go on
+with --skip-existing by the rule that the list was begun with.
 ";
 
 pub const PATCHES: &str = "\
@@ -36,7 +42,9 @@ Writes the patches of each SWEEP (P5 or P6) to DIR/SWEEP.patches.npy, an array
 of NumPy: grid rows x grid columns x 3 patch^2, a patch's samples by channel,
 row and column. `kz restore` brings the picture back. A list that was cut off
 goes on with --skip-existing, which takes files that are there for done. Of
---settings (`kz encode --help`) patch, merge and image are used.
+--settings (`kz encode --help`) patch, merge, image and rule are used. Where a
+side of a sweep is above image, what is said of its file names the rule. The
+file does not, so go on by the rule that the list was begun with.
 ";
 
 /// Patches of one picture after another, in one buffer.
@@ -45,9 +53,16 @@ pub struct Cutter {
     pub patches: Vec<f32>,
 }
 
+/// A grid, and, where a side was above the image size, the rule that resized the picture: elsewhere they are alike.
+type Cut = ((usize, usize), Option<usize>);
+
+pub fn by_rule(rule: Option<usize>) -> String {
+    rule.map_or(String::new(), |rule| format!("; resized by rule {rule}"))
+}
+
 impl Cutter {
-    /// Reads a picture and cuts it: the grid, and the patches in the buffer.
-    pub fn cut(&mut self, file: &Path, settings: &PictureSettings) -> Result<(usize, usize), Fail> {
+    /// Reads a picture and cuts it: the patches are in the buffer.
+    pub fn cut(&mut self, file: &Path, settings: &PictureSettings) -> Result<Cut, Fail> {
         let picture = netpbm::read(file)?;
         let (height, width) = (picture.height, picture.width);
         let refused = |refusal| match refusal {
@@ -60,7 +75,8 @@ impl Cutter {
         let room = room::fit(&mut self.patches, floats, &what, "give a smaller image= in --settings");
         room.map_err(|words| Fail::file(file, words))?;
         let cut = pixtral_preprocess(&picture.rgb, height, width, settings, &mut self.patches).map_err(refused)?;
-        Ok((cut.grid_h, cut.grid_w))
+        let long = height.max(width) > settings.image_size;
+        Ok(((cut.grid_h, cut.grid_w), long.then_some(settings.resize_rule)))
     }
 }
 
@@ -70,13 +86,14 @@ pub fn encode(given: &Given) -> Result<(), Fail> {
     let (merge, text) = (model.settings.picture.spatial_merge_size, model.settings.text_hidden_size);
     let (mut cutter, mut lent) = (Cutter::default(), Lent::default());
     list.each(text, |file, out| {
-        let grid = cutter.cut(file, &model.settings.picture)?;
+        let (grid, rule) = cutter.cut(file, &model.settings.picture)?;
         model.lend(grid, &mut lent).map_err(|words| Fail::file(file, words))?;
         let done = model.forward(&cutter.patches, grid, &mut lent);
         done.map_err(|refusal| Fail::call(file, refusal, model.advice(refusal)))?;
         let shape = [grid.0 / merge, grid.1 / merge, text];
         write(out, given.force, shape, &lent.tokens)?;
-        Ok(format!("{}: {}x{} tokens of {text} floats", shown(out), shape[0], shape[1]))
+        let rule = by_rule(rule);
+        Ok(format!("{}: {}x{} tokens of {text} floats{rule}", shown(out), shape[0], shape[1]))
     })
 }
 
@@ -87,9 +104,10 @@ pub fn patches(given: &Given) -> Result<(), Fail> {
     let floats = 3 * settings.patch_size.pow(2);
     let mut cutter = Cutter::default();
     list.each(floats, |file, out| {
-        let grid = cutter.cut(file, &settings)?;
+        let (grid, rule) = cutter.cut(file, &settings)?;
         write(out, given.force, [grid.0, grid.1, floats], &cutter.patches)?;
-        Ok(format!("{}: {}x{} patches of {floats} floats", shown(out), grid.0, grid.1))
+        let rule = by_rule(rule);
+        Ok(format!("{}: {}x{} patches of {floats} floats{rule}", shown(out), grid.0, grid.1))
     })
 }
 

@@ -122,6 +122,7 @@ impl Given {
                 "patch" => s.picture.patch_size = number,
                 "merge" => s.picture.spatial_merge_size = number,
                 "image" => s.picture.image_size = number,
+                "rule" => s.picture.resize_rule = number,
                 "hidden" => s.hidden_size = number,
                 "heads" => s.num_heads = number,
                 "head" => head = Some(number),
@@ -138,12 +139,12 @@ impl Given {
     }
 }
 
-const KEYS: &str = "a list of KEY=NUMBER, parted by commas; keys: patch merge image hidden heads head layers \
+const KEYS: &str = "a list of KEY=NUMBER, parted by commas; keys: patch merge image rule hidden heads head layers \
                     intermediate text scale";
 
 /// The model that is built in.
 pub const SMALL: EncoderSettings = EncoderSettings {
-    picture: PictureSettings { patch_size: 14, spatial_merge_size: 2, image_size: 1540 },
+    picture: PictureSettings::new(14, 2, 1540),
     hidden_size: 64,
     num_heads: 4,
     head_dim: 16,

@@ -83,3 +83,40 @@ pub fn strip(pictures: &[&Picture]) -> Picture {
     }
     Picture { height, width: across, rgb }
 }
+
+/// The letters and digits of labels, five by seven: a number a row, its highest bit at the left.
+const SIGNS: [(char, [u8; 7]); 13] = [
+    ('1', [0b00100, 0b01100, 0b00100, 0b00100, 0b00100, 0b00100, 0b01110]),
+    ('2', [0b01110, 0b10001, 0b00001, 0b00110, 0b01000, 0b10000, 0b11111]),
+    ('a', [0, 0, 0b01110, 0b00001, 0b01111, 0b10001, 0b01111]),
+    ('e', [0, 0, 0b01110, 0b10001, 0b11111, 0b10000, 0b01110]),
+    ('h', [0b10000, 0b10000, 0b10110, 0b11001, 0b10001, 0b10001, 0b10001]),
+    ('k', [0b10000, 0b10000, 0b10010, 0b10100, 0b11000, 0b10100, 0b10010]),
+    ('l', [0b01100, 0b00100, 0b00100, 0b00100, 0b00100, 0b00100, 0b01110]),
+    ('p', [0, 0, 0b11110, 0b10001, 0b11110, 0b10000, 0b10000]),
+    ('q', [0, 0, 0b01101, 0b10011, 0b01111, 0b00001, 0b00001]),
+    ('r', [0, 0, 0b10110, 0b11001, 0b10000, 0b10000, 0b10000]),
+    ('s', [0, 0, 0b01111, 0b10000, 0b01110, 0b00001, 0b11110]),
+    ('t', [0b01000, 0b01000, 0b11100, 0b01000, 0b01000, 0b01001, 0b00110]),
+    ('u', [0, 0, 0b10001, 0b10001, 0b10001, 0b10011, 0b01101]),
+];
+
+/// Pictures of one width under each other, each below its label, whose other signs stay blank.
+pub fn stack(pictures: &[(&str, &Picture)]) -> Picture {
+    const BAND: usize = 26;
+    let width = pictures[0].1.width;
+    let mut rgb = vec![];
+    for (label, picture) in pictures {
+        let signs: Vec<_> = label.chars().map(|c| SIGNS.iter().find(|(sign, _)| *sign == c)).collect();
+        // A dot of a sign is two by two pixels, and a sign is six dots apart from the next.
+        let ink = |y: usize, x: usize| {
+            let (row, column) = (y.checked_sub(6)? / 2, x.checked_sub(4)? / 2);
+            let (_, rows) = signs.get(column / 6).copied().flatten()?;
+            (rows.get(row)? << (column % 6) & 0b10000 != 0).then_some(0)
+        };
+        let band = (0..BAND * width).map(|k| ink(k / width, k % width).unwrap_or(255));
+        rgb.extend(band.flat_map(|grey| [grey; 3]));
+        rgb.extend(&picture.rgb);
+    }
+    Picture { height: rgb.len() / 3 / width, width, rgb }
+}

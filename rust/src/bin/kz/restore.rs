@@ -20,6 +20,7 @@ cut. A .npy file, as `kz patches` writes it, says its grid itself: its shape
 is grid rows x grid columns x 3 patch^2, and another is refused. A file of
 plain floats (f32, little-endian) needs --grid. --settings are to be those
 that the patches were cut with: patch, merge and image (`kz encode --help`).
+The resize rule may be left out: the grid says which sides it gave.
 ";
 
 pub fn run(given: &Given) -> Result<(), Fail> {

@@ -1,4 +1,4 @@
-//! A synthetic ultrasound-like sweep: a fan of beams over layered tissue, with cysts, a stone and its shadow.
+//! Synthetic ultrasound-like sweeps: beams over layered tissue, with cysts, a stone and its shadow.
 
 use crate::model::Random;
 use crate::netpbm::Picture;
@@ -13,8 +13,10 @@ const NEAR: f32 = 0.16;
 const FAR: f32 = 1.09;
 const APEX: f32 = -0.11;
 
+/// A fan of beams.
 pub fn sweep(height: usize, width: usize, seed: u64) -> Picture {
-    let beams = beams(seed);
+    let part = |i: usize, n: usize| i as f32 / (n - 1) as f32;
+    let beams = beams(DEPTH, BEAMS, seed, |i, j| tissue(part(i, DEPTH), part(j, BEAMS)));
     let mut rgb = Vec::with_capacity(height * width * 3);
     for y in 0..height {
         for x in 0..width {
@@ -29,6 +31,14 @@ pub fn sweep(height: usize, width: usize, seed: u64) -> Picture {
         }
     }
     Picture { height, width, rgb }
+}
+
+/// A panoramic sweep, a beam a column: the probe was drawn along the skin. Its cysts are circles.
+pub fn panorama(height: usize, width: usize, seed: u64) -> Picture {
+    let part = |i: usize| (i as f32 + 0.5) / height as f32;
+    let beams = beams(height, width, seed, |i, j| along_the_skin(part(i), part(j)));
+    let pixels = (0..height * width).map(|k| beams[k % width * height + k / width]);
+    Picture { height, width, rgb: pixels.flat_map(|grey| [grey.round() as u8; 3]).collect() }
 }
 
 /// Depth and beam of a place, each from 0 to 1.
@@ -47,15 +57,15 @@ fn between(beams: &[f32], d: f32, b: f32) -> f32 {
     upper * (1.0 - u) + lower * u
 }
 
-/// The beams' brightness, 0 to 255: speckle, scaled by what the tissue sends back, on a logarithmic scale.
-fn beams(seed: u64) -> Vec<f32> {
-    let (real, imaginary) = (field(seed), field(seed + 1));
-    let mut beams = Vec::with_capacity(BEAMS * DEPTH);
-    for j in 0..BEAMS {
-        for i in 0..DEPTH {
-            let (d, b) = (i as f32 / (DEPTH - 1) as f32, j as f32 / (BEAMS - 1) as f32);
-            let k = j * DEPTH + i;
-            let echo = real[k].hypot(imaginary[k]) * tissue(d, b);
+/// The beams' brightness, 0 to 255: speckle, scaled by what the tissue sends back at sample i of beam j, on a
+/// logarithmic scale.
+fn beams(depth: usize, count: usize, seed: u64, tissue: impl Fn(usize, usize) -> f32) -> Vec<f32> {
+    let (real, imaginary) = (field(depth, count, seed), field(depth, count, seed + 1));
+    let mut beams = Vec::with_capacity(count * depth);
+    for j in 0..count {
+        for i in 0..depth {
+            let k = j * depth + i;
+            let echo = real[k].hypot(imaginary[k]) * tissue(i, j);
             beams.push((168.0 + 82.0 * (echo + 1e-4).log10()).clamp(0.0, 255.0));
         }
     }
@@ -63,10 +73,10 @@ fn beams(seed: u64) -> Vec<f32> {
 }
 
 /// Noise, spread along and above all across the beams as a lens spreads it; its size is 1 in the mean.
-fn field(seed: u64) -> Vec<f32> {
+fn field(depth: usize, count: usize, seed: u64) -> Vec<f32> {
     let mut random = Random::new(seed);
-    let mut noise: Vec<f32> = (0..BEAMS * DEPTH).map(|_| (0..3).map(|_| random.float()).sum()).collect();
-    for (step, spread) in [(1, 2), (DEPTH, 2), (1, 1), (DEPTH, 1)] {
+    let mut noise: Vec<f32> = (0..count * depth).map(|_| (0..3).map(|_| random.float()).sum()).collect();
+    for (step, spread) in [(1, 2), (depth, 2), (1, 1), (depth, 1)] {
         noise = (0..noise.len()).map(|k| near(&noise, k, step, spread)).collect();
     }
     let size = (noise.iter().map(|x| x * x).sum::<f32>() / noise.len() as f32).sqrt();
@@ -112,18 +122,48 @@ fn tissue(d: f32, b: f32) -> f32 {
     echo *= if d < 0.10 { 1.5 } else { 1.0 };
     echo *= 1.0 - 0.75 * rise(d, 0.87, 0.02);
     for cyst in &CYSTS {
-        let (u, v) = ((d - cyst.d) / cyst.along, (b - cyst.b) / cyst.across);
-        let edge = u.hypot(v);
-        // Fluid sends nothing back; the wall does, most where the beam meets it squarely; more comes from behind.
-        echo *= 0.03 + 0.97 * rise(edge, 1.0, 0.05);
-        echo += 1.6 * bump(edge, 1.03, 0.05) * (u / edge.max(0.1)).powi(2);
-        echo *= 1.0 + 0.9 * (1.0 - rise(v.abs(), 0.85, 0.2)) * rise(u, 1.0, 0.1) * (1.0 - rise(u, 4.0, 1.5));
+        echo = cystic(echo, (d - cyst.d) / cyst.along, (b - cyst.b) / cyst.across);
     }
-    // A stone: a bright cap, and a shadow to the end of the fan.
-    let (u, v) = ((d - 0.40) / 0.020, (b - 0.60) / 0.030);
+    stony(echo, (d - 0.40) / 0.020, (b - 0.60) / 0.030) * (-0.55 * d).exp()
+}
+
+/// What a cyst makes of the echo at a place, which is counted from its centre in its half-axes along and across.
+fn cystic(mut echo: f32, u: f32, v: f32) -> f32 {
+    let edge = u.hypot(v);
+    // Fluid sends nothing back; the wall does, most where the beam meets it squarely; more comes from behind.
+    echo *= 0.03 + 0.97 * rise(edge, 1.0, 0.05);
+    echo += 1.6 * bump(edge, 1.03, 0.05) * (u / edge.max(0.1)).powi(2);
+    echo * (1.0 + 0.9 * (1.0 - rise(v.abs(), 0.85, 0.2)) * rise(u, 1.0, 0.1) * (1.0 - rise(u, 4.0, 1.5)))
+}
+
+/// What a stone makes of the echo at a place, counted likewise: a bright cap, and a shadow to the end of the beam.
+fn stony(mut echo: f32, u: f32, v: f32) -> f32 {
     echo += 7.0 * bump(u - v * v, 0.0, 0.5) * (1.0 - rise(v.abs(), 1.0, 0.1));
-    echo *= 1.0 - 0.93 * (1.0 - rise(v.abs(), 0.85, 0.12)) * rise(u, 1.2, 0.6);
-    echo * (-0.55 * d).exp()
+    echo * (1.0 - 0.93 * (1.0 - rise(v.abs(), 0.85, 0.12)) * rise(u, 1.2, 0.6))
+}
+
+/// The cysts of a panoramic sweep: depth, place along the skin and radius, in heights of the picture.
+const ROUND: [(f32, f32, f32); 4] = [(0.54, 0.55, 0.20), (0.44, 1.42, 0.11), (0.53, 2.32, 0.22), (0.49, 3.50, 0.15)];
+
+/// How much the tissue of a panoramic sweep sends back at a depth and a place along the skin, in heights of the picture.
+fn along_the_skin(d: f32, x: f32) -> f32 {
+    let mut echo = 0.42 * (1.0 + 0.3 * (x * 2.9 + 5.0 * d).sin() * (x * 1.3 - 4.0 * d).sin());
+    echo += 3.5 * bump(d, 0.012, 0.012);
+    for (depth, wave, phase, thick, bright) in [
+        (0.10, 0.008, 0.7, 0.009, 2.2),
+        (0.16, 0.012, 1.6, 0.006, 0.9),
+        (0.23, 0.016, 2.1, 0.010, 1.6),
+        (0.86, 0.030, 4.0, 0.014, 3.0),
+    ] {
+        let at = depth + wave * (x * 2.3 + phase).sin();
+        echo += bright * bump(d, at, thick) * (0.7 + 0.3 * (x * 7.0 + phase * 5.0).sin());
+    }
+    echo *= if d < 0.10 { 1.5 } else { 1.0 };
+    echo *= 1.0 - 0.75 * rise(d, 0.91, 0.03);
+    for (depth, at, radius) in ROUND {
+        echo = cystic(echo, (d - depth) / radius, (x - at) / radius);
+    }
+    stony(echo, (d - 0.42) / 0.025, (x - 2.98) / 0.075) * (-0.55 * d).exp()
 }
 
 /// 1 at a place, falling off within a width.

@@ -12,8 +12,14 @@ element-copy-out-t8 c = search needs
 element-copy-out-t11 : tie.Need-element-copy-out-t11
 element-copy-out-t11 c = search needs
 
+element-copy-out-t14 : tie.Need-element-copy-out-t14
+element-copy-out-t14 c = search needs
+
 element-copy-out-t5-2 : tie.Need-element-copy-out-t5-2
 element-copy-out-t5-2 c = search needs
+
+element-copy-out-t14-2 : tie.Need-element-copy-out-t14-2
+element-copy-out-t14-2 c = search needs
 
 element-copy-out-t11-2 : tie.Need-element-copy-out-t11-2
 element-copy-out-t11-2 c = search needs
@@ -21,14 +27,11 @@ element-copy-out-t11-2 c = search needs
 element-copy-out-t8-2 : tie.Need-element-copy-out-t8-2
 element-copy-out-t8-2 c = search needs
 
-element-copy-out-t20 : tie.Need-element-copy-out-t20
-element-copy-out-t20 c = search needs
+element-copy-out-t25 : tie.Need-element-copy-out-t25
+element-copy-out-t25 c = search needs
 
-element-copy-out-t23 : tie.Need-element-copy-out-t23
-element-copy-out-t23 c = search needs
-
-element-copy-out-t26 : tie.Need-element-copy-out-t26
-element-copy-out-t26 c = search needs
+element-copy-out-t28 : tie.Need-element-copy-out-t28
+element-copy-out-t28 c = search needs
 
 element-copy-out-f32-of-bits : tie.Need-element-copy-out-f32-of-bits
 element-copy-out-f32-of-bits c = search needs
@@ -49,12 +52,13 @@ settings-spec =
     element-copy-out-t5
     element-copy-out-t8
     element-copy-out-t11
+    element-copy-out-t14
     element-copy-out-t5-2
+    element-copy-out-t14-2
     element-copy-out-t11-2
     element-copy-out-t8-2
-    element-copy-out-t20
-    element-copy-out-t23
-    element-copy-out-t26
+    element-copy-out-t25
+    element-copy-out-t28
     element-copy-out-f32-of-bits
     cast-f32-of-bits
     f32-of-bits-requires

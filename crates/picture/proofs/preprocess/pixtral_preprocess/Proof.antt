@@ -2,14 +2,14 @@
 use mathlib.Core.Path.{_≡_, refl, sym, ap, _∙_}
 use mathlib.Core.Bool.{true, false, _&&_}
 use Prim.Native.Nat.{ℕ, _+_, _*_, _/_, _≤_, _<_}
-use native.Mathlib.Nat.{mul-assoc, div-mul-le-self}
+use native.Mathlib.Nat.{mul-assoc, div-mul-le-self, le-max-left, le-max-right, max-le}
 use native.Mathlib.Omega.{arith}
 use borrow.Author.Needs.{needs}
 use borrow.Author.Tests.{not-true, not-false, eq-eqb, ne-eqb, le-leb, lt-leb, eqb-true}
 use lib.ListN.{length}
 use Rattle.buffers.specs.Region.{over}
 use Rattle.picture_limits.specs.Settings.{allowed, sided, align}
-use Rattle.picture_limits.specs.Sides.{resized, gridOf}
+use Rattle.picture_limits.specs.Sides.{kept, resized, thOf}
 use Rattle.picture_limits.specs.Places.{patchFloats}
 use Rattle.picture.specs.Preprocess.{floatsOf, preprocessed}
 use Rattle.picture.proofs.Accepts.{Accepts, accepted, written}
@@ -33,30 +33,30 @@ known : (c : tie.Else1) → Allowed (c .before .before .before .before .args .s 
 known c = allowed-says (c .before .before .before .before .args .s) (settings c)
 
 -- the grid's sides
-tall : (c : tie.After-side-of2) → Spans (c .before .side-of .result / c .before .before .before .before .before .before .before .before .before .before .before .args .s .«patch_size») (c .before .before .before .before .before .before .before .before .before .before .before .args .s .«patch_size»)
+tall : (c : tie.After-resized-side2) → Spans (c .before .resized-side .result / c .before .before .before .before .before .before .before .before .before .before .before .before .args .s .«patch_size») (c .before .before .before .before .before .before .before .before .before .before .before .before .args .s .«patch_size»)
 tall c =
-    let s = c .before .before .before .before .before .before .before .before .before .before .before .args .s in
-    let k = known (c .before .before .before .before .before .before .before) in
-    let e = c .before .side-of .ensures in
-    spans _ _ (k .patch-low) (omega (arith, e, side-le (align s) (s .«image_size») (c .before .before .before .before .before .before .before .before .before .before .before .args .height)))
+    let s = c .before .before .before .before .before .before .before .before .before .before .before .before .args .s in
+    let k = known (c .before .before .before .before .before .before .before .before) in
+    let e = c .before .resized-side .ensures in
+    spans _ _ (k .patch-low) (omega (arith, e, side-le (align s) (s .«image_size») (kept (s .«resize_rule») (s .«image_size») (c .before .before .longer .result) (c .before .before .before .before .before .before .before .before .before .before .before .before .args .height))))
 
-wide : (c : tie.After-side-of2) → Spans (c .side-of2 .result / c .before .before .before .before .before .before .before .before .before .before .before .args .s .«patch_size») (c .before .before .before .before .before .before .before .before .before .before .before .args .s .«patch_size»)
+wide : (c : tie.After-resized-side2) → Spans (c .resized-side2 .result / c .before .before .before .before .before .before .before .before .before .before .before .before .args .s .«patch_size») (c .before .before .before .before .before .before .before .before .before .before .before .before .args .s .«patch_size»)
 wide c =
-    let s = c .before .before .before .before .before .before .before .before .before .before .before .args .s in
-    let k = known (c .before .before .before .before .before .before .before) in
-    let e = c .side-of2 .ensures in
-    spans _ _ (k .patch-low) (omega (arith, e, side-le (align s) (s .«image_size») (c .before .before .before .before .before .before .before .before .before .before .before .args .width)))
+    let s = c .before .before .before .before .before .before .before .before .before .before .before .before .args .s in
+    let k = known (c .before .before .before .before .before .before .before .before) in
+    let e = c .resized-side2 .ensures in
+    spans _ _ (k .patch-low) (omega (arith, e, side-le (align s) (s .«image_size») (kept (s .«resize_rule») (s .«image_size») (c .before .before .longer .result) (c .before .before .before .before .before .before .before .before .before .before .before .before .args .width))))
 
 -- the count, by the definition
-counted : (c : tie.After-side-of2) → c .before .side-of .result / c .before .before .before .before .before .before .before .before .before .before .before .args .s .«patch_size» * (c .side-of2 .result / c .before .before .before .before .before .before .before .before .before .before .before .args .s .«patch_size») * patchFloats (c .before .before .before .before .before .before .before .before .before .before .before .args .s .«patch_size») ≡ floatsOf (c .before .before .before .before .before .before .before .before .before .before .before .args .s) (c .before .before .before .before .before .before .before .before .before .before .before .args .height) (c .before .before .before .before .before .before .before .before .before .before .before .args .width)
-counted c = cc (c .before .side-of .ensures, c .side-of2 .ensures)
+counted : (c : tie.After-resized-side2) → c .before .resized-side .result / c .before .before .before .before .before .before .before .before .before .before .before .before .args .s .«patch_size» * (c .resized-side2 .result / c .before .before .before .before .before .before .before .before .before .before .before .before .args .s .«patch_size») * patchFloats (c .before .before .before .before .before .before .before .before .before .before .before .before .args .s .«patch_size») ≡ floatsOf (c .before .before .before .before .before .before .before .before .before .before .before .before .args .s) (c .before .before .before .before .before .before .before .before .before .before .before .before .args .height) (c .before .before .before .before .before .before .before .before .before .before .before .before .args .width)
+counted c = cc (c .before .resized-side .ensures, c .resized-side2 .ensures, c .before .before .longer .ensures)
 
-asked : (c : tie.Else5) → Accepts (c .before .before .before .before .before .before .before .before .before .before .before .before .args .s) (length (c .before .before .before .before .before .before .before .before .before .before .before .before .args .rgb .now)) (c .before .before .before .before .before .before .before .before .before .before .before .before .args .height) (c .before .before .before .before .before .before .before .before .before .before .before .before .args .width) (length (c .before .before .before .before .before .before .before .before .before .before .before .before .args .out .now))
+asked : (c : tie.Else5) → Accepts (c .before .before .before .before .before .before .before .before .before .before .before .before .before .args .s) (length (c .before .before .before .before .before .before .before .before .before .before .before .before .before .args .rgb .now)) (c .before .before .before .before .before .before .before .before .before .before .before .before .before .args .height) (c .before .before .before .before .before .before .before .before .before .before .before .before .before .args .width) (length (c .before .before .before .before .before .before .before .before .before .before .before .before .before .args .out .now))
 asked c = record {
-  settings = settings (c .before .before .before .before .before .before .before .before);
-  sides = sides (c .before .before .before .before .before .before);
-  bytes = c .before .before .before .before .before .if3 .left;
-  image = c .before .before .before .if4 .left;
+  settings = settings (c .before .before .before .before .before .before .before .before .before);
+  sides = sides (c .before .before .before .before .before .before .before);
+  bytes = c .before .before .before .before .before .before .if3 .left;
+  image = c .before .before .before .before .if4 .left;
   fits = omega (arith, c .if5 .left, counted (c .before));
 }
 
@@ -106,69 +106,70 @@ returns-4 c =
     let a = c .before .before .before .before .before .before .before .before .before .args in
     settled (a .s) (length (a .rgb .now)) (a .height) (a .width) (length (a .out .now)) (simp (e, g, k, l)) (simp (e, g, k, l))
 
-side-of-requires : tie.Need-side-of-requires
-side-of-requires c κs =
-    let a = c .before .before .before .before .before .before .before .before .before .args in
-    let k = known (c .before .before .before .before .before) in
-    let t = sided-says (a .height) (a .width) (sides (c .before .before .before)) in
-    let b = times (a .s .«patch_size») (a .s .«spatial_merge_size») 32 4 (k .patch-high) (k .merge-high) in
-    (omega (arith, times 1 1 (a .s .«patch_size») (a .s .«spatial_merge_size») (k .patch-low) (k .merge-low)), b, t .1)
+longer-requires : tie.Need-longer-requires
+longer-requires c κs = search needs
 
-side-of-requires-2 : tie.Need-side-of-requires-2
-side-of-requires-2 c κs =
+resized-side-requires : tie.Need-resized-side-requires
+resized-side-requires c κs =
     let a = c .before .before .before .before .before .before .before .before .before .before .args in
-    let k = known (c .before .before .before .before .before .before) in
     let t = sided-says (a .height) (a .width) (sides (c .before .before .before .before)) in
-    let b = times (a .s .«patch_size») (a .s .«spatial_merge_size») 32 4 (k .patch-high) (k .merge-high) in
-    (omega (arith, times 1 1 (a .s .«patch_size») (a .s .«spatial_merge_size») (k .patch-low) (k .merge-low)), b, t .3)
+    let e = c .longer .ensures in
+    (settings (c .before .before .before .before .before .before), omega (arith, e, le-max-left (a .height) (a .width)), t .0, omega (arith, e, max-le {a = a .height} {b = a .width} (t .1) (t .3)))
+
+resized-side-requires-2 : tie.Need-resized-side-requires-2
+resized-side-requires-2 c κs =
+    let a = c .before .before .before .before .before .before .before .before .before .before .before .args in
+    let t = sided-says (a .height) (a .width) (sides (c .before .before .before .before .before)) in
+    let e = c .before .longer .ensures in
+    (settings (c .before .before .before .before .before .before .before), omega (arith, e, le-max-right (a .height) (a .width)), t .2, omega (arith, e, max-le {a = a .height} {b = a .width} (t .1) (t .3)))
 
 div-gh : tie.Need-div-gh
-div-gh c = omega (arith, known (c .before .before .before .before .before .before .before) .patch-low)
+div-gh c = omega (arith, known (c .before .before .before .before .before .before .before .before) .patch-low)
 
 div-gw : tie.Need-div-gw
-div-gw c = omega (arith, known (c .before .before .before .before .before .before .before) .patch-low)
+div-gw c = omega (arith, known (c .before .before .before .before .before .before .before .before) .patch-low)
 
 mul-floats : tie.Need-mul-floats
 mul-floats c = omega (arith, times _ _ 2048 2048 (tall c .low) (wide c .low))
 
 mul-floats-2 : tie.Need-mul-floats-2
-mul-floats-2 c = omega (arith, square (c .before .before .before .before .before .before .before .before .before .before .before .args .s .«patch_size») (known (c .before .before .before .before .before .before .before) .patch-high))
+mul-floats-2 c = omega (arith, square (c .before .before .before .before .before .before .before .before .before .before .before .before .args .s .«patch_size») (known (c .before .before .before .before .before .before .before .before) .patch-high))
 
 mul-floats-3 : tie.Need-mul-floats-3
-mul-floats-3 c = omega (arith, square (c .before .before .before .before .before .before .before .before .before .before .before .args .s .«patch_size») (known (c .before .before .before .before .before .before .before) .patch-high))
+mul-floats-3 c = omega (arith, square (c .before .before .before .before .before .before .before .before .before .before .before .before .args .s .«patch_size») (known (c .before .before .before .before .before .before .before .before) .patch-high))
 
 mul-floats-4 : tie.Need-mul-floats-4
 mul-floats-4 c =
-    let p = c .before .before .before .before .before .before .before .before .before .before .before .args .s .«patch_size» in
-    let b : 3 * (p * p) ≤ 3072 = omega (arith, square p (known (c .before .before .before .before .before .before .before) .patch-high)) in
-    omega (arith, times (c .before .side-of .result / p * (c .side-of2 .result / p)) (3 * (p * p)) (2048 * 2048) 3072 (times _ _ 2048 2048 (tall c .low) (wide c .low)) b)
+    let p = c .before .before .before .before .before .before .before .before .before .before .before .before .args .s .«patch_size» in
+    let b : 3 * (p * p) ≤ 3072 = omega (arith, square p (known (c .before .before .before .before .before .before .before .before) .patch-high)) in
+    omega (arith, times (c .before .resized-side .result / p * (c .resized-side2 .result / p)) (3 * (p * p)) (2048 * 2048) 3072 (times _ _ 2048 2048 (tall c .low) (wide c .low)) b)
 
 returns-5 : tie.Need-returns-5
 unfolding preprocessed
 returns-5 c =
-    let a = c .before .before .before .before .before .before .before .before .before .before .before .before .args in
-    let e = settings (c .before .before .before .before .before .before .before .before) in
-    let g = sides (c .before .before .before .before .before .before) in
-    let k = eq-eqb _ _ (c .before .before .before .before .before .if3 .left) in
-    let l = le-leb _ _ (c .before .before .before .if4 .left) in
+    let a = c .before .before .before .before .before .before .before .before .before .before .before .before .before .args in
+    let e = settings (c .before .before .before .before .before .before .before .before .before) in
+    let g = sides (c .before .before .before .before .before .before .before) in
+    let k = eq-eqb _ _ (c .before .before .before .before .before .before .if3 .left) in
+    let l = le-leb _ _ (c .before .before .before .before .if4 .left) in
     let o = lt-leb (floatsOf (a .s) (a .height) (a .width)) (length (a .out .now)) (omega (arith, c .if5 .taken, counted (c .before))) in
     settled (a .s) (length (a .rgb .now)) (a .height) (a .width) (length (a .out .now)) (simp (e, g, k, l, o)) (simp (e, g, k, l, o))
 
 -- what is handed on fits
-handed : (c : tie.Else5) → let a = c .before .before .before .before .before .before .before .before .before .before .before .before .args in
-    fits (length (a .rgb .now)) (a .height) (a .width) (c .before .before .side-of .result) (c .before .side-of2 .result) (a .s .«patch_size») (length (a .out .now)) ≡ true
+handed : (c : tie.Else5) → let a = c .before .before .before .before .before .before .before .before .before .before .before .before .before .args in
+    fits (length (a .rgb .now)) (a .height) (a .width) (c .before .before .resized-side .result) (c .before .resized-side2 .result) (a .s .«patch_size») (length (a .out .now)) ≡ true
 handed c =
-    let a = c .before .before .before .before .before .before .before .before .before .before .before .before .args in
+    let a = c .before .before .before .before .before .before .before .before .before .before .before .before .before .args in
     let s = a .s in
-    let o = known (c .before .before .before .before .before .before .before .before) in
+    let o = known (c .before .before .before .before .before .before .before .before .before) in
     fits-where _ _ _ _ _ _ _
     (record {
-      sides = sides (c .before .before .before .before .before .before);
-      tall = omega (arith, c .before .before .side-of .ensures, o .image-high, side-le (align s) (s .«image_size») (a .height));
-      wide = omega (arith, c .before .side-of2 .ensures, o .image-high, side-le (align s) (s .«image_size») (a .width));
+      sides = sides (c .before .before .before .before .before .before .before);
+      tall = omega (arith, c .before .before .resized-side .ensures, o .image-high, side-le (align s) (s .«image_size») (kept (s .«resize_rule») (s .«image_size») (c .before .before .before .longer .result) (a .height)));
+      wide = omega (arith, c .before .resized-side2 .ensures, o .image-high, side-le (align s) (s .«image_size») (kept (s .«resize_rule») (s .«image_size») (c .before .before .before .longer .result) (a .width)));
       patch-low = o .patch-low;
       patch-high = o .patch-high;
-      bytes = c .before .before .before .before .before .if3 .left;
+      bytes = c .before .before .before .before .before .before .if3 .left;
       space = c .if5 .left;
     })
 
@@ -181,17 +182,18 @@ same-length c = search needs
 returns-6 : tie.Need-returns-6
 returns-6 c =
     let e = c .before .before .before .before in
-    let a = e .before .before .before .before .before .before .before .before .before .before .before .before .args in
+    let a = e .before .before .before .before .before .before .before .before .before .before .before .before .before .args in
     let p = a .s .«patch_size» in
     let q = asked e in
-    let y = e .before .before .side-of .ensures in
-    let x = e .before .side-of2 .ensures in
+    let m = e .before .before .before .longer .ensures in
+    let y = e .before .before .resized-side .ensures ∙ ap (λ (l : ℕ). resized (a .s) l (a .height)) m in
+    let x = e .before .resized-side2 .ensures ∙ ap (λ (l : ℕ). resized (a .s) l (a .width)) m in
     settled (a .s) (length (a .rgb .now)) (a .height) (a .width) (length (a .out .now))
     (cc (accepted (a .s) (length (a .rgb .now)) (a .height) (a .width) (length (a .out .now)) q, y, x))
     (c .before .before .resized-patches .ensures
     ∙ W.written (a .rgb .now) (a .height) (a .width) _ _ p (a .out .now) (handed e)
-    ∙ ap (λ (t : ℕ). over (resizedPatches (a .rgb .now) (a .height) (a .width) t (e .before .side-of2 .result) p) (a .out .now)) y
-    ∙ ap (λ (t : ℕ). over (resizedPatches (a .rgb .now) (a .height) (a .width) (resized (a .s) (a .height)) t p) (a .out .now)) x
+    ∙ ap (λ (t : ℕ). over (resizedPatches (a .rgb .now) (a .height) (a .width) t (e .before .resized-side2 .result) p) (a .out .now)) y
+    ∙ ap (λ (t : ℕ). over (resizedPatches (a .rgb .now) (a .height) (a .width) (thOf (a .s) (a .height) (a .width)) t p) (a .out .now)) x
     ∙ written (a .s) (a .rgb .now) (a .height) (a .width) (a .out .now) q)
 
 pub pixtral-preprocess-spec : {M : Type 1} → statement M
@@ -207,8 +209,9 @@ pixtral-preprocess-spec =
     returns-3
     mul-a
     returns-4
-    side-of-requires
-    side-of-requires-2
+    longer-requires
+    resized-side-requires
+    resized-side-requires-2
     div-gh
     div-gw
     mul-floats

@@ -1,6 +1,6 @@
 -- `run::run` meets its contract. Assumes nothing.
 use borrow.Author.Needs.{needs}
-use Prim.Native.Nat.{ℕ, _*_, _/_, _≤_}
+use Prim.Native.Nat.{ℕ, _*_, _/_, _≤_, max}
 use native.Mathlib.Omega.{arith}
 use mathlib.Core.Path.{_≡_, refl, sym, ap, _∙_}
 use mathlib.Core.List.{List, _++_}
@@ -59,10 +59,10 @@ inside : (c : tie.After-known-told2) → made c .2 ≤ length (c .before .before
 inside c = rw (c .before .before .before .before .pixtral-preprocess .kept .1 .1 .1 .1 .0, taken c .count) (fits (c .before .before .before .before .before .before .before .before .args .s) (c .before .before .before .before .before .before .before .before .args .height) (c .before .before .before .before .before .before .before .before .args .width) (c .before .before .before .before .before .before .before .before .pre .0))
 
 tall : (c : tie.After-known-told2) → made c .0 * c .before .before .before .before .before .before .before .before .args .s .«patch_size» ≤ 64
-tall c = rw (taken c .tall) (grid-span (c .before .before .before .before .before .before .before .before .args .s) (c .before .before .before .before .before .before .before .before .args .height) (c .before .before .before .before .before .before .before .before .pre .0))
+tall c = rw (taken c .tall) (grid-span (c .before .before .before .before .before .before .before .before .args .s) (max (c .before .before .before .before .before .before .before .before .args .height) (c .before .before .before .before .before .before .before .before .args .width)) (c .before .before .before .before .before .before .before .before .args .height) (c .before .before .before .before .before .before .before .before .pre .0))
 
 wide : (c : tie.After-known-told2) → made c .1 * c .before .before .before .before .before .before .before .before .args .s .«patch_size» ≤ 64
-wide c = rw (taken c .wide) (grid-span (c .before .before .before .before .before .before .before .before .args .s) (c .before .before .before .before .before .before .before .before .args .width) (c .before .before .before .before .before .before .before .before .pre .0))
+wide c = rw (taken c .wide) (grid-span (c .before .before .before .before .before .before .before .before .args .s) (max (c .before .before .before .before .before .before .before .before .args .height) (c .before .before .before .before .before .before .before .before .args .width)) (c .before .before .before .before .before .before .before .before .args .width) (c .before .before .before .before .before .before .before .before .pre .0))
 
 -- the answer's text, by the text of what restore gives of the patches
 text : (c : tie.After-known-told2) → ran (c .before .before .before .before .before .before .before .before .args .s) (c .before .before .before .before .before .before .before .before .args .rgb .now) (c .before .before .before .before .before .before .before .before .args .height) (c .before .before .before .before .before .before .before .before .args .width)
