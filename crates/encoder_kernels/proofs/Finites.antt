@@ -5,7 +5,7 @@ use mathlib.Core.List.{List, [], _∷_, _++_}
 use Prim.Native.Nat.{ℕ, suc, _<_}
 use lib.ListN.{length, getD, take}
 use lib.Seq.{take-suc}
-use lib.Ieee.{Float, nan, lt, inf, fin}
+use lib.Ieee.{Float, nan}
 use lib.Ieee.Scale.{finite}
 use Rattle.encoder_kernels.specs.Finite.{sound}
 
@@ -25,10 +25,3 @@ sound-append (x ∷ l) m = rw (sound-append l m, and-assoc)
 pub sound-take : (l : List Float) (i : ℕ) → i < length l → sound (take (suc i) l) ≡ sound (take i l) && finite (getD l i nan)
 unfolding sound
 sound-take l i h = rw (take-suc l i nan h, sound-append, and-true)
-
-pub finite-tests : (x : Float) → lt x (inf false) && lt (inf true) x ≡ finite x
-unfolding lt
-finite-tests nan = refl
-finite-tests (inf false) = refl
-finite-tests (inf true) = refl
-finite-tests (fin s m e) = refl

@@ -4,3 +4,4 @@ pub mod Bound
 pub mod Patterns
 pub mod Values
 pub mod Unique
+pub mod Order
