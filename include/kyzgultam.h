@@ -32,22 +32,31 @@ enum kz_number {
     KZ_WEIGHTS_LENGTH = 9, /* the weights' length is not that of the settings */
     KZ_TABLE_LENGTH = 10,  /* a rotary table's length is not P^2 * head_dim, P = image size / patch */
     KZ_SCRATCH = 11,       /* the scratch is shorter than kz_forward needs */
-    KZ_NOT_FINITE = 12     /* a value is not finite, in the inputs or at a stage */
+    KZ_NOT_FINITE = 12,    /* a value is not finite, in the inputs or at a stage */
+    KZ_CHANNEL = 19        /* a channel's mean and deviation are not allowed: what is stands with the fields */
 };
 
+/*
+ * The sample of byte b in channel c (red, green, blue) is (b / 255 - mean[c]) / deviation[c] in floats, each operation
+ * rounded. A channel is allowed when its 256 samples are finite and strictly rise or strictly fall with b, compared as
+ * numbers: then no two bytes are alike. kz_forward and kz_lengths never read mean and deviation.
+ */
 struct kz_picture_settings {
     size_t patch_size;         /* 1..32 */
     size_t spatial_merge_size; /* 1..4 */
     size_t image_size;         /* 1..2048 */
     size_t resize_rule;        /* 1 or 2: 1 cuts each side by itself, 2 keeps the shape of a long picture */
+    float mean[3];             /* by channel; allowed together with its deviation, else 19 */
+    float deviation[3];        /* by channel; below zero the samples fall */
 };
 
 /*
- * An initializer for the common call, with resize rule 1:
+ * An initializer for the common call, with resize rule 1 and the Rust's means and deviations:
  *     struct kz_picture_settings s = KZ_PICTURE_SETTINGS(14, 2, 1540);
- * Without it a rule may be forgotten: that is 0, which is refused with 1.
+ * Without it a field may be forgotten, which is then 0: a rule of 0 is refused with 1, a deviation of 0 with 19.
  */
-#define KZ_PICTURE_SETTINGS(patch, merge, image) {(patch), (merge), (image), 1}
+#define KZ_PICTURE_SETTINGS(patch, merge, image) \
+    {(patch), (merge), (image), 1, {0.48145466f, 0.4578275f, 0.40821073f}, {0.26862954f, 0.26130258f, 0.27577711f}}
 
 struct kz_preprocess_report {
     uint32_t number; /* an enum kz_number, as in each report */
@@ -66,7 +75,7 @@ struct kz_patch_place {
 
 /*
  * The patches of a picture: height * width pixels of three bytes, by row. Patches run by row; a patch has its samples
- * by channel, row and column: 3 * patch^2 floats. Refused with 1, 2, 3, 4, 5.
+ * by channel, row and column: 3 * patch^2 floats. Refused with 1, 19, 2, 3, 4, 5.
  * The picture is resized first, once. Rule 1 takes each side by itself: rounded up to a multiple of patch * merge, cut
  * to the image size S, rounded down to a multiple. Rule 2 does the same after a step of its own: where the longer side
  * m is above S, each side becomes side * S / m, rounded down and at least 1.
@@ -74,7 +83,10 @@ struct kz_patch_place {
 struct kz_preprocess_report kz_preprocess(struct kz_picture_settings settings, const uint8_t *rgb, size_t rgb_len,
                                           size_t height, size_t width, float *out, size_t out_len);
 
-/* The resized picture that gave the patches, the same by both resize rules. Refused with 1, 6, 7, 5, 8. */
+/*
+ * The resized picture that gave the patches, the same by both resize rules. Means and deviations are to be those that
+ * the patches were made with: with others most patches are refused with 8. Refused with 1, 19, 6, 7, 5, 8.
+ */
 struct kz_restore_report kz_restore(struct kz_picture_settings settings, const float *patches, size_t patches_len,
                                     size_t grid_h, size_t grid_w, uint8_t *out, size_t out_len);
 

@@ -49,7 +49,7 @@ fn fastest(s: Settings, side: usize, rounds: usize) -> Result<Pair, String> {
     for _ in 0..rounds {
         let (mut scratch, mut out) = (c.scratch.clone(), c.out.clone());
         let began = processor_seconds();
-        let report = ours(&c, &mut scratch, &mut out);
+        let report = ours(s, &c, &mut scratch, &mut out);
         let between = processor_seconds();
         let rows = forward(&c, &m);
         best = [best[0].min(between - began), best[1].min(processor_seconds() - between)];

@@ -3,7 +3,8 @@
 //! The Rust's `PixtralEncoder::forward`, the types and all that it calls are cut from its source, with E and T in
 //! the place of the platform's exp and tanh (`run` does it), one thread, and no log and no progress bar. The order of
 //! stages that are examined for finite values, and the refusals, are stated here from the text of the paper; what the
-//! stages come to is compared with the Rust's forward too.
+//! stages come to is compared with the Rust's forward too. Each call is made twice, with 01's means and deviations and
+//! with others, between which forward and lengths make no difference.
 //!
 //!     encoder            edges, a call for each stage (stages.rs), and random calls with a fixed seed
 //!     encoder --bench    times ours and the Rust, on one thread (bench.rs); with --quick, on small grids alone
@@ -158,6 +159,8 @@ struct Settings {
     spatial_merge_size: usize,
     image_size: usize,
     resize_rule: usize,
+    /// Three means and three deviations, by their bits: forward and lengths do not read them.
+    six: [u32; 6],
     hidden_size: usize,
     num_heads: usize,
     head_dim: usize,
@@ -209,6 +212,8 @@ extern "C" {
 }
 
 const SEED: u64 = 88_172_645_463_325_252;
+/// 01's means and deviations.
+const OWN: [u32; 6] = [0x3EF6_813A, 0x3EEA_685E, 0x3ED1_00FF, 0x3E89_89D0, 0x3E85_C974, 0x3E8D_32A8];
 
 struct Random(u64);
 
@@ -534,11 +539,11 @@ fn bits(x: &[f32]) -> Vec<u32> {
     x.iter().map(|v| v.to_bits()).collect()
 }
 
-/// The port's forward.
-fn ours(c: &Call, scratch: &mut [f32], out: &mut [f32]) -> Report {
+/// The port's forward of a call, whose settings may have other means and deviations.
+fn ours(s: Settings, c: &Call, scratch: &mut [f32], out: &mut [f32]) -> Report {
     unsafe {
         kz_forward(
-            c.s,
+            s,
             c.patches.as_ptr(),
             c.patches.len(),
             c.grid[0],
@@ -557,6 +562,15 @@ fn ours(c: &Call, scratch: &mut [f32], out: &mut [f32]) -> Report {
     }
 }
 
+/// The settings, and the same with odd or random bits for means and deviations, which the call's index draws.
+fn with_others(s: &Settings, index: usize) -> [Settings; 2] {
+    let odd =
+        [f32::NAN, -f32::NAN, f32::INFINITY, f32::NEG_INFINITY, 0.0, -0.0, 1e-45, f32::MAX, 1e8].map(f32::to_bits);
+    let mut r = Random(SEED.wrapping_mul(2 * index as u64 + 1));
+    let six = OWN.map(|_| if r.from(0, 3) == 0 { r.next() as u32 } else { odd[r.from(0, odd.len() - 1)] });
+    [*s, Settings { six, ..*s }]
+}
+
 #[derive(Default)]
 struct Tally {
     calls: usize,
@@ -569,12 +583,15 @@ struct Tally {
 
 impl Tally {
     fn lengths(&mut self, s: &Settings, grid: [usize; 2]) {
-        let (found, right) = (unsafe { kz_lengths(*s, grid[0], grid[1]) }, lengths(s, grid));
-        self.lengths += 1;
-        if found != right {
-            self.differ += 1;
-            if self.differ <= 5 {
-                println!("encoder: {s:?} grid {grid:?}: {found:?}, expected {right:?}");
+        let right = lengths(s, grid);
+        for s in with_others(s, self.lengths) {
+            let found = unsafe { kz_lengths(s, grid[0], grid[1]) };
+            self.lengths += 1;
+            if found != right {
+                self.differ += 1;
+                if self.differ <= 5 {
+                    println!("encoder: {s:?} grid {grid:?}: {found:?}, expected {right:?}");
+                }
             }
         }
     }
@@ -587,16 +604,18 @@ impl Tally {
         if let Some(stage) = a.stage {
             *self.stages.entry(stage).or_default() += 1;
         }
-        let (mut scratch, mut out) = (c.scratch.clone(), c.out.clone());
-        let report = ours(c, &mut scratch, &mut out);
         let (tokens, left, work) = left(c, &a);
-        self.accepted += usize::from(number == 0);
-        self.calls += 1;
-        *self.numbers.entry(number).or_default() += 1;
-        if report != (Report { number, tokens }) || bits(&out) != bits(&left) || bits(&scratch) != bits(&work) {
-            self.differ += 1;
-            if self.differ <= 5 {
-                println!("encoder: {:?} grid {:?}: {report:?}, expected {number} with {tokens}", c.s, c.grid);
+        for s in with_others(&c.s, self.calls) {
+            let (mut scratch, mut out) = (c.scratch.clone(), c.out.clone());
+            let report = ours(s, c, &mut scratch, &mut out);
+            self.accepted += usize::from(number == 0);
+            self.calls += 1;
+            *self.numbers.entry(number).or_default() += 1;
+            if report != (Report { number, tokens }) || bits(&out) != bits(&left) || bits(&scratch) != bits(&work) {
+                self.differ += 1;
+                if self.differ <= 5 {
+                    println!("encoder: {s:?} grid {:?}: {report:?}, expected {number} with {tokens}", c.grid);
+                }
             }
         }
         a.stage
@@ -635,6 +654,7 @@ fn small(r: &mut Random) -> Call {
         spatial_merge_size: merge,
         image_size: (grid[0].max(grid[1]) + r.from(0, 2)) * patch + r.from(0, patch - 1),
         resize_rule: r.from(1, 2),
+        six: OWN,
         hidden_size: heads * d,
         num_heads: heads,
         head_dim: d,
@@ -653,6 +673,7 @@ fn real(side: usize) -> Settings {
         spatial_merge_size: 2,
         image_size: 14 * side,
         resize_rule: 1,
+        six: OWN,
         hidden_size: 1024,
         num_heads: 16,
         head_dim: 64,
@@ -775,6 +796,7 @@ fn every_end(tally: &mut Tally) {
         spatial_merge_size: 1,
         image_size: 2048,
         resize_rule: 2,
+        six: OWN,
         hidden_size: 2048,
         num_heads: 8,
         head_dim: 256,
@@ -826,6 +848,7 @@ fn edges_and_random() -> bool {
             spatial_merge_size: 2,
             image_size: 1540,
             resize_rule: 1,
+            six: OWN,
             hidden_size: 8,
             num_heads: 1,
             head_dim: 8,
@@ -932,6 +955,7 @@ fn asked(r: &mut Random, layers: usize) -> Asked {
         spatial_merge_size: merge,
         image_size: (grid[0].max(grid[1]) + r.from(0, 1)) * patch + r.from(0, patch - 1),
         resize_rule: 1,
+        six: OWN,
         hidden_size: heads * d,
         num_heads: heads,
         head_dim: d,

@@ -1,31 +1,37 @@
 //! Compares libkyzgultam with the Rust on preprocess, restore and the patch lookup, byte for byte.
 //!
-//! `pixtral_preprocess` and `bilinear_resize_rgb` are the Rust's own, cut from its source. The Rust has
-//! no refusal numbers, no restore and no lookup: these follow the text of the paper that adds them.
-//! Nor has it resize rule 2: the sides follow the text of 2026-07, and the Rust's own two functions
-//! resize a picture to these sides, in one step, and cut it into patches.
+//! `pixtral_preprocess` and `bilinear_resize_rgb` are the Rust's own, cut from its source, with the
+//! means and deviations of the call in the place of the Rust's six constants (`run` does it). The Rust
+//! has no refusal numbers, no restore and no lookup: these follow the text of the paper that adds them,
+//! and which means and deviations are allowed follows that of 2026-08. Nor has it resize rule 2: the
+//! sides follow the text of 2026-07, and the Rust's own two functions resize a picture to these sides,
+//! in one step, and cut it into patches.
 //!
-//!     picture            edges, and random calls with a fixed seed
+//!     picture            edges, random calls with a fixed seed, and other six numbers (choices.rs)
 //!     picture CALL       one call, in the words in which a difference is printed
 //!     picture --bench    times ours and the Rust
 //!     picture --sample   prints the Rust's answers as crates/picture_replay/stdin holds them
 
-use std::collections::HashMap;
+use std::collections::BTreeMap;
 use std::fmt;
 use std::hint::black_box;
 use std::io::Write;
 use std::time::Instant;
 
+#[path = "choices.rs"]
+mod choices;
 #[path = "sample.rs"]
 mod sample;
 use sample::{hash, states, MARKS};
 
-/// The functions that were cut, and the types that they name.
+/// The functions that were cut, and the types that they name; the settings hold the six numbers too.
 mod rust {
     pub struct PixtralVisionConfig {
         pub patch_size: usize,
         pub spatial_merge_size: usize,
         pub image_size: usize,
+        pub mean: [f32; 3],
+        pub deviation: [f32; 3],
     }
 
     #[derive(Debug)]
@@ -38,6 +44,14 @@ mod rust {
     include!(env!("KZ_CUT"));
 }
 
+/// The means and the deviations of the channels, by their bits.
+#[repr(C)]
+#[derive(Clone, Copy, PartialEq)]
+struct Choice {
+    mean: [u32; 3],
+    deviation: [u32; 3],
+}
+
 #[repr(C)]
 #[derive(Clone, Copy, PartialEq)]
 struct Settings {
@@ -45,6 +59,7 @@ struct Settings {
     spatial_merge_size: usize,
     image_size: usize,
     resize_rule: usize,
+    six: Choice,
 }
 
 #[repr(C)]
@@ -109,13 +124,20 @@ const RULES: [usize; 2] = [1, 2];
 /// Numbers of no rule; the low 32 bits of the last two are 1 and 2.
 const NO_RULES: [usize; 7] = [0, 3, MAX, 1 << 63, 1 << 32, (1 << 32) + 1, (1 << 32) + 2];
 
-/// Settings with rule 1.
+/// 01's own.
+const OWN: Choice = Choice {
+    mean: [0x3EF6_813A, 0x3EEA_685E, 0x3ED1_00FF],
+    deviation: [0x3E89_89D0, 0x3E85_C974, 0x3E8D_32A8],
+};
+
+/// Settings with rule 1 and 01's means and deviations.
 const fn of(patch_size: usize, spatial_merge_size: usize, image_size: usize) -> Settings {
     Settings {
         patch_size,
         spatial_merge_size,
         image_size,
         resize_rule: 1,
+        six: OWN,
     }
 }
 
@@ -130,6 +152,10 @@ impl Settings {
             resize_rule,
             ..self
         }
+    }
+
+    fn with(self, six: Choice) -> Settings {
+        Settings { six, ..self }
     }
 
     fn allowed(self) -> bool {
@@ -179,10 +205,67 @@ impl Settings {
     }
 }
 
-/// The number of a preprocess that is refused before its output is measured; 0 for any other.
-fn refused(s: Settings, rgb: usize, sides: Sides) -> u32 {
+impl Choice {
+    /// The bits of a byte's sample in a channel.
+    fn value(self, channel: usize, byte: u8) -> u32 {
+        let mean = f32::from_bits(self.mean[channel]);
+        let deviation = f32::from_bits(self.deviation[channel]);
+        ((f32::from(byte) / 255.0 - mean) / deviation).to_bits()
+    }
+
+    fn values(self, channel: usize) -> [u32; 256] {
+        std::array::from_fn(|byte| self.value(channel, byte as u8))
+    }
+}
+
+/// Whether a channel's 256 values are finite, and strictly rise or strictly fall.
+fn channel_allowed(values: [u32; 256]) -> bool {
+    let values = values.map(f32::from_bits);
+    let every = |holds: fn(f32, f32) -> bool| values.windows(2).all(|two| holds(two[0], two[1]));
+    let finite = values.iter().all(|v| v.is_finite());
+    finite && (every(|this, next| this < next) || every(|this, next| this > next))
+}
+
+/// What a choice comes to.
+struct Table {
+    six: Choice,
+    allowed: bool,
+    /// The bits of every byte in every channel.
+    values: [[u32; 256]; 3],
+    /// Each channel's with their bytes, by the bits.
+    bytes: [Vec<(u32, u8)>; 3],
+}
+
+impl Table {
+    fn new(six: Choice) -> Self {
+        let values = [0, 1, 2].map(|channel| six.values(channel));
+        Table {
+            six,
+            allowed: values.into_iter().all(channel_allowed),
+            values,
+            bytes: values.map(|values| {
+                let mut list: Vec<_> = values.into_iter().zip(0..=255).collect();
+                list.sort();
+                list
+            }),
+        }
+    }
+
+    /// The byte that has the bits in a channel.
+    fn byte(&self, channel: usize, bits: u32) -> Option<u8> {
+        let list = &self.bytes[channel];
+        let at = list.binary_search_by_key(&bits, |entry| entry.0).ok()?;
+        Some(list[at].1)
+    }
+}
+
+/// The number of a preprocess that is refused before its output is measured; 0 for any other. The
+/// table is that of the settings, as in `restored`.
+fn refused(table: &Table, s: Settings, rgb: usize, sides: Sides) -> u32 {
     if !s.allowed() {
         1
+    } else if !table.allowed {
+        19
     } else if sides.iter().any(|side| !(1..=8192).contains(side)) {
         2
     } else if rgb != sides[0] * sides[1] * 3 {
@@ -194,27 +277,9 @@ fn refused(s: Settings, rgb: usize, sides: Sides) -> u32 {
     }
 }
 
-fn value(channel: usize, byte: u8) -> u32 {
-    let mean = [0.48145466f32, 0.4578275, 0.40821073][channel];
-    let deviation = [0.26862954f32, 0.26130258, 0.27577711][channel];
-    ((f32::from(byte) / 255.0 - mean) / deviation).to_bits()
-}
-
-/// For each channel, the byte that has the bits.
-type Bytes = [HashMap<u32, u8>; 3];
-
-fn bytes_by_bits() -> Bytes {
-    [0, 1, 2].map(|channel| (0..=255).map(|b| (value(channel, b), b)).collect())
-}
-
-/// The bits of every byte in every channel.
-fn values() -> [[u32; 256]; 3] {
-    [0, 1, 2].map(|channel| std::array::from_fn(|byte| value(channel, byte as u8)))
-}
-
 /// Restore's number, and the bytes that an accepted call writes.
 fn restored(
-    bytes: &Bytes,
+    table: &Table,
     s: Settings,
     patches: &[u32],
     grid: Sides,
@@ -222,6 +287,9 @@ fn restored(
 ) -> Result<Vec<u8>, u32> {
     if !s.allowed() {
         return Err(1);
+    }
+    if !table.allowed {
+        return Err(19);
     }
     let p = s.patch_size;
     if grid
@@ -240,11 +308,11 @@ fn restored(
     let mut rgb = Vec::with_capacity(height * width * 3);
     for row in 0..height {
         for column in 0..width {
-            for (channel, bytes) in bytes.iter().enumerate() {
+            for channel in 0..3 {
                 let patch = (row / p) * grid[1] + column / p;
                 let place = channel * p * p + (row % p) * p + column % p;
                 let bits = patches[patch * 3 * p * p + place];
-                rgb.push(*bytes.get(&bits).ok_or(8u32)?);
+                rgb.push(table.byte(channel, bits).ok_or(8u32)?);
             }
         }
     }
@@ -267,8 +335,23 @@ impl fmt::Display for Settings {
     fn fmt(&self, to: &mut fmt::Formatter) -> fmt::Result {
         let (patch, merge) = (self.patch_size, self.spatial_merge_size);
         let (image, rule) = (self.image_size, self.resize_rule);
-        write!(to, "patch {patch} merge {merge} image {image} rule {rule}")
+        write!(to, "patch {patch} merge {merge} image {image} rule {rule}")?;
+        if self.six != OWN {
+            let hex = |three: [u32; 3]| three.map(|bits| format!("{bits:08x}")).join(",");
+            let (mean, deviation) = (hex(self.six.mean), hex(self.six.deviation));
+            write!(to, " mean {mean} deviation {deviation}")?;
+        }
+        Ok(())
     }
+}
+
+/// Three bit patterns, in the words of a call.
+fn three(word: &str) -> Option<[u32; 3]> {
+    let list: Result<Vec<_>, _> = word
+        .split(',')
+        .map(|x| u32::from_str_radix(x, 16))
+        .collect();
+    list.ok()?.try_into().ok()
 }
 
 // --- Pictures ---
@@ -388,12 +471,14 @@ struct Picture {
     resized: Vec<u8>,
 }
 
-/// The Rust's own preprocess, which is that of rule 1.
+/// The Rust's preprocess, which is that of rule 1.
 fn preprocess_in_rust(s: Settings, rgb: &[u8], [height, width]: Sides) -> (Vec<f32>, usize, usize) {
     let config = rust::PixtralVisionConfig {
         patch_size: s.patch_size,
         spatial_merge_size: s.spatial_merge_size,
         image_size: s.image_size,
+        mean: s.six.mean.map(f32::from_bits),
+        deviation: s.six.deviation.map(f32::from_bits),
     };
     rust::pixtral_preprocess(rgb, height, width, &config)
         .expect("the Rust refuses a call that the paper accepts")
@@ -434,7 +519,7 @@ impl Cell for u8 {
     }
 }
 
-/// The bits of numbers near -6.9, which no sample is.
+/// The bits of numbers near -6.9, which no sample of 01's numbers is.
 impl Cell for u32 {
     fn mark(at: usize) -> u32 {
         0xC0DE_0000 | (at & 0xFFFF) as u32
@@ -516,14 +601,16 @@ impl fmt::Display for Source {
 type Set = (usize, u32);
 
 struct Comparison {
-    bytes: Bytes,
-    values: [[u32; 256]; 3],
+    /// Of the means and deviations of the last call.
+    table: Table,
     /// The last picture that was asked for: the calls come in groups that share one.
     last: Option<Picture>,
     random: Random,
     preprocess: u64,
     restore: u64,
     patch: u64,
+    /// How many preprocess and restore calls have each number.
+    numbers: [BTreeMap<u32, u64>; 2],
     differ: u64,
     first: Vec<String>,
 }
@@ -531,16 +618,23 @@ struct Comparison {
 impl Comparison {
     fn new() -> Self {
         Comparison {
-            bytes: bytes_by_bits(),
-            values: values(),
+            table: Table::new(OWN),
             last: None,
             random: Random(SEED),
             preprocess: 0,
             restore: 0,
             patch: 0,
+            numbers: [BTreeMap::new(), BTreeMap::new()],
             differ: 0,
             first: Vec::new(),
         }
+    }
+
+    fn table(&mut self, six: Choice) -> &Table {
+        if self.table.six != six {
+            self.table = Table::new(six);
+        }
+        &self.table
     }
 
     /// Makes the picture the last one.
@@ -553,17 +647,24 @@ impl Comparison {
 
     fn preprocess(&mut self, s: Settings, sides: Sides, fill: Fill, rgb: usize, out: usize) {
         self.preprocess += 1;
-        let number = refused(s, rgb, sides);
-        let found = match number {
+        let (number, found) = match refused(self.table(s.six), s, rgb, sides) {
             0 => {
                 let p = self.ask(s, sides, fill);
                 match out < p.patches.len() {
-                    true => preprocess(s, sides, &p.rgb, out, 5, [0, 0], &[]),
-                    false => preprocess(s, sides, &p.rgb, out, 0, p.grid, &p.patches),
+                    true => (5, preprocess(s, sides, &p.rgb, out, 5, [0, 0], &[])),
+                    false => {
+                        let found = preprocess(s, sides, &p.rgb, out, 0, p.grid, &p.patches);
+                        (0, found)
+                    }
                 }
             }
-            _ => preprocess(s, sides, &fill.bytes(rgb, sides), out, number, [0, 0], &[]),
+            number => {
+                let rgb = fill.bytes(rgb, sides);
+                let found = preprocess(s, sides, &rgb, out, number, [0, 0], &[]);
+                (number, found)
+            }
         };
+        *self.numbers[0].entry(number).or_default() += 1;
         let [h, w] = sides;
         self.note(found, || {
             format!("preprocess {s} height {h} width {w} rgb {fill} bytes {rgb} out {out}")
@@ -585,7 +686,8 @@ impl Comparison {
                 let bytes = fill.bytes(floats, [1, floats / 3]);
                 let p = if s.allowed() { s.patch_size } else { 1 };
                 let mut samples = Vec::with_capacity(floats);
-                for (run, values) in bytes.chunks(p * p).zip(self.values.iter().cycle()) {
+                let values = self.table(s.six).values.iter().cycle();
+                for (run, values) in bytes.chunks(p * p).zip(values) {
                     samples.extend(run.iter().map(|byte| values[*byte as usize]));
                 }
                 samples
@@ -596,7 +698,9 @@ impl Comparison {
         for (place, bits) in set {
             patches[*place] = *bits;
         }
-        let expected = restored(&self.bytes, s, &patches, grid, out);
+        let expected = restored(self.table(s.six), s, &patches, grid, out);
+        let number = *expected.as_ref().err().unwrap_or(&0);
+        *self.numbers[1].entry(number).or_default() += 1;
         let mut found = restore(s, grid, &patches, out, &expected);
         // what nothing damaged comes back as the Rust's resized bytes
         if let (None, Source::Picture(..), true) = (&found, source, set.is_empty()) {
@@ -638,7 +742,9 @@ impl Comparison {
         let number = |name| text(name)?.parse::<usize>().ok();
         let settings = || {
             let s = of(number("patch")?, number("merge")?, number("image")?);
-            Some(s.rule(number("rule")?))
+            let bits = |name, own| text(name).map_or(Some(own), three);
+            let (mean, deviation) = (bits("mean", OWN.mean)?, bits("deviation", OWN.deviation)?);
+            Some(s.rule(number("rule")?).with(Choice { mean, deviation }))
         };
         let sides = || Some([number("height")?, number("width")?]);
         let rgb = || Fill::of(text("rgb")?);
@@ -672,6 +778,8 @@ impl Comparison {
         for line in &self.first {
             println!("{line}");
         }
+        let [preprocess, restore] = &self.numbers;
+        eprintln!("picture: numbers of preprocess {preprocess:?}, of restore {restore:?}");
         println!(
             "picture: {} preprocess, {} restore, {} patch calls compared with the Rust; {} differ",
             self.preprocess, self.restore, self.patch, self.differ
@@ -852,8 +960,8 @@ impl Comparison {
         }
     }
 
-    fn random_pictures(&mut self) {
-        for _ in 0..PICTURES {
+    fn random_pictures(&mut self, pictures: usize, mut six: impl FnMut() -> Choice) {
+        for _ in 0..pictures {
             let random = &mut self.random;
             let (patch, merge) = (1 + random.below(32), 1 + random.below(4));
             let a = patch * merge;
@@ -866,7 +974,8 @@ impl Comparison {
             };
             let sides = [side(random), side(random)];
             let (rule, fill) = (random.pick(&RULES), random.fill());
-            self.there_and_back(of(patch, merge, image).rule(rule), sides, fill);
+            let s = of(patch, merge, image).rule(rule).with(six());
+            self.there_and_back(s, sides, fill);
         }
     }
 
@@ -1022,7 +1131,6 @@ impl Comparison {
         }
     }
 
-    /// A picture's patches with samples changed, at the first places, the last and between.
     fn damaged_pictures(&mut self) {
         for (s, sides) in [
             (of(1, 1, 1), [1, 1]),
@@ -1032,29 +1140,34 @@ impl Comparison {
             (of(5, 1, 23).rule(2), [7, 30]),
             (of(32, 1, 64), [40, 64]),
         ] {
-            let fill = self.random.fill();
-            let patches = picture(s, sides, fill).patches;
-            let n = patches.len();
-            let mut places = vec![0, 1, n / 3, n / 2, 2 * n / 3, n - 2, n - 1];
-            places.extend((0..5).map(|_| self.random.below(n)));
-            for place in places {
-                let bits = patches[place];
-                let channel = place * 3 / s.patch_floats() % 3;
-                let mut list = odd_bits();
-                list.extend((0..32).map(|bit| bits ^ 1 << bit));
-                list.extend([bits + 1, bits - 1]);
-                for byte in [0, 1, 100, 254, 255] {
-                    list.extend((0..3).map(|shift| value((channel + shift) % 3, byte)));
-                }
-                let mut sets: Vec<_> = list.into_iter().map(|bits| vec![(place, bits)]).collect();
-                let other = self.random.below(n);
-                sets.push(vec![(place, patches[other]), (other, bits)]);
-                sets.push(vec![(place, 0x7FC0_0000), (other, 0x8000_0000)]);
-                let source = Source::Picture(sides, fill);
-                for set in sets {
-                    for out in [n, n - 1, n + 3] {
-                        self.restore(s, s.grid(sides), source, n, out, &set);
-                    }
+            self.damaged_picture(s, sides);
+        }
+    }
+
+    /// A picture's patches with samples changed, at the first places, the last and between.
+    fn damaged_picture(&mut self, s: Settings, sides: Sides) {
+        let fill = self.random.fill();
+        let patches = picture(s, sides, fill).patches;
+        let n = patches.len();
+        let mut places = vec![0, 1, n / 3, n / 2, 2 * n / 3, n - 2, n - 1];
+        places.extend((0..5).map(|_| self.random.below(n)));
+        for place in places {
+            let bits = patches[place];
+            let channel = place * 3 / s.patch_floats() % 3;
+            let mut list = odd_bits();
+            list.extend((0..32).map(|bit| bits ^ 1 << bit));
+            list.extend([bits.wrapping_add(1), bits.wrapping_sub(1)]);
+            for byte in [0, 1, 100, 254, 255] {
+                list.extend((0..3).map(|shift| s.six.value((channel + shift) % 3, byte)));
+            }
+            let mut sets: Vec<_> = list.into_iter().map(|bits| vec![(place, bits)]).collect();
+            let other = self.random.below(n);
+            sets.push(vec![(place, patches[other]), (other, bits)]);
+            sets.push(vec![(place, 0x7FC0_0000), (other, 0x8000_0000)]);
+            let source = Source::Picture(sides, fill);
+            for set in sets {
+                for out in [n, n - 1, n + 3] {
+                    self.restore(s, s.grid(sides), source, n, out, &set);
                 }
             }
         }
@@ -1062,16 +1175,16 @@ impl Comparison {
 
     /// One pixel, with bits around every value and between two, and random bits.
     fn pixels(&mut self) {
-        let plain = [value(0, 9), value(1, 99), value(2, 199)];
+        let plain = [OWN.value(0, 9), OWN.value(1, 99), OWN.value(2, 199)];
         for channel in 0..3 {
             let mut list = odd_bits();
             for byte in 0..=255 {
-                let bits = value(channel, byte);
+                let bits = OWN.value(channel, byte);
                 list.extend(bits - 40..=bits + 40);
-                let next = value(channel, byte.saturating_add(1));
+                let next = OWN.value(channel, byte.saturating_add(1));
                 let middle = ((f32::from_bits(bits) + f32::from_bits(next)) / 2.0).to_bits();
                 list.extend(middle - 1..=middle + 1);
-                list.extend((0..3).map(|other| value(other, byte)));
+                list.extend((0..3).map(|other| OWN.value(other, byte)));
             }
             list.extend((0..MIXED / 2).map(|_| self.random.next() as u32));
             for bits in list {
@@ -1082,10 +1195,11 @@ impl Comparison {
         }
     }
 
-    /// Calls in which each part by itself is sound or not, so that refusals meet.
-    fn mixed(&mut self) {
+    /// Calls in which each part by itself is sound or not, so that refusals meet; the means and
+    /// deviations are those of a list, in turn.
+    fn mixed(&mut self, calls: usize, list: &[Choice]) {
         let odd = odd_bits();
-        for _ in 0..MIXED {
+        for six in list.iter().cycle().take(calls) {
             let random = &mut self.random;
             let patch = random.pick(&[1, 1, 2, 2, 3, 4, 0, 33]);
             let merge = random.pick(&[1, 1, 2, 2, 3, 4, 0, 5]);
@@ -1094,7 +1208,7 @@ impl Comparison {
                 0 => random.pick(&NO_RULES),
                 _ => random.pick(&RULES),
             };
-            let s = of(patch, merge, image).rule(rule);
+            let s = of(patch, merge, image).rule(rule).with(*six);
             let near = |random: &mut Random, n: usize| match random.below(3) {
                 0 => (n.min(1000) + random.below(3)).saturating_sub(1),
                 _ => n.min(1000),
@@ -1192,13 +1306,14 @@ fn edges_and_random() -> bool {
     let mut all = Comparison::new();
     all.large_pictures();
     all.small_pictures();
-    all.random_pictures();
+    all.random_pictures(PICTURES, || OWN);
     all.refused_pictures();
     all.grids();
     all.damaged_pictures();
     all.pixels();
-    all.mixed();
+    all.mixed(MIXED, &[OWN]);
     all.patches();
+    all.choices();
     all.report()
 }
 
@@ -1213,55 +1328,58 @@ fn one(words: &[&str]) -> bool {
 
 // --- The benchmark ---
 
-/// Milliseconds of the fastest of several runs, each of the two in turn.
+/// Milliseconds of the fastest of several runs, each of the two in turn: 15, or those that begin within
+/// three seconds.
 fn fastest(mut ours: impl FnMut(), mut other: impl FnMut()) -> [f64; 2] {
     let time = |run: &mut dyn FnMut()| {
         let began = Instant::now();
         run();
         began.elapsed().as_secs_f64() * 1e3
     };
-    (0..15).fold([f64::INFINITY; 2], |best, _| {
+    let began = Instant::now();
+    let runs = (0..15).take_while(|_| began.elapsed().as_secs() < 3);
+    runs.fold([f64::INFINITY; 2], |best, _| {
         [best[0].min(time(&mut ours)), best[1].min(time(&mut other))]
     })
 }
 
-fn bench() {
-    println!("{:24}{:>10}{:>10}", "milliseconds", "ours", "the Rust");
-    for [height, width] in [[1540, 1540], [1024, 768]] {
-        let made = picture(USUAL, [height, width], Fill::Random(SEED));
-        let mut out = vec![0u32; made.patches.len()];
-        let rgb = black_box(&made.rgb[..]);
-        let ours = || unsafe {
-            let (from, to) = (rgb.as_ptr(), out.as_mut_ptr());
-            black_box(kz_preprocess(
-                USUAL,
-                from,
-                rgb.len(),
-                height,
-                width,
-                to,
-                out.len(),
-            ));
-        };
-        let other = || {
-            black_box(preprocess_in_rust(USUAL, rgb, [height, width]));
-        };
-        let [ours, other] = fastest(ours, other);
-        assert!(out == made.patches, "the patches differ");
-        let name = format!("preprocess {height}x{width}");
-        println!(
-            "{name:24}{ours:10.2}{other:10.2}   {:.2} times as fast",
-            other / ours
-        );
-    }
-    let made = picture(USUAL, [1540, 1540], Fill::Random(SEED));
+fn bench_preprocess(s: Settings, [height, width]: Sides) {
+    let made = picture(s, [height, width], Fill::Random(SEED));
+    let mut out = vec![0u32; made.patches.len()];
+    let rgb = black_box(&made.rgb[..]);
+    let ours = || unsafe {
+        let (from, to) = (rgb.as_ptr(), out.as_mut_ptr());
+        black_box(kz_preprocess(
+            s,
+            from,
+            rgb.len(),
+            height,
+            width,
+            to,
+            out.len(),
+        ));
+    };
+    let other = || {
+        black_box(preprocess_in_rust(s, rgb, [height, width]));
+    };
+    let [ours, other] = fastest(ours, other);
+    assert!(out == made.patches, "the patches differ");
+    let name = format!("preprocess {height}x{width}");
+    println!(
+        "{name:24}{ours:10.2}{other:10.2}   {:.2} times as fast",
+        other / ours
+    );
+}
+
+fn bench_restore(s: Settings, sides: Sides) {
+    let made = picture(s, sides, Fill::Random(SEED));
     let mut out = vec![0u8; made.resized.len()];
     let patches = black_box(&made.patches[..]);
     let ours = || unsafe {
         let (from, to) = (patches.as_ptr(), out.as_mut_ptr());
         let [grid_h, grid_w] = made.grid;
         black_box(kz_restore(
-            USUAL,
+            s,
             from,
             patches.len(),
             grid_h,
@@ -1272,11 +1390,25 @@ fn bench() {
     };
     let [ours, _] = fastest(ours, || {});
     assert!(out == made.resized, "the bytes are not the resized ones");
+    let name = format!("restore {}x{}", sides[0], sides[1]);
     let speed = out.len() as f64 / ours / 1e3;
     println!(
-        "{:24}{ours:10.2}{:>10}   {speed:.0} MB of RGB a second",
-        "restore 1540x1540", "-"
+        "{name:24}{ours:10.2}{:>10}   {speed:.0} MB of RGB a second",
+        "-"
     );
+}
+
+fn bench() {
+    println!("{:24}{:>10}{:>10}", "milliseconds", "ours", "the Rust");
+    let largest = [1540, 1540];
+    bench_preprocess(USUAL, largest);
+    bench_preprocess(USUAL, [1024, 768]);
+    bench_restore(USUAL, largest);
+    println!("means 0.2, deviations 0.25: grey ultrasound");
+    bench_preprocess(USUAL.with(choices::grey()), largest);
+    bench_restore(USUAL.with(choices::grey()), largest);
+    println!("means 0.2, deviations 1e38: each byte is looked up by halving the table");
+    bench_restore(USUAL.with(choices::wide()), largest);
 }
 
 // --- The sample ---
@@ -1317,10 +1449,11 @@ fn asked(s: Settings, sides: Sides, seed: u32) -> Asked {
 
 impl Asked {
     /// The record's line, by the Rust and the paper's text alone.
-    fn answered(&self, bytes: &Bytes) -> String {
+    fn answered(&self) -> String {
         let (s, sides) = (self.s, self.sides);
+        let table = Table::new(s.six);
         let mut cells: Vec<u32> = sample::marks().take(CELLS).collect();
-        let mut report = [refused(s, self.rgb, sides) as usize, 0, 0, 0];
+        let mut report = [refused(&table, s, self.rgb, sides) as usize, 0, 0, 0];
         if report[0] == 0 {
             let made = picture(s, sides, Fill::Sample(self.seed));
             let n = made.patches.len();
@@ -1334,7 +1467,7 @@ impl Asked {
         let floats_hash = hash(&cells[..self.out]);
         sample::damage(&mut cells, self.damage, self.place);
         let mut whole = Fill::Sample(MARKS).bytes(self.bytes, [1, 1]);
-        let back = match restored(bytes, s, &cells[..self.floats], self.grid, self.bytes) {
+        let back = match restored(&table, s, &cells[..self.floats], self.grid, self.bytes) {
             Ok(bytes) => {
                 whole[..bytes.len()].copy_from_slice(&bytes);
                 [0, self.grid[0] * s.patch_size, self.grid[1] * s.patch_size]
@@ -1350,6 +1483,8 @@ impl Asked {
         list.extend([self.damage, self.place]);
         list.extend(back);
         list.extend([bytes_hash as usize, s.resize_rule]);
+        let six = s.six.mean.into_iter().chain(s.six.deviation);
+        list.extend(six.map(|bits| bits as usize));
         sample::line(&list)
     }
 }
@@ -1503,10 +1638,10 @@ fn sample() -> std::io::Result<()> {
     sample_pictures(&mut random, &mut list);
     sample_refusals(&mut random, &mut list);
     sample_rules(&mut random, &mut list);
-    let bytes = bytes_by_bits();
+    choices::sample(&mut random, &mut list);
     let mut out = std::io::stdout().lock();
     list.iter()
-        .try_for_each(|a| writeln!(out, "{}", a.answered(&bytes)))
+        .try_for_each(|a| writeln!(out, "{}", a.answered()))
 }
 
 fn main() {

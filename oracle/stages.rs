@@ -8,7 +8,7 @@
 //!   squares is infinite, so its norm is 0, and gate, up and down with it. Where none is, h is below half of
 //!   f32::MAX's last place, 2^103, and down, finite, stays finite with it.
 
-use super::{sized, Call, Random, Settings};
+use super::{sized, Call, Random, Settings, OWN};
 
 // The stages, in the order in which they are examined.
 const BEFORE: [&str; 8] =
@@ -72,6 +72,7 @@ fn calm(r: &mut Random) -> Call {
         spatial_merge_size: 1,
         image_size: 5,
         resize_rule: 1,
+        six: OWN,
         hidden_size: 4,
         num_heads: 1,
         head_dim: 4,

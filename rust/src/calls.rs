@@ -31,7 +31,9 @@ pub struct Picture {
 /// side becomes max(1, ⌊side × S / m⌋) before the same rounding. Where no side is above the image size, both rules give
 /// the same patches.
 ///
-/// Patches run by row; a patch has its samples by channel, row and column. Refused with the first of 1, 2, 3, 4, 5.
+/// A byte becomes a sample by the mean and the deviation of its channel; [`PictureSettings`] says how, and which are
+/// allowed. Patches run by row; a patch has its samples by channel, row and column. Refused with the first of 1, 19, 2,
+/// 3, 4, 5.
 ///
 /// ```
 /// # fn main() -> Result<(), kyzgultam::Refusal> {
@@ -68,9 +70,10 @@ pub fn pixtral_preprocess(
 }
 
 /// The resized picture that gave the patches; the picture itself where both its sides are multiples of patch × merge
-/// and neither is above the image size. It is the same by both resize rules: the grid says its sides.
+/// and neither is above the image size. It is the same by both resize rules: the grid says its sides. Means and
+/// deviations are to be those that the patches were made with: with others most patches are refused with 8.
 ///
-/// Refused with the first of 1, 6, 7, 5, 8: with 8 exactly where no picture gives these patches.
+/// Refused with the first of 1, 19, 6, 7, 5, 8: with 8 exactly where no picture gives these patches.
 ///
 /// ```
 /// # fn main() -> Result<(), kyzgultam::Refusal> {
@@ -121,7 +124,8 @@ pub fn patch(patches: &[f32], patch_size: usize, i: usize) -> &[f32] {
 /// The token vectors of patches: their count, and `text_hidden_size` floats for each over the front of `out`.
 ///
 /// [`EncoderSettings::lengths`] tells the length of each buffer. The scratch may hold anything; after an accepted call,
-/// and after [`Refusal::NotFinite`], all of it is +0, and after any other refusal it is as it was.
+/// and after [`Refusal::NotFinite`], all of it is +0, and after any other refusal it is as it was. The picture's means
+/// and deviations are not read: whatever they are, the answer is the same.
 /// Refused with the first of 1, 6, 7, 9, 10, 5, 11, 12. [The crate's first example](crate) has a call.
 ///
 /// No output can be lent as an input too:

@@ -18,34 +18,37 @@ use std::fmt;
 #[non_exhaustive]
 pub enum Refusal {
     /// 1: a setting is not allowed.
-    Setting,
+    Setting = 1,
     /// 2: height or width is not in 1..8192.
-    Side,
+    Side = 2,
     /// 3: the RGB length is not height × width × 3.
-    RgbLength,
+    RgbLength = 3,
     /// 4: the image size is below patch × merge.
-    ImageSize,
+    ImageSize = 4,
     /// 5: the output is shorter than the result.
-    Output,
+    Output = 5,
     /// 6: a grid side is 0, above image size / patch, or not divisible by merge.
-    Grid,
+    Grid = 6,
     /// 7: the patches' length does not fit the grid.
-    PatchesLength,
+    PatchesLength = 7,
     /// 8: a sample has bits that no byte has in its channel.
-    Sample,
+    Sample = 8,
     /// 9: the weights' length is not that of the settings.
-    WeightsLength,
+    WeightsLength = 9,
     /// 10: a rotary table's length is not that of the settings.
-    TableLength,
+    TableLength = 10,
     /// 11: the scratch is too short.
-    Scratch,
+    Scratch = 11,
     /// 12: a value is not finite.
-    NotFinite,
+    NotFinite = 12,
+    /// 19: by its mean and deviation a channel's 256 samples are not all finite, or neither strictly rise nor strictly
+    /// fall.
+    Channel = 19,
 }
 
 impl Refusal {
     /// Every refusal, by number.
-    pub const ALL: [Refusal; 12] = [
+    pub const ALL: [Refusal; 13] = [
         Refusal::Setting,
         Refusal::Side,
         Refusal::RgbLength,
@@ -58,11 +61,12 @@ impl Refusal {
         Refusal::TableLength,
         Refusal::Scratch,
         Refusal::NotFinite,
+        Refusal::Channel,
     ];
 
-    /// The number, the same as in C and in the documents: 1 to 12.
+    /// The number, the same as in C and in the documents: 1 to 12, and 19.
     pub fn number(self) -> u32 {
-        self as u32 + 1
+        self as u32
     }
 
     /// What a number says: nothing at 0.
@@ -72,7 +76,7 @@ impl Refusal {
     pub(crate) fn check(number: u32) -> Result<(), Refusal> {
         match number {
             0 => Ok(()),
-            n => match Refusal::ALL.get(n as usize - 1) {
+            n => match Refusal::ALL.iter().find(|refusal| refusal.number() == n) {
                 Some(refusal) => Err(*refusal),
                 None => panic!("the archives answer {n}: they are of another version than this crate"),
             },
@@ -95,8 +99,28 @@ impl fmt::Display for Refusal {
             Refusal::TableLength => "a rotary table's length is not that of the settings",
             Refusal::Scratch => "the scratch is too short",
             Refusal::NotFinite => "a value is not finite, in the inputs or at a stage",
+            Refusal::Channel => "a channel's samples are not all finite, or neither strictly rise nor strictly fall",
         })
     }
 }
 
 impl Error for Refusal {}
+
+#[cfg(test)]
+mod tests {
+    use super::*;
+
+    #[test]
+    fn a_number_is_found_wherever_it_stands() {
+        assert_eq!(Refusal::check(0), Ok(()));
+        for refusal in Refusal::ALL {
+            assert_eq!(Refusal::check(refusal.number()), Err(refusal));
+        }
+    }
+
+    #[test]
+    #[should_panic(expected = "the archives answer 13: they are of another version")]
+    fn a_number_between_two_is_none() {
+        let _ = Refusal::check(13);
+    }
+}

@@ -1,8 +1,40 @@
 use crate::{face, Refusal};
 
-/// How a picture is resized and cut. The default is a Pixtral's: 14, 2 and 1540, with resize rule 1, the Rust's.
+/// How a picture is resized and cut, and what its bytes become. The default is a Pixtral's: 14, 2 and 1540, with resize
+/// rule 1 and means and deviations that are the Rust's.
+///
+/// The sample of byte b in channel c (red, green, blue) is (b / 255 − `mean[c]`) / `deviation[c]` in f32, each
+/// operation rounded. A channel is allowed when its 256 samples are finite and strictly rise or strictly fall with b,
+/// compared as numbers: then no two bytes are alike. Where one is not,
+/// [`pixtral_preprocess`](crate::pixtral_preprocess) and [`restore`](crate::restore) are refused with 19; no other
+/// call, and no method here, reads the six numbers.
+///
+/// ```
+/// # fn main() -> Result<(), kyzgultam::Refusal> {
+/// use kyzgultam::{pixtral_preprocess, restore, PictureSettings, Refusal};
+///
+/// // Grey ultrasound: its own mean and deviation, in all channels.
+/// let grey = PictureSettings { mean: [0.2; 3], deviation: [0.25; 3], ..PictureSettings::new(14, 2, 1540) };
+/// let rgb = [51; 28 * 28 * 3];
+/// let mut patches = [0.0; 28 * 28 * 3];
+/// let grid = pixtral_preprocess(&rgb, 28, 28, &grey, &mut patches)?;
+/// assert!(patches.iter().all(|sample| *sample == (51.0 / 255.0 - 0.2) / 0.25));
+///
+/// // The way back needs the same six numbers.
+/// let mut back = [0; 28 * 28 * 3];
+/// restore(&patches, grid.grid_h, grid.grid_w, &grey, &mut back)?;
+/// assert_eq!(back, rgb);
+/// let other = restore(&patches, grid.grid_h, grid.grid_w, &PictureSettings::default(), &mut back);
+/// assert_eq!(other, Err(Refusal::Sample));
+///
+/// // From so large a mean no byte stands out.
+/// let alike = PictureSettings { mean: [0.2, 0.2, 1e8], ..grey };
+/// assert_eq!(pixtral_preprocess(&rgb, 28, 28, &alike, &mut patches), Err(Refusal::Channel));
+/// # Ok(())
+/// # }
+/// ```
 #[repr(C)]
-#[derive(Clone, Copy, Debug, PartialEq, Eq, Hash)]
+#[derive(Clone, Copy, Debug, PartialEq)]
 pub struct PictureSettings {
     /// 1..32.
     pub patch_size: usize,
@@ -13,6 +45,10 @@ pub struct PictureSettings {
     /// 1 or 2: 1 cuts each side by itself, 2 keeps the shape of a long picture.
     /// [`pixtral_preprocess`](crate::pixtral_preprocess) says how.
     pub resize_rule: usize,
+    /// By channel; allowed together with its deviation.
+    pub mean: [f32; 3],
+    /// By channel; below zero the samples fall.
+    pub deviation: [f32; 3],
 }
 
 /// The sizes of an encoder. The default is the one that the Rust takes where a config says nothing.
@@ -74,7 +110,7 @@ impl Default for EncoderSettings {
 }
 
 impl PictureSettings {
-    /// The settings of the common call, with resize rule 1.
+    /// The settings of the common call, with resize rule 1 and the Rust's means and deviations.
     ///
     /// ```
     /// use kyzgultam::PictureSettings;
@@ -83,11 +119,20 @@ impl PictureSettings {
     /// let panoramic = PictureSettings { resize_rule: 2, ..PictureSettings::new(14, 2, 1540) };
     /// assert_eq!(panoramic.grid(3080, 1540), Ok((110, 56)));
     /// ```
+    #[allow(clippy::excessive_precision)] // the Rust's own digits
     pub const fn new(patch_size: usize, spatial_merge_size: usize, image_size: usize) -> Self {
-        PictureSettings { patch_size, spatial_merge_size, image_size, resize_rule: 1 }
+        PictureSettings {
+            patch_size,
+            spatial_merge_size,
+            image_size,
+            resize_rule: 1,
+            mean: [0.48145466, 0.4578275, 0.40821073],
+            deviation: [0.26862954, 0.26130258, 0.27577711],
+        }
     }
 
-    /// The grid that a picture of these sides gives: `grid_h` and `grid_w`. Refused with 1, 2 or 4.
+    /// The grid that a picture of these sides gives: `grid_h` and `grid_w`. Refused with 1, 2 or 4; never with 19,
+    /// since no length hangs on means and deviations: the calls that use them decide whether they are allowed.
     ///
     /// ```
     /// let settings = kyzgultam::PictureSettings::default();
@@ -120,14 +165,14 @@ impl PictureSettings {
     }
 
     /// How many floats [`pixtral_preprocess`](crate::pixtral_preprocess) writes for a picture of these sides. Refused
-    /// with 1, 2 or 4.
+    /// with 1, 2 or 4, as [`grid`](Self::grid) is.
     pub fn patches_len(&self, height: usize, width: usize) -> Result<usize, Refusal> {
         let (grid_h, grid_w) = self.grid(height, width)?;
         self.restored_len(grid_h, grid_w)
     }
 
     /// How many bytes [`restore`](crate::restore) writes for this grid, as many as there are floats in its patches.
-    /// Refused with 1 or 6.
+    /// Refused with 1 or 6; means and deviations are not read.
     pub fn restored_len(&self, grid_h: usize, grid_w: usize) -> Result<usize, Refusal> {
         // Patches are as long for every encoder, so any that is allowed serves.
         let encoder = EncoderSettings { picture: *self, ..EncoderSettings::default() };
@@ -137,7 +182,7 @@ impl PictureSettings {
 
 impl EncoderSettings {
     /// How many floats each buffer of a [`forward`](crate::forward) call with this grid has to have: the lengths that
-    /// `forward` is proved to compare with. Refused with 1 or 6.
+    /// `forward` is proved to compare with. Refused with 1 or 6; the picture's means and deviations are not read.
     ///
     /// ```
     /// # fn main() -> Result<(), kyzgultam::Refusal> {

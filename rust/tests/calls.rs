@@ -2,7 +2,7 @@
 
 mod common;
 
-use common::{same, Random};
+use common::{alike, allowed, same, sample, Random};
 use kyzgultam::{
     bf16, exp, forward, half_to_f32, patch, pixtral_preprocess, restore, root, tanh, EncoderSettings, Patches, Picture,
     PictureSettings, Refusal,
@@ -172,20 +172,163 @@ fn a_picture_is_resized_by_its_rule() {
     assert!(whole > 100 && squashed > 100, "{whole} {squashed}");
 }
 
+/// One patch in which each channel has each byte once.
+const WHOLE: PictureSettings = PictureSettings::new(16, 1, 16);
+
+fn every_byte() -> Vec<u8> {
+    (0..=255).flat_map(|k: u8| [k, 255 - k, k ^ 0x5A]).collect()
+}
+
+fn by_channel(channels: [(f32, f32); 3]) -> PictureSettings {
+    PictureSettings { mean: channels.map(|c| c.0), deviation: channels.map(|c| c.1), ..WHOLE }
+}
+
+/// The one patch of a picture, as the definition of a sample reads.
+fn samples(s: &PictureSettings, rgb: &[u8]) -> Vec<f32> {
+    let of = |i: usize, c: usize| sample(rgb[i * 3 + c], s.mean[c], s.deviation[c]);
+    (0..3).flat_map(|c| (0..256).map(move |i| of(i, c))).collect()
+}
+
+/// The byte that has these bits in a channel.
+fn byte_of(s: &PictureSettings, channel: usize, bits: u32) -> Option<u8> {
+    (0..=255).find(|byte| sample(*byte, s.mean[channel], s.deviation[channel]).to_bits() == bits)
+}
+
+/// Restores a patch with the sample at a place replaced: where it is a byte's, that byte comes back and the others
+/// stay; where not, it is 8 and nothing is written. Whether it was a byte's.
+fn replaced(s: &PictureSettings, rgb: &[u8], patch: &[f32], place: usize, bits: u32) -> bool {
+    let mut patch = patch.to_vec();
+    patch[place] = f32::from_bits(bits);
+    let mut back = vec![0xA5; rgb.len()];
+    let found = restore(&patch, 1, 1, s, &mut back);
+    let byte = byte_of(s, place / 256, bits);
+    match byte {
+        Some(byte) => {
+            let mut right = rgb.to_vec();
+            right[place % 256 * 3 + place / 256] = byte;
+            assert_eq!((found, back), (Ok(Picture { height: 16, width: 16 }), right), "{s:?} {place} {bits:x}");
+        }
+        None => {
+            assert_eq!(found, Err(Refusal::Sample), "{s:?} {place} {bits:x}");
+            assert!(back.iter().all(|b| *b == 0xA5));
+        }
+    }
+    byte.is_some()
+}
+
+/// The Rust's, grey ultrasound's, falling samples, sizes near the ends, and channels that have little in common.
+fn choices() -> Vec<PictureSettings> {
+    let pairs = [
+        (0.2, 0.25),
+        (0.2, -0.25),
+        (0.0, 1.0),
+        (-0.0, -1.0),
+        (0.5, 0.5),
+        (0.2, 1e-30),
+        (0.2, -1e-30),
+        (0.2, 3e-39),
+        (0.2, 1e38),
+        (0.2, -1e38),
+        (1e-45, f32::MAX),
+        (1000.0, 0.25),
+        (-65_000.0, 1.0),
+        (65_536.0, 1.0),
+    ];
+    let all = pairs.map(|(mean, deviation)| alike(mean, deviation, WHOLE));
+    let own = [[(0.2, 0.25), (0.5, -3.0), (-7.0, 1e38)], [(0.1, 1e-30), (0.0, 1.0), (0.4, 0.3)]].map(by_channel);
+    [&[WHOLE][..], &all, &own].concat()
+}
+
 #[test]
-fn forward_has_the_same_bits_by_both_rules() {
+fn the_default_has_the_rusts_six_numbers() {
+    for s in [PictureSettings::new(1, 1, 1), PictureSettings::default(), EncoderSettings::default().picture] {
+        assert_eq!(s.mean.map(f32::to_bits), [0x3EF6_813A, 0x3EEA_685E, 0x3ED1_00FF]);
+        assert_eq!(s.deviation.map(f32::to_bits), [0x3E89_89D0, 0x3E85_C974, 0x3E8D_32A8]);
+    }
+}
+
+#[test]
+fn samples_are_the_formula_and_come_back() {
+    let mut random = Random(20_260_801);
+    let drawn: Vec<_> = (0..500).map(|_| by_channel([(); 3].map(|()| random.allowed_channel()))).collect();
+    let rgb = every_byte();
+    let (mut zeros, mut others, mut refused) = (0, 0, 0);
+    for s in choices().into_iter().chain(drawn) {
+        assert!(s.mean.into_iter().zip(s.deviation).all(|(mean, deviation)| allowed(mean, deviation)), "{s:?}");
+        let (made, patch, back) = there_and_back(&s, &rgb, 16, 16);
+        assert_eq!(made, Patches { grid_h: 1, grid_w: 1, floats: 768 });
+        assert!(same(&patch, &samples(&s, &rgb)), "{s:?}");
+        assert_eq!(back, rgb, "{s:?}");
+        // Bits are compared, not numbers: of two zeros one is a byte's.
+        for place in (0..768).filter(|place| patch[*place] == 0.0) {
+            assert!(!replaced(&s, &rgb, &patch, place, patch[place].to_bits() ^ 1 << 31), "{s:?}");
+            zeros += 1;
+        }
+        for _ in 0..40 {
+            let (place, bit) = (random.from(0, 767), random.from(0, 31));
+            match replaced(&s, &rgb, &patch, place, patch[place].to_bits() ^ 1 << bit) {
+                true => others += 1,
+                false => refused += 1,
+            }
+        }
+    }
+    // With a mean of 0 twice a sample is often another byte's.
+    assert!(zeros > 20 && others > 20 && refused > 10_000, "{zeros} {others} {refused}");
+}
+
+#[test]
+fn a_sample_of_another_choice_has_its_byte_or_none() {
+    let rgb = every_byte();
+    let choices = choices();
+    let (mut others, mut refused) = (0, 0);
+    for (from, to) in choices.iter().map(|s| (&WHOLE, s)).chain(choices.iter().map(|s| (s, &WHOLE))) {
+        let (theirs, patch) = (samples(from, &rgb), samples(to, &rgb));
+        for (place, sample) in theirs.iter().enumerate() {
+            match replaced(to, &rgb, &patch, place, sample.to_bits()) {
+                true => others += 1,
+                false => refused += 1,
+            }
+        }
+    }
+    // The Rust's own, twice, and few others.
+    assert!(others >= 2 * 768 && refused > 20_000, "{others} {refused}");
+}
+
+/// The tokens of one call, with these picture settings in it.
+fn tokens(picture: PictureSettings) -> Vec<f32> {
     let mut random = Random(20_260_702);
-    let mut settings = EncoderSettings { picture: PictureSettings::new(2, 2, 16), ..random.encoder() };
+    let settings = EncoderSettings { picture: PictureSettings::new(2, 2, 16), ..random.encoder() };
     let n = settings.lengths(4, 6).unwrap();
     let [patches, weights, cos, sin] = [n.patches, n.weights, n.tables, n.tables].map(|len| random.floats(len, 0.5));
-    let [one, two] = [1, 2].map(|rule| {
-        settings.picture.resize_rule = rule;
-        let (mut scratch, mut out) = (vec![0.0; n.scratch], vec![0.0; n.out]);
-        forward(&settings, &patches, 4, 6, &weights, &cos, &sin, &mut scratch, &mut out).unwrap();
-        assert_eq!(settings.lengths(4, 6), Ok(n));
-        out
-    });
+    let settings = EncoderSettings { picture, ..settings };
+    let (mut scratch, mut out) = (vec![0.0; n.scratch], vec![0.0; n.out]);
+    forward(&settings, &patches, 4, 6, &weights, &cos, &sin, &mut scratch, &mut out).unwrap();
+    assert_eq!(settings.lengths(4, 6), Ok(n));
+    out
+}
+
+#[test]
+fn forward_has_the_same_bits_by_both_rules() {
+    let [one, two] = [1, 2].map(|rule| tokens(by_rule(rule, PictureSettings::new(2, 2, 16))));
     assert!(same(&one, &two) && one.iter().any(|x| *x != 0.0));
+}
+
+#[test]
+fn forward_and_lengths_never_read_means_and_deviations() {
+    let settings = PictureSettings::new(2, 2, 16);
+    let right = tokens(settings);
+    for odd in [f32::NAN, -f32::NAN, f32::INFINITY, f32::NEG_INFINITY, 0.0, 1e8, 0.25] {
+        for s in [
+            PictureSettings { mean: [odd; 3], ..settings },
+            PictureSettings { deviation: [odd; 3], ..settings },
+            alike(odd, odd, settings),
+        ] {
+            assert!(same(&tokens(s), &right), "{s:?}");
+            assert_eq!(s.grid(9, 40), settings.grid(9, 40));
+            assert_eq!(s.patches_len(9, 40), settings.patches_len(9, 40));
+            assert_eq!(s.restored_len(4, 6), settings.restored_len(4, 6));
+        }
+    }
 }
 
 #[test]

@@ -3,7 +3,7 @@
 mod common;
 
 use common::tool::{npy, p6, plain, sweep, Folder, LIST, TABLE, TINY, WEIGHTS};
-use common::Random;
+use common::{alike, Random};
 use kyzgultam::{pixtral_preprocess, restore, PictureSettings};
 use std::fs;
 use std::path::Path;
@@ -20,6 +20,8 @@ fn help_fits_a_screen() {
         assert!(text.lines().count() <= 24, "{words}");
         assert!(text.lines().all(|l| l.chars().count() < 80), "{words}");
         assert!(text.contains("rule") || words.starts_with("bench"), "{words}");
+        let both = text.contains("mean") && text.contains("deviation");
+        assert!(both || words.starts_with("demo"), "{words}");
     }
 }
 
@@ -50,7 +52,15 @@ fn usage() {
         ("encode a.ppm -o out --settings rule", "--settings: rule: a list"),
         ("patches a.ppm -o out --settings rule=", "--settings: rule=: a list"),
         ("compare a.ppm a.ppm --settings rule=two", "--settings: rule=two: a list"),
-        ("restore a.patches -o out.ppm --settings rules=2", "keys: patch merge image rule hidden"),
+        ("restore a.patches -o out.ppm --settings rules=2", "keys: patch merge image rule mean deviation hidden"),
+        ("encode a.ppm -o out --settings mean", "--settings: mean: a list"),
+        ("patches a.ppm -o out --settings mean=", "--settings: mean=: a list"),
+        ("patches a.ppm -o out --settings mean=grey", "--settings: mean=grey: a list"),
+        ("patches a.ppm -o out --settings deviation=0.2/0.3", "--settings: deviation=0.2/0.3: a list"),
+        ("compare a.ppm a.ppm --settings mean=1/2/3/4", "mean and deviation take one number, or three as 0.5/0.4/0.3"),
+        ("restore a.patches -o out.ppm --settings deviation=1//3", "--settings: deviation=1//3: a list"),
+        ("bench --settings mean=0.2,deviation=0,25x", "--settings: 25x: a list"),
+        ("patches a.ppm -o out --settings std=0.25", "--settings: std=0.25: a list"),
         ("encode a.ppm -o out --settings colour=1", "--settings: colour=1"),
         ("encode a.ppm -o out --settings scale=wide", "--settings: scale=wide"),
         ("encode a.ppm b/a.ppm -o out", "same file"),
@@ -160,6 +170,100 @@ fn a_long_sweep_is_resized_by_its_rule() {
     sweep(&folder, "tall.ppm", 48, 24, 3);
     folder.done(&format!("compare square.ppm tall.ppm {LIST}"));
     folder.fails(1, &format!("compare square.ppm tall.ppm {LIST},rule=2"), &["square.ppm", "8x8", "tall.ppm", "8x4"]);
+}
+
+#[test]
+fn means_and_deviations() {
+    let folder = Folder::new("means");
+    let rgb = sweep(&folder, "a.ppm", 8, 12, 7);
+    let cut = |settings: &PictureSettings| {
+        let mut patches = vec![0.0; rgb.len()];
+        pixtral_preprocess(&rgb, 8, 12, settings, &mut patches).unwrap();
+        npy([4, 6, 12], &patches)
+    };
+    let own = PictureSettings { mean: [0.48, -0.5, 1.0], deviation: [-0.25, 30.0, 0.001], ..TINY };
+    let half = PictureSettings { deviation: [0.25; 3], ..TINY };
+    for (i, (list, settings)) in [
+        ("mean=0.2,deviation=0.25", alike(0.2, 0.25, TINY)),
+        ("deviation=.25,mean=2e-1", alike(0.2, 0.25, TINY)),
+        ("mean=0.2/0.2/0.2,deviation=0.25/+0.25/0.25", alike(0.2, 0.25, TINY)),
+        ("mean=0.48/-0.5/1,deviation=-0.25/3e1/0.001", own),
+        ("mean=-0.2,deviation=-1e-30", alike(-0.2, -1e-30, TINY)),
+        ("mean=0.2,deviation=1e38", alike(0.2, 1e38, TINY)),
+        ("deviation=0.25", half),
+        ("mean=0.48145466/0.4578275/0.40821073,deviation=0.26862954/0.26130258/0.27577711", TINY),
+        ("rule=1", TINY),
+    ]
+    .into_iter()
+    .enumerate()
+    {
+        let file = format!("{i}/a.patches.npy");
+        folder.done(&format!("patches a.ppm -o {i} {LIST},{list}"));
+        assert_eq!(folder.get(&file), cut(&settings), "{list}");
+        folder.done(&format!("restore {file} -o back.ppm --force {LIST},{list}"));
+        assert_eq!(folder.get("back.ppm"), folder.get("a.ppm"), "{list}");
+        // With others than its own the file is no picture's.
+        let others = if settings == TINY { "mean=0.2" } else { "rule=1" };
+        let parts = [&file[..], "number 8", "damaged", "another mean= or deviation="];
+        folder.fails(1, &format!("restore {file} -o other.ppm {LIST},{others}"), &parts);
+        // Equal bytes have equal samples.
+        let said = folder.done(&format!("compare a.ppm a.ppm -o map{i}.ppm {LIST},{list}"));
+        assert!(said.starts_with("24 of 24 patches are equal\n"), "{said}");
+        assert_eq!(folder.get(&format!("map{i}.ppm")), folder.get("map0.ppm"));
+    }
+    assert!(!folder.path("other.ppm").exists());
+    // Token vectors are those of the patches.
+    for (out, list) in [("grey", "mean=0.2,deviation=0.25"), ("own", "rule=1"), ("again", "deviation=0.25,mean=0.2")] {
+        folder.done(&format!("encode a.ppm -o {out} {LIST},{list}"));
+    }
+    assert_eq!(folder.get("grey/a.tokens.npy"), folder.get("again/a.tokens.npy"));
+    assert_ne!(folder.get("grey/a.tokens.npy"), folder.get("own/a.tokens.npy"));
+}
+
+#[test]
+fn refused_means_and_deviations() {
+    let folder = Folder::new("channel");
+    sweep(&folder, "a.ppm", 8, 12, 7);
+    sweep(&folder, "b.ppm", 8, 12, 8);
+    folder.done(&format!("patches a.ppm -o . {LIST}"));
+    let words =
+        "kz: --settings: refused, number 19: a channel's samples are not all finite, or neither strictly rise nor \
+                 strictly fall; give another mean= or deviation=, as mean=0.2,deviation=0.25, or leave both out\n";
+    for list in [
+        "deviation=0",
+        "deviation=-0/0.2/0.2",
+        "mean=nan",
+        "mean=0.2/0.2/NaN",
+        "mean=inf",
+        "deviation=-inf",
+        "deviation=0.2/1e-40/0.2",
+        "mean=1e8",
+        "mean=1e99",
+        "mean=0.2/0.2/65600",
+        "mean=0.2,deviation=0.25,deviation=1e-60",
+    ] {
+        for command in [
+            "patches a.ppm b.ppm -o out",
+            "encode a.ppm b.ppm -o out",
+            "restore a.patches.npy -o out.ppm",
+            "restore a.ppm --grid 3x5 -o out.ppm",
+            "compare a.ppm b.ppm -o out.png",
+            "bench --size 8x8",
+        ] {
+            // Said once, and before an image size that leaves no grid.
+            for image in [16, 3] {
+                let output = folder.kz(&format!("{command} {LIST},image={image},{list}"));
+                let said = String::from_utf8(output.stderr).unwrap();
+                assert_eq!((output.status.code(), &said[..]), (Some(1), words), "{command} {list}");
+                assert!(output.stdout.is_empty(), "{command} {list}");
+            }
+        }
+        // A setting that is not allowed comes first.
+        for command in ["patches a.ppm -o out", "restore a.patches.npy -o out.ppm", "compare a.ppm b.ppm"] {
+            folder.fails(1, &format!("{command} {LIST},{list},rule=3"), &["--settings: refused, number 1: "]);
+        }
+    }
+    assert_eq!(folder.names("."), ["a.patches.npy", "a.ppm", "b.ppm"]);
 }
 
 #[test]
@@ -382,12 +486,25 @@ fn names_after_two_dashes_are_files() {
 fn bench_times_every_call() {
     let folder = Folder::new("bench");
     let said = folder.done(&format!("bench --size 8x8 {LIST}"));
-    for call in ["preprocess", "forward", "restore"] {
-        assert!(said.contains(call), "{said}");
+    for part in ["\nmean and deviation as in the Rust\n", "preprocess", "forward", "restore"] {
+        assert!(said.contains(part), "{said}");
     }
     for (rule, grid) in [(1, " 4x8 "), (2, " 2x8 ")] {
         let said = folder.done(&format!("bench --size 8x48 {LIST},rule={rule}"));
         assert!(said.contains(&format!(", image 16, rule {rule}\n")) && said.contains(grid), "{said}");
+    }
+    let said = folder.done(&format!("bench --size 8x8 {LIST},mean=0.2,deviation=0.1/0.25/1e38"));
+    assert!(said.contains("\nmean 0.2/0.2/0.2, deviation 0.1/0.25/1e38\n"), "{said}");
+    by_choices(&said, "8x8");
+}
+
+/// The last lines of the port's times: restore by three choices of means and deviations.
+fn by_choices(said: &str, size: &str) {
+    let lines: Vec<&str> = said.lines().collect();
+    let [.., head, rust, grey, halving] = &lines[..] else { panic!("{said}") };
+    assert!(head.starts_with(&format!("restore of {size} by mean and deviation ")), "{said}");
+    for (line, name) in [(rust, "the Rust's "), (grey, "0.2 and 0.25, "), (halving, "0.2 and 1e38, ")] {
+        assert!(line.starts_with(name) && line.ends_with(" MB of RGB a second") && line.contains(" ms "), "{said}");
     }
 }
 
@@ -426,6 +543,7 @@ fn bench_beside_the_rust() {
     assert_eq!(status, Some(0), "{errors}");
     assert!(errors.contains(skipped), "{errors}");
     assert!(said.starts_with("hidden 64, ") && said.contains("1540x1540   110x110   restore"), "{said}");
+    by_choices(&said, "1540x1540");
     // With a source that is another, oracle/run fails, and kz says so.
     fs::create_dir_all(folder.path("empty/crates/vision/src")).unwrap();
     for name in ["pixtral.rs", "image_process.rs"] {

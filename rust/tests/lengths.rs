@@ -60,13 +60,17 @@ fn compare(s: &EncoderSettings, grid_h: usize, grid_w: usize) -> Result<Lengths,
     right
 }
 
-/// Settings from all of what is allowed.
+/// Settings from all of what is allowed, with any means and deviations, which no length hangs on.
 fn any(random: &mut Random) -> EncoderSettings {
     let head_dim = 4 * random.from(1, 64);
     let num_heads = random.from(1, (2048 / head_dim).min(64));
+    let mut floats = || [(); 3].map(|()| f32::from_bits(random.next() as u32));
+    let (mean, deviation) = (floats(), floats());
     EncoderSettings {
         picture: PictureSettings {
             resize_rule: random.from(1, 2),
+            mean,
+            deviation,
             ..PictureSettings::new(random.from(1, 32), random.from(1, 4), random.from(1, 2048))
         },
         hidden_size: num_heads * head_dim,
@@ -164,7 +168,8 @@ fn forward_takes_just_these() {
     let mut random = Random(1_234_567);
     let (mut accepted, mut refused, mut hopeless) = (0, 0, 0);
     for _ in 0..400 {
-        let s = random.encoder();
+        let mut s = random.encoder();
+        (s.picture.mean, s.picture.deviation) = ([f32::NAN; 3], [0.0; 3]);
         let (grid_h, grid_w) = (random.from(0, 9), random.from(0, 9));
         let found = s.lengths(grid_h, grid_w);
         let Ok(n) = found else {

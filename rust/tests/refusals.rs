@@ -2,7 +2,7 @@
 
 mod common;
 
-use common::{same, Random};
+use common::{allowed, same, Random};
 use kyzgultam::{
     forward, pixtral_preprocess, restore, EncoderSettings, Patches, PictureSettings, PixtralEncoder, Refusal,
 };
@@ -42,14 +42,30 @@ fn each<C: Clone>(good: &C, spoils: Spoils<C>, run: fn(&C) -> Result<(), Refusal
 
 #[test]
 fn numbers_and_sentences() {
+    assert_eq!(Refusal::ALL.map(Refusal::number), [1, 2, 3, 4, 5, 6, 7, 8, 9, 10, 11, 12, 19]);
     for (i, refusal) in Refusal::ALL.iter().enumerate() {
-        assert_eq!(refusal.number() as usize, i + 1);
         let sentence = refusal.to_string();
         assert!(sentence.len() > 20 && !sentence.ends_with('.'), "{sentence}");
         assert!(Refusal::ALL[..i].iter().all(|other| other.to_string() != sentence));
         let error: &dyn std::error::Error = refusal;
         assert_eq!(error.to_string(), sentence);
     }
+}
+
+/// Each refusal has the header's name, in its other spelling, and the header's number; the header has no other.
+#[test]
+fn the_numbers_are_the_headers() {
+    let spelled = |refusal: Refusal| {
+        let upper = |c: char| [if c.is_uppercase() { "_" } else { "" }, &c.to_uppercase().to_string()].concat();
+        format!("KZ{} = {}", format!("{refusal:?}").chars().map(upper).collect::<String>(), refusal.number())
+    };
+    let header = include_str!("../../include/kyzgultam.h");
+    let numbers = header.split("enum kz_number {").nth(1).unwrap().split("};").next().unwrap();
+    let lines: Vec<&str> = numbers.lines().filter_map(|line| line.split("/*").next()).collect();
+    let found: Vec<&str> =
+        lines.iter().map(|line| line.trim().trim_end_matches(',')).filter(|l| !l.is_empty()).collect();
+    let right: Vec<String> = ["KZ_ACCEPTED = 0".into()].into_iter().chain(Refusal::ALL.map(spelled)).collect();
+    assert_eq!(found, right);
 }
 
 #[derive(Clone)]
@@ -82,6 +98,7 @@ fn preprocess_refuses() {
     let spoils: Spoils<Preprocess> = vec![
         (1, |c| c.settings.spatial_merge_size = 0),
         (1, |c| c.settings.resize_rule = 0),
+        (19, |c| c.settings.deviation[1] = 0.0),
         (2, |c| c.width = 8193),
         (3, |c| c.rgb.push(0)),
         (4, |c| c.settings.image_size = 3),
@@ -138,6 +155,7 @@ fn restore_refuses() {
     let spoils: Spoils<Restore> = vec![
         (1, |c| c.settings.patch_size = 33),
         (1, |c| c.settings.resize_rule = 3),
+        (19, |c| c.settings.mean[2] = f32::NAN),
         (6, |c| c.grid.1 = 6),
         (7, |c| c.patches.push(0.0)),
         (5, |c| c.out = 4 * 8 * 3 - 1),
@@ -154,6 +172,80 @@ fn restore_refuses() {
         bad.patches[0] = sample;
         assert_eq!(run_restore(&bad), Err(Refusal::Sample), "{sample}");
     }
+}
+
+/// Means and deviations by which a sample is not finite, or two bytes are alike.
+const REFUSED: [(f32, f32); 22] = [
+    (f32::NAN, 0.25),
+    (0.2, f32::NAN),
+    (f32::INFINITY, 0.25),
+    (f32::NEG_INFINITY, 0.25),
+    (0.2, f32::INFINITY),
+    (0.2, f32::NEG_INFINITY),
+    (f32::INFINITY, f32::INFINITY),
+    // Forgotten ones, and a sign that says nothing.
+    (0.0, 0.0),
+    (0.2, 0.0),
+    (0.2, -0.0),
+    // Quotients that overflow: nearly all, those of a few bytes, and those of the last and of the first byte alone.
+    (0.2, 1e-45),
+    (0.2, -1e-40),
+    (0.2, 2.3e-39),
+    (0.2, 2.345e-39),
+    (0.8, 2.345e-39),
+    (-1e30, 1e-10),
+    // Differences that are all alike, and of which two are.
+    (1e8, 0.25),
+    (-1e8, 0.25),
+    (f32::MAX, 1.0),
+    (65_600.0, 1.0),
+    (-65_537.0, 1.0),
+    // Quotients that are alike where the differences are not.
+    (-65_000.0, 1.98),
+];
+
+#[test]
+fn channels_are_refused() {
+    for (mean, deviation) in REFUSED {
+        assert!(!allowed(mean, deviation), "{mean} {deviation}");
+        for spoiled in [&[0][..], &[1], &[2], &[0, 1, 2]] {
+            let mut settings = PICTURE;
+            for c in spoiled {
+                (settings.mean[*c], settings.deviation[*c]) = (mean, deviation);
+            }
+            let (cut, back) = (Preprocess { settings, ..good_preprocess() }, Restore { settings, ..good_restore() });
+            assert_eq!(preprocess(&cut), Err(Refusal::Channel), "{settings:?}");
+            assert_eq!(run_restore(&back), Err(Refusal::Channel), "{settings:?}");
+            // 1 comes before, and what comes after does not count.
+            let merged = PictureSettings { spatial_merge_size: 5, ..settings };
+            assert_eq!(preprocess(&Preprocess { settings: merged, ..cut.clone() }), Err(Refusal::Setting));
+            assert_eq!(run_restore(&Restore { settings: merged, ..back.clone() }), Err(Refusal::Setting));
+            assert_eq!(preprocess(&Preprocess { height: 0, rgb: vec![], out: 0, ..cut }), Err(Refusal::Channel));
+            let nothing = Restore { patches: vec![], grid: (0, usize::MAX), out: 0, ..back };
+            assert_eq!(run_restore(&nothing), Err(Refusal::Channel));
+        }
+    }
+}
+
+/// Whether a channel is allowed is what plain Rust says, in each place.
+#[test]
+fn channels_are_allowed_as_defined() {
+    let mut random = Random(20_260_819);
+    let mut seen = [0; 2];
+    for i in 0..6000 {
+        let (mean, deviation) = random.channel();
+        let mut settings = PICTURE;
+        (settings.mean[i % 3], settings.deviation[i % 3]) = (mean, deviation);
+        let right = allowed(mean, deviation);
+        let refused = (!right).then_some(Refusal::Channel);
+        let mut out = [0.0; 4 * 8 * 3];
+        let found = pixtral_preprocess(&[9; 4 * 8 * 3], 4, 8, &settings, &mut out);
+        assert_eq!(found.err(), refused, "{settings:?}");
+        let back = restore(&out, 2, 4, &settings, &mut [0; 4 * 8 * 3]);
+        assert_eq!(back.err(), refused, "{settings:?}");
+        seen[usize::from(right)] += 1;
+    }
+    assert!(seen.iter().all(|n| *n > 1000), "{seen:?}");
 }
 
 #[derive(Clone)]
@@ -205,18 +297,24 @@ fn good_forward() -> Forward {
 #[test]
 fn forward_refuses() {
     let good = good_forward();
-    let spoils: Spoils<Forward> = vec![
-        (1, |c| c.settings.num_layers = 49),
-        (1, |c| c.settings.picture.resize_rule = 0),
-        (6, |c| c.grid.0 = 3),
-        (7, |c| c.patches.truncate(c.patches.len() - 1)),
-        (9, |c| c.weights.truncate(c.weights.len() - 1)),
-        (10, |c| c.sin.push(0.0)),
-        (5, |c| c.out = 5),
-        (11, |c| c.scratch -= 10),
-        (12, |c| c.weights[3] = f32::NAN),
-    ];
-    each(&good, spoils, run_forward);
+    let spoils: fn() -> Spoils<Forward> = || {
+        vec![
+            (1, |c| c.settings.num_layers = 49),
+            (1, |c| c.settings.picture.resize_rule = 0),
+            (6, |c| c.grid.0 = 3),
+            (7, |c| c.patches.truncate(c.patches.len() - 1)),
+            (9, |c| c.weights.truncate(c.weights.len() - 1)),
+            (10, |c| c.sin.push(0.0)),
+            (5, |c| c.out = 5),
+            (11, |c| c.scratch -= 10),
+            (12, |c| c.weights[3] = f32::NAN),
+        ]
+    };
+    each(&good, spoils(), run_forward);
+    // Of means and deviations it knows nothing, so that 19 is none of its numbers.
+    let mut odd = good.clone();
+    (odd.settings.picture.mean, odd.settings.picture.deviation) = ([f32::NAN; 3], [0.0; 3]);
+    each(&odd, spoils(), run_forward);
     let others: Spoils<Forward> = vec![
         (6, |c| c.grid.1 = 0),
         (6, |c| c.grid.1 = usize::MAX),
@@ -304,6 +402,10 @@ fn lengths_refuse() {
             assert_eq!(PICTURE.restored_len(grid_h, grid_w), Err(Refusal::Grid));
             // A setting comes first.
             assert_eq!(EncoderSettings { num_layers: 49, ..ENCODER }.lengths(grid_h, grid_w), Err(Refusal::Setting));
+            // Means and deviations come nowhere.
+            let odd = PictureSettings { mean: [f32::NAN; 3], deviation: [0.0; 3], ..PICTURE };
+            assert_eq!(EncoderSettings { picture: odd, ..ENCODER }.lengths(grid_h, grid_w), Err(Refusal::Grid));
+            assert_eq!(odd.restored_len(grid_h, grid_w), Err(Refusal::Grid));
         }
     }
     // An image size of patch × merge allows one grid; one less allows none, and then no weights have a length.

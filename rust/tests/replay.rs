@@ -47,9 +47,12 @@ fn number_rules() {
 #[test]
 fn pictures() {
     let byte = |x: u32| (x >> 24) as u8;
-    let mut seen = [0; 13];
+    let mut seen = [0; 20];
     for v in records(include_str!("../../crates/picture_replay/stdin")) {
-        let settings = PictureSettings { resize_rule: v[23], ..PictureSettings::new(v[0], v[1], v[2]) };
+        let channels = |at: usize| [0, 1, 2].map(|c| f32::from_bits(v[at + c] as u32));
+        let (mean, deviation) = (channels(24), channels(27));
+        let settings =
+            PictureSettings { resize_rule: v[23], mean, deviation, ..PictureSettings::new(v[0], v[1], v[2]) };
         let rgb: Vec<u8> = states(v[7] as u32).map(byte).take(v[5]).collect();
         let mut cells: Vec<f32> = marks().map(f32::from_bits).take(12352).collect();
         let made = pixtral_preprocess(&rgb, v[3], v[4], &settings, &mut cells[..v[6]]);
@@ -68,7 +71,7 @@ fn pictures() {
         assert_eq!([number(&back), sides[0], sides[1], left as usize][..], v[19..23]);
         seen[number(&back)] += 1;
     }
-    assert!([0, 1, 2, 3, 4, 5, 6, 7, 8].iter().all(|n| seen[*n] > 0), "{seen:?}");
+    assert!([0, 1, 2, 3, 4, 5, 6, 7, 8, 19].iter().all(|n| seen[*n] > 0), "{seen:?}");
 }
 
 #[test]

@@ -1,6 +1,7 @@
 /* The C face as a C program sees it: every call, every number of every call, and what is written. */
 #include "kyzgultam.h"
 
+#include <math.h>
 #include <stdio.h>
 #include <stdlib.h>
 #include <string.h>
@@ -22,6 +23,18 @@ static const struct kz_picture_settings picture = KZ_PICTURE_SETTINGS(2, 2, 8);
 static struct kz_picture_settings ruled(size_t rule) {
     struct kz_picture_settings settings = picture;
     settings.resize_rule = rule;
+    return settings;
+}
+
+/* One channel with another mean and deviation; with channel 3, all of them. */
+static struct kz_picture_settings with(size_t channel, float mean, float deviation) {
+    struct kz_picture_settings settings = picture;
+    for (size_t c = 0; c < 3; c++) {
+        if (channel == c || channel == 3) {
+            settings.mean[c] = mean;
+            settings.deviation[c] = deviation;
+        }
+    }
     return settings;
 }
 
@@ -86,6 +99,8 @@ static void preprocess(void) {
         {KZ_SETTING, ruled(0), FLOATS, SIDE_H, SIDE_W, FLOATS},
         {KZ_SETTING, ruled(3), FLOATS, SIDE_H, SIDE_W, FLOATS},
         {KZ_SETTING, ruled(SIZE_MAX), 0, 0, 0, 0},
+        {KZ_CHANNEL, with(1, 0.2f, 0), FLOATS, SIDE_H, SIDE_W, FLOATS},
+        {KZ_CHANNEL, with(2, NAN, 0.25f), 0, 0, SIDE_W, 0},
         {KZ_SIDE, KZ_PICTURE_SETTINGS(2, 2, 8), FLOATS, 0, SIDE_W, FLOATS},
         {KZ_SIDE, KZ_PICTURE_SETTINGS(2, 2, 3), 0, SIDE_H, 8193, 0},
         {KZ_RGB_LENGTH, KZ_PICTURE_SETTINGS(2, 2, 8), FLOATS - 1, SIDE_H, SIDE_W, FLOATS},
@@ -124,6 +139,8 @@ static void restore(void) {
         {KZ_SETTING, ruled(0), FLOATS, 2, 4, FLOATS, 0},
         {KZ_SETTING, ruled(3), FLOATS, 2, 4, FLOATS, 0},
         {KZ_SETTING, ruled(SIZE_MAX), 0, 0, 0, 0, 0},
+        {KZ_CHANNEL, with(0, 0.2f, 0), FLOATS, 2, 4, FLOATS, 0},
+        {KZ_CHANNEL, with(2, NAN, 0.25f), 0, 3, 0, 0, 1},
         {KZ_GRID, KZ_PICTURE_SETTINGS(2, 2, 8), FLOATS, 2, 6, FLOATS, 0},
         {KZ_GRID, KZ_PICTURE_SETTINGS(2, 2, 8), 0, 3, 4, 0, 0},
         {KZ_GRID, KZ_PICTURE_SETTINGS(2, 2, 8), 0, SIZE_MAX - 1, SIZE_MAX - 1, 0, 0},
@@ -174,6 +191,100 @@ static void rules(void) {
     r = kz_restore(least, out, 6, 2, 1, back, 6);
     EXPECT(r.number == KZ_ACCEPTED && r.height == 2 && r.width == 1);
     EXPECT(memcmp(back, thin, 3) == 0 && memcmp(back + 3, thin + 4096 * 3, 3) == 0);
+}
+
+/* The sample of a byte in a channel. */
+static float sample(struct kz_picture_settings s, size_t channel, size_t byte) {
+    return ((float)byte / 255.0f - s.mean[channel]) / s.deviation[channel];
+}
+
+/* Whether a byte has the bits of x in a channel. */
+static int has(struct kz_picture_settings s, size_t channel, float x) {
+    for (size_t byte = 0; byte < 256; byte++) {
+        float of = sample(s, channel, byte);
+        if (memcmp(&of, &x, sizeof x) == 0) return 1;
+    }
+    return 0;
+}
+
+/* Means and deviations: the samples that they give, the way back, and those that are refused. */
+static void channels(void) {
+    enum { ALL = 256 * 3 };
+    struct kz_picture_settings accepted[] = {
+        KZ_PICTURE_SETTINGS(2, 2, 8), with(3, 0.2f, 0.25f), with(3, 0.2f, -0.25f), with(3, 0.2f, 1e-30f),
+        with(3, 0.2f, 3e-39f),        with(3, 0.2f, 1e38f), with(3, 0.2f, -1e38f), with(3, 65536, 1),
+        with(0, 0.2f, 0.25f),         with(1, -7, -1e-30f), with(2, 0, 1e38f),     with(0, 0, 1),
+    };
+    struct {
+        float mean, deviation;
+    } refused[] = {
+        {NAN, 0.25f},   {0.2f, NAN},    {INFINITY, 0.25f}, {-INFINITY, 0.25f}, {0.2f, INFINITY}, {0.2f, -INFINITY},
+        {0, 0},         {0.2f, 0},      {0.2f, -0.0f},     {0.2f, 1e-45f},     {0.2f, -1e-40f},  {0.2f, 2.345e-39f},
+        {1e8f, 0.25f},  {-1e8f, 0.25f}, {65600, 1},        {-65000, 1.98f},
+    };
+    static uint8_t every[ALL], back[ALL];
+    static float out[ALL];
+    int zeros = 0;
+    /* Whoever forgets them has zeros. */
+    struct kz_picture_settings forgotten = {
+        .patch_size = 2, .spatial_merge_size = 2, .image_size = 8, .resize_rule = 1};
+    struct kz_preprocess_report p;
+    struct kz_restore_report r;
+
+    EXPECT(picture.mean[0] == 0.48145466f && picture.mean[1] == 0.4578275f && picture.mean[2] == 0.40821073f);
+    EXPECT(picture.deviation[0] == 0.26862954f && picture.deviation[1] == 0.26130258f);
+    EXPECT(picture.deviation[2] == 0.27577711f);
+    /* A picture of one patch, in which each channel has each byte once. */
+    for (size_t i = 0; i < ALL; i++) every[i] = (uint8_t)(i / 3 * (i % 3 * 2 + 1));
+    for (size_t k = 0; k < sizeof accepted / sizeof *accepted; k++) {
+        struct kz_picture_settings s = accepted[k];
+        s.patch_size = s.image_size = 16;
+        s.spatial_merge_size = 1;
+        p = kz_preprocess(s, every, ALL, 16, 16, out, ALL);
+        EXPECT(p.number == KZ_ACCEPTED && p.grid_h == 1 && p.grid_w == 1 && p.floats == ALL);
+        for (size_t i = 0; i < ALL; i++) {
+            float right = sample(s, i / 256, every[i % 256 * 3 + i / 256]);
+            EXPECT(memcmp(out + i, &right, sizeof right) == 0);
+        }
+        memset(back, 0xA5, ALL);
+        r = kz_restore(s, out, ALL, 1, 1, back, ALL);
+        EXPECT(r.number == KZ_ACCEPTED && r.height == 16 && r.width == 16 && memcmp(back, every, ALL) == 0);
+        /* A sample of the Rust's means and deviations, where no byte has it, is refused. */
+        for (size_t c = 0; c < 3; c++) {
+            float kept = out[c * 256 + 9], theirs = sample(picture, c, 9);
+            int found = has(s, c, theirs);
+            out[c * 256 + 9] = theirs;
+            memset(back, 0xA5, ALL);
+            r = kz_restore(s, out, ALL, 1, 1, back, ALL);
+            EXPECT(r.number == (uint32_t)(found ? KZ_ACCEPTED : KZ_SAMPLE) && r.height == (found ? 16 : 0));
+            EXPECT(found || (back[0] == 0xA5 && back[ALL - 1] == 0xA5));
+            EXPECT(found == (s.mean[c] == picture.mean[c]));
+            out[c * 256 + 9] = kept;
+        }
+        /* Where byte 0 is +0, -0 is no byte's: bits are compared, not numbers. */
+        if (zeroed(out, 1)) {
+            zeros++;
+            out[0] = -out[0];
+            EXPECT(kz_restore(s, out, ALL, 1, 1, back, ALL).number == KZ_SAMPLE);
+        }
+    }
+    EXPECT(zeros == 1);
+    for (size_t k = 0; k < sizeof refused / sizeof *refused * 4; k++) {
+        struct kz_picture_settings s = with(k % 4, refused[k / 4].mean, refused[k / 4].deviation);
+        mark_all(out, FLOATS);
+        p = kz_preprocess(s, rgb, FLOATS, SIDE_H, SIDE_W, out, FLOATS);
+        EXPECT(p.number == KZ_CHANNEL && p.grid_h == 0 && p.grid_w == 0 && p.floats == 0 && marked(out, 0, FLOATS));
+        memset(back, 0xA5, FLOATS);
+        r = kz_restore(s, patches, FLOATS, 2, 4, back, FLOATS);
+        EXPECT(r.number == KZ_CHANNEL && r.height == 0 && r.width == 0);
+        for (size_t i = 0; i < FLOATS; i++) EXPECT(back[i] == 0xA5);
+        /* 1 comes before. */
+        s.resize_rule = 0;
+        EXPECT(kz_preprocess(s, rgb, FLOATS, SIDE_H, SIDE_W, out, FLOATS).number == KZ_SETTING);
+        EXPECT(kz_restore(s, patches, FLOATS, 2, 4, back, FLOATS).number == KZ_SETTING);
+    }
+    EXPECT(kz_preprocess(forgotten, rgb, FLOATS, SIDE_H, SIDE_W, out, FLOATS).number == KZ_CHANNEL);
+    EXPECT(kz_restore(forgotten, patches, FLOATS, 2, 4, back, FLOATS).number == KZ_CHANNEL);
 }
 
 static void patch(void) {
@@ -230,6 +341,12 @@ static void forward(void) {
     r = kz_forward(other, patches, FLOATS, 2, 4, weights, WEIGHTS, rope_cos, TABLE, rope_sin, TABLE, scratch, SCRATCH,
                    out, TOKENS);
     EXPECT(r.number == KZ_ACCEPTED && memcmp(first, out, sizeof first) == 0);
+    /* Means and deviations it never reads. */
+    other.picture = with(3, NAN, 0);
+    mark_all(out, TOKENS);
+    r = kz_forward(other, patches, FLOATS, 2, 4, weights, WEIGHTS, rope_cos, TABLE, rope_sin, TABLE, scratch, SCRATCH,
+                   out, TOKENS);
+    EXPECT(r.number == KZ_ACCEPTED && memcmp(first, out, sizeof first) == 0);
 
     struct {
         uint32_t number;
@@ -280,6 +397,15 @@ static void lengths(void) {
     r = kz_lengths(good, 2, 2);
     EXPECT(r.number == KZ_ACCEPTED && r.patches == FLOATS / 2 && r.weights == WEIGHTS);
     EXPECT(r.tables == TABLE && r.scratch == SCRATCH / 2 && r.out == TOKENS / 2);
+    /* And with any means and deviations. */
+    {
+        struct kz_encoder_settings other = good;
+        struct kz_lengths_report same;
+        other.picture = with(3, NAN, 0);
+        same = kz_lengths(other, 2, 2);
+        EXPECT(same.number == KZ_ACCEPTED && same.patches == r.patches && same.weights == r.weights);
+        EXPECT(same.tables == r.tables && same.scratch == r.scratch && same.out == r.out);
+    }
     /* More than 32 bits can count. */
     r = kz_lengths(largest, 2048, 2048);
     EXPECT(r.number == KZ_ACCEPTED && r.patches == t * 3);
@@ -309,6 +435,7 @@ static void lengths(void) {
         {KZ_GRID, {KZ_PICTURE_SETTINGS(2, 2, 8), 4, 1, 4, 1, 5, 3, 0.5f}, 3, 4},
         {KZ_GRID, {KZ_PICTURE_SETTINGS(2, 2, 8), 4, 1, 4, 1, 5, 3, 0.5f}, SIZE_MAX - 1, SIZE_MAX - 1},
         {KZ_GRID, {KZ_PICTURE_SETTINGS(2, 2, 3), 4, 1, 4, 1, 5, 3, 0.5f}, 2, 2},
+        {KZ_GRID, {with(3, NAN, 0), 4, 1, 4, 1, 5, 3, 0.5f}, 3, 4},
     };
     for (size_t k = 0; k < sizeof calls / sizeof *calls; k++) {
         r = kz_lengths(calls[k].settings, calls[k].grid_h, calls[k].grid_w);
@@ -333,6 +460,7 @@ int main(void) {
     preprocess();
     restore();
     rules();
+    channels();
     patch();
     forward();
     lengths();

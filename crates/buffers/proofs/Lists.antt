@@ -158,6 +158,14 @@ unfolding all
 all-step n f e g = rw add-one (and-both (all n f) (f n) e g)
 
 -- one that fails
+-- a loop that joins one test after another
+pub all-more : (n : ℕ) (f : ℕ → Bool) (a b : Bool) → a ≡ all n f → b ≡ f n → a && b ≡ all (n + 1) f
+unfolding all
+all-more n f a b d e = rw (add-one n, d, e) refl
+
+pub all-end : (n k : ℕ) (f : ℕ → Bool) (a : Bool) → k ≤ n → n ≤ k → a ≡ all k f → a ≡ all n f
+all-end n k f a l m e = let i : k ≡ n = omega arith in e ∙ ap (λ (j : ℕ). all j f) i
+
 pub all-fails : (n : ℕ) (f : ℕ → Bool) (i : ℕ) → i < n → f i ≡ false → all n f ≡ false
 unfolding all
 all-fails n f i h e = go (all n f) refl

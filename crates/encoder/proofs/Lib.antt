@@ -1,3 +1,4 @@
 pub mod Leaves
 pub mod Unique
 pub mod Numbers
+pub mod Unread

@@ -1,7 +1,7 @@
 -- What the call of a record answers and leaves. Assumes nothing.
 use Prim.Native.Nat.{ℕ, _%_}
 use mathlib.Core.List.{List}
-use lib.ListN.{length, getD, take}
+use lib.ListN.{length, getD, take, replicate}
 use lib.Ieee.{Float, binary32, ofBits}
 use Rattle.buffers.specs.Region.{region}
 use Rattle.picture_limits.specs.Refusal as R
@@ -35,7 +35,15 @@ at v k = getD v k 0
 abbrev pub settingsOf : List ℕ → EncoderSettings
 settingsOf v =
     record {
-      picture = record { «patch_size» = at v 0; «spatial_merge_size» = at v 1; «image_size» = at v 2; «resize_rule» = at v 25 };
+      picture =
+          record {
+            «patch_size» = at v 0;
+            «spatial_merge_size» = at v 1;
+            «image_size» = at v 2;
+            «resize_rule» = at v 25;
+            mean = replicate 3 (ofBits binary32 0);
+            deviation = replicate 3 (ofBits binary32 0);
+          };
       «hidden_size» = at v 3;
       «num_heads» = at v 4;
       «head_dim» = at v 5;

@@ -59,6 +59,7 @@ fn encode(
     }
 }
 
+// Means and deviations of 0, which preprocess refuses and forward never reads.
 fn settings(v: &[usize; 26]) -> EncoderSettings
     ensures { λ r. ⌜ r ≡ settingsOf (now (v .entry)) ⌝ }
 {
@@ -67,6 +68,8 @@ fn settings(v: &[usize; 26]) -> EncoderSettings
         spatial_merge_size: v[1],
         image_size: v[2],
         resize_rule: v[25],
+        mean: [0.0; 3],
+        deviation: [0.0; 3],
     };
     EncoderSettings {
         picture: p,

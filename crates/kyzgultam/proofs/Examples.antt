@@ -13,6 +13,8 @@ use Rattle.number_exp_tanh.specs.Exp.{series, E, expBits}
 use Rattle.picture_limits.specs.declared.PictureSettings.{PictureSettings}
 use Rattle.picture.specs.declared.Preprocessed.{Preprocessed}
 use Rattle.picture_limits.specs.Settings.{allowed}
+use Rattle.picture_samples.specs.Samples.{ownMeans, ownDeviations}
+use Rattle.picture_samples.proofs.Table.{own-allowed}
 use Rattle.picture_limits.specs.Sides.{kept, side, thOf, twOf}
 use Rattle.picture_resize.specs.Resize.{whole, near, blend, toByte, mix}
 use Rattle.picture.specs.Preprocess.{preprocessed, resizedBytes}
@@ -52,7 +54,7 @@ root-of-four = refl
 
 -- ---- pictures: patch, merge, image size
 abbrev ruled : ℕ → ℕ → ℕ → ℕ → PictureSettings
-ruled r p m n = record { «patch_size» = p; «spatial_merge_size» = m; «image_size» = n; «resize_rule» = r }
+ruled r p m n = record { «patch_size» = p; «spatial_merge_size» = m; «image_size» = n; «resize_rule» = r; mean = ownMeans; deviation = ownDeviations }
 
 abbrev vision : ℕ → ℕ → ℕ → PictureSettings
 vision p m n = ruled 1 p m n
@@ -60,7 +62,7 @@ vision p m n = ruled 1 p m n
 -- 1 × 1: grid 2 × 2, 2352 floats, resized 28 × 28
 pub one-pixel : preprocessed (vision 14 2 1540) 3 1 1 2352 ≡ Preprocessed.Patches 2 2 2352
 unfolding preprocessed allowed kept side
-one-pixel = refl
+one-pixel = rw own-allowed refl
 
 pub one-pixel-side : thOf (vision 14 2 1540) 1 1 ≡ 28
 unfolding kept side
@@ -69,7 +71,7 @@ one-pixel-side = refl
 -- 29 × 28: 56 × 28, grid 4 × 2; 28 stays 28
 pub tall : preprocessed (vision 14 2 1540) (29 * 28 * 3) 29 28 4704 ≡ Preprocessed.Patches 4 2 4704
 unfolding preprocessed allowed kept side
-tall = refl
+tall = rw own-allowed refl
 
 pub tall-side : thOf (vision 14 2 1540) 29 28 ≡ 56
 unfolding kept side
@@ -82,7 +84,7 @@ stays = refl
 -- image 100, height and width 200: 84 × 84, grid 6 × 6
 pub cut : preprocessed (vision 14 2 100) (200 * 200 * 3) 200 200 21168 ≡ Preprocessed.Patches 6 6 21168
 unfolding preprocessed allowed kept side
-cut = refl
+cut = rw own-allowed refl
 
 pub cut-side : thOf (vision 14 2 100) 200 200 ≡ 84
 unfolding kept side
@@ -91,7 +93,7 @@ cut-side = refl
 -- rule 2, 3080 × 1540: 1540 × 784, grid 110 × 56; rule 1: grid 110 × 110
 pub panoramic : preprocessed (ruled 2 14 2 1540) (3080 * 1540 * 3) 3080 1540 3622080 ≡ Preprocessed.Patches 110 56 3622080
 unfolding preprocessed allowed kept side
-panoramic = refl
+panoramic = rw own-allowed refl
 
 pub panoramic-sides : (thOf (ruled 2 14 2 1540) 3080 1540 ≡ 1540) × (twOf (ruled 2 14 2 1540) 3080 1540 ≡ 784)
 unfolding kept side
@@ -99,12 +101,12 @@ panoramic-sides = (refl, refl)
 
 pub squashed : preprocessed (vision 14 2 1540) (3080 * 1540 * 3) 3080 1540 7114800 ≡ Preprocessed.Patches 110 110 7114800
 unfolding preprocessed allowed kept side
-squashed = refl
+squashed = rw own-allowed refl
 
 -- rule 2, 8192 × 1, patch 1, merge 1, image 2: the shorter side, which would become 0, is 1
 pub thin : preprocessed (ruled 2 1 1 2) (8192 * 1 * 3) 8192 1 6 ≡ Preprocessed.Patches 2 1 6
 unfolding preprocessed allowed kept side
-thin = refl
+thin = rw own-allowed refl
 
 -- one row 0, 255, patch 1, merge 4, image 4: each row 0, 128, 255, 255
 pub wider : resizedBytes (vision 1 4 4) (0 ∷ 0 ∷ 0 ∷ 255 ∷ 255 ∷ 255 ∷ []) 1 2

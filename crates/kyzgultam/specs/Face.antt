@@ -23,7 +23,15 @@ use Rattle.kyzgultam.specs.declared.ForwardReport.{ForwardReport}
 use Rattle.kyzgultam.specs.declared.LengthsReport.{LengthsReport}
 
 abbrev pub inner : K.PictureSettings → P.PictureSettings
-inner s = record { «patch_size» = s .«patch_size»; «spatial_merge_size» = s .«spatial_merge_size»; «image_size» = s .«image_size»; «resize_rule» = s .«resize_rule» }
+inner s =
+    record {
+      «patch_size» = s .«patch_size»;
+      «spatial_merge_size» = s .«spatial_merge_size»;
+      «image_size» = s .«image_size»;
+      «resize_rule» = s .«resize_rule»;
+      mean = s .mean;
+      deviation = s .deviation;
+    }
 
 abbrev pub innerEncoder : KE.EncoderSettings → E.EncoderSettings
 innerEncoder s =

@@ -18,6 +18,8 @@ pub struct PictureSettings {
     pub spatial_merge_size: usize,
     pub image_size: usize,
     pub resize_rule: usize,
+    pub mean: [f32; 3],
+    pub deviation: [f32; 3],
 }
 
 #[repr(C)]
@@ -74,11 +76,15 @@ pub struct LengthsReport {
 fn settings(s: PictureSettings) -> picture_limits::PictureSettings
     ensures { λ r. ⌜ r ≡ inner s ⌝ }
 {
+    let mean = s.mean;
+    let deviation = s.deviation;
     picture_limits::PictureSettings {
         patch_size: s.patch_size,
         spatial_merge_size: s.spatial_merge_size,
         image_size: s.image_size,
         resize_rule: s.resize_rule,
+        mean,
+        deviation,
     }
 }
 

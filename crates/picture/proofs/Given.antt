@@ -9,12 +9,13 @@ use borrow.Author.Tests.{lt-ltb}
 use lib.ListN.{getD}
 use lib.Ieee.{Float, nan, binary32, toBits}
 use Rattle.buffers.proofs.Lists.{all-of, rows-ext, tab-ext}
-use Rattle.picture_samples.specs.Samples.{sample, sampleBits, value, byteOf}
+use Rattle.picture_limits.specs.declared.PictureSettings.{PictureSettings}
+use Rattle.picture_samples.specs.Samples.{channelsAllowed, value, byteOf, valueOf, patternOf}
 use Rattle.picture_limits.specs.Places.{patchFloats, picture}
 use Rattle.picture_patches.specs.Patches.{patches}
 use Rattle.picture_restore.specs.Restore.{known, bytesFrom}
 use Rattle.picture_restore.specs.inner.Known.{knownPatches}
-use Rattle.picture_samples.proofs.Table.{value-is, distinct}
+use Rattle.picture_samples.proofs.Channels.{value-is, allowed-bits, distinct-of}
 use Rattle.picture_samples.proofs.Finds.{Distinct, byte-back}
 use Rattle.picture_restore.proofs.Known.{known-cut}
 use Rattle.picture_patches.proofs.Patches.{length-patches, patches-ext}
@@ -57,10 +58,13 @@ module _ (k : ℕ → ℕ → ℕ) (K : Table k) (p gh gw : ℕ) (v : ℕ → �
       rows-ext (gh * p) _ _ (λ y hy. rows-ext (gw * p) _ _ (λ x hx. tab-ext 3 _ _ (λ c hc.
       back _ y x c hc (sample-at p gh gw (λ y x c. value k c (v y x c)) nan y x c hp hy hx hc))))
 
--- the samples' own table is such a table
-pub samples : Table sampleBits
-samples = record { apart = λ c hc i j a b e. distinct c i j hc a b e; own = λ c b. ap (toBits binary32) (value-is c b) }
+-- the table of allowed means and deviations is such a table
+pub samples : (s : PictureSettings) → channelsAllowed (valueOf s) ≡ true → Table (patternOf s)
+samples s a = record {
+  apart = distinct-of (patternOf s) (allowed-bits (s .mean) (s .deviation) ∙ a);
+  own = λ c b. ap (toBits binary32) (value-is (s .mean) (s .deviation) c b);
+}
 
 -- its patches are those of the samples
-pub given-is : (p gh gw : ℕ) (v : ℕ → ℕ → ℕ → ℕ) → patches p gh gw (λ y x c. sample c (v y x c)) ≡ patches p gh gw (λ y x c. value sampleBits c (v y x c))
-given-is p gh gw v = patches-ext p gh gw _ _ (λ y x c hc. sym (value-is c (v y x c)))
+pub given-is : (s : PictureSettings) (p gh gw : ℕ) (v : ℕ → ℕ → ℕ → ℕ) → patches p gh gw (λ y x c. valueOf s c (v y x c)) ≡ patches p gh gw (λ y x c. value (patternOf s) c (v y x c))
+given-is s p gh gw v = patches-ext p gh gw _ _ (λ y x c hc. sym (value-is (s .mean) (s .deviation) c (v y x c)))

@@ -19,12 +19,12 @@ use Rattle.picture.specs.declared.Preprocessed.{Preprocessed}
 use Rattle.picture_restore.specs.declared.Restored.{Restored}
 use Rattle.picture_limits.specs.Settings.{within, allowed, align}
 use Rattle.picture_limits.specs.Sides.{side, thOf, twOf, ghOf, gwOf}
-use Rattle.picture_samples.specs.Samples.{sample, sampleBits, byteOf}
+use Rattle.picture_samples.specs.Samples.{byteOf, valueOf, patternOf}
 use Rattle.picture_limits.specs.Places.{patchFloats, picture, samplePlace}
 use Rattle.picture_limits.specs.Shape.{gridAllowed}
 use Rattle.picture.specs.Preprocess.{floatsOf, preprocessed, resizedPixel, resizedBytes, patchesOf, patchesLeft}
 use Rattle.picture_restore.specs.Restore.{known, bytesFrom, restored, bytesOf, bytesLeft, bytesOut}
-use Rattle.picture_samples.proofs.Table.{value-is}
+use Rattle.picture_samples.proofs.Channels.{value-is}
 use Rattle.picture_samples.proofs.Finds.{pattern-back}
 use Rattle.picture_restore.proofs.Known.{known-at}
 use Rattle.picture_limits.proofs.Places.{patch-in, place-in-patch, picture-at, length-picture}
@@ -43,9 +43,9 @@ use Rattle.picture.proofs.Given.{known-of, bytes-of, samples, given-is}
 
 -- then the samples decide
 pub decides : (s : PictureSettings) (l : List Float) (gh gw room : ℕ) → Asked s l gh gw room
-    → restored s l gh gw room ≡ unless (known sampleBits (s .«patch_size») l) (Restored.Refused Refusal.Sample) (Restored.Picture (gh * s .«patch_size») (gw * s .«patch_size»))
+    → restored s l gh gw room ≡ unless (known (patternOf s) (s .«patch_size») l) (Restored.Refused Refusal.Sample) (Restored.Picture (gh * s .«patch_size») (gw * s .«patch_size»))
 unfolding restored
-decides s l gh gw room a = simp (a .settings, a .grid, eq-eqb _ _ (a .samples), le-leb _ _ (a .fits))
+decides s l gh gw room a = simp (a .settings, a .channels, a .grid, eq-eqb _ _ (a .samples), le-leb _ _ (a .fits))
 
 -- ---- 1
 -- in any room that is enough
@@ -66,17 +66,18 @@ back s rgb h w gh gw n room room′ e r =
     let v = resizedPixel s rgb h w in
     let low = byte-below rgb h w (thOf s h w) (twOf s h w) in
     let l = patchesOf s rgb h w in
-    let g = given-is p (ghOf s h w) (gwOf s h w) v in
+    let g = given-is s p (ghOf s h w) (gwOf s h w) v in
     let z : Asked s l (ghOf s h w) (gwOf s h w) room′ = record {
       settings = q .settings;
+      channels = q .channels;
       grid = and-both (gridAllowed s (ghOf s h w)) (gridAllowed s (gwOf s h w)) (a .allowed) (b .allowed);
-      samples = length-patches p (λ y x c. sample c (v y x c)) (ghOf s h w) (gwOf s h w) ∙ sym (mul-assoc (ghOf s h w) (gwOf s h w) (patchFloats p));
+      samples = length-patches p (λ y x c. valueOf s c (v y x c)) (ghOf s h w) (gwOf s h w) ∙ sym (mul-assoc (ghOf s h w) (gwOf s h w) (patchFloats p));
       fits = rw (a .span, b .span) r;
     } in
-    let k : known sampleBits p l ≡ true = ap (known sampleBits p) g ∙ known-of sampleBits samples p (ghOf s h w) (gwOf s h w) v low (o .patch-low) in
+    let k : known (patternOf s) p l ≡ true = ap (known (patternOf s) p) g ∙ known-of (patternOf s) (samples s (q .channels)) p (ghOf s h w) (gwOf s h w) v low (o .patch-low) in
     let answer : restored s l (ghOf s h w) (gwOf s h w) room′ ≡ Restored.Picture (thOf s h w) (twOf s h w) = decides s l (ghOf s h w) (gwOf s h w) room′ z ∙ rw (k, a .span, b .span) in
     let bytes : bytesOf s l (ghOf s h w) (gwOf s h w) ≡ resizedBytes s rgb h w =
-    ap (λ (x : List Float). bytesFrom sampleBits p x (ghOf s h w) (gwOf s h w)) g ∙ bytes-of sampleBits samples p (ghOf s h w) (gwOf s h w) v low (o .patch-low) ∙ rw (a .span, b .span) in
+    ap (λ (x : List Float). bytesFrom (patternOf s) p x (ghOf s h w) (gwOf s h w)) g ∙ bytes-of (patternOf s) (samples s (q .channels)) p (ghOf s h w) (gwOf s h w) v low (o .patch-low) ∙ rw (a .span, b .span) in
     rw (t .tall, t .wide) (record { answer = answer; bytes = bytes })
 
 pub undo : Undo
@@ -95,7 +96,7 @@ patches-count s rgb h w room gh gw n e =
     let p = s .«patch_size» in
     acceptance s (length rgb) h w room gh gw n e .count
     ∙ mul-assoc (ghOf s h w) (gwOf s h w) (patchFloats p)
-    ∙ sym (length-patches p (λ y x c. sample c (resizedPixel s rgb h w y x c)) (ghOf s h w) (gwOf s h w))
+    ∙ sym (length-patches p (λ y x c. valueOf s c (resizedPixel s rgb h w y x c)) (ghOf s h w) (gwOf s h w))
 
 pub patches-front : (s : PictureSettings) (rgb : List ℕ) (h w room gh gw n : ℕ) (old : List Float) → preprocessed s (length rgb) h w room ≡ Preprocessed.Patches gh gw n
     → take n (patchesLeft (preprocessed s (length rgb) h w room) (patchesOf s rgb h w) old) ≡ patchesOf s rgb h w
@@ -135,12 +136,15 @@ own-bytes s rgb h w gh gw n room b e t =
 
 -- ---- 3
 -- the sample of a found byte is what it was found by
-sample-of-byte : (c : ℕ) (v : Float) → T (fits binary32 v) → byteOf sampleBits c (toBits binary32 v) < 256 → sample c (byteOf sampleBits c (toBits binary32 v)) ≡ v
-sample-of-byte c v f h = sym (value-is c (byteOf sampleBits c (toBits binary32 v))) ∙ ap (ofBits binary32) (pattern-back sampleBits c (toBits binary32 v) h) ∙ ofBits-toBits binary32 v f
+sample-of-byte : (s : PictureSettings) (c : ℕ) (v : Float) → T (fits binary32 v) → byteOf (patternOf s) c (toBits binary32 v) < 256 → valueOf s c (byteOf (patternOf s) c (toBits binary32 v)) ≡ v
+sample-of-byte s c v f h =
+    sym (value-is (s .mean) (s .deviation) c (byteOf (patternOf s) c (toBits binary32 v)))
+    ∙ ap (ofBits binary32) (pattern-back (patternOf s) c (toBits binary32 v) h)
+    ∙ ofBits-toBits binary32 v f
 
 -- the restored bytes are such a picture
 source : (s : PictureSettings) (l : List Float) (gh gw room : ℕ) → Asked s l gh gw room → Floats l
-    → known sampleBits (s .«patch_size») l ≡ true → Source s l gh gw
+    → known (patternOf s) (s .«patch_size») l ≡ true → Source s l gh gw
 source s l gh gw room z f k =
     let p = s .«patch_size» in
     let o = allowed-says s (z .settings) in
@@ -151,14 +155,15 @@ source s l gh gw room z f k =
     let held : max h w ≤ s .«image_size» = max-le (grid-side-says s gh (o .patch-low) i .high) (grid-side-says s gw (o .patch-low) j .high) in
     let a = spans s (max h w) gh (z .settings) i held in
     let b = spans s (max h w) gw (z .settings) j held in
-    let v : ℕ → ℕ → ℕ → ℕ = λ y x c. byteOf sampleBits c (toBits binary32 (getD l (samplePlace p gw y x c) nan)) in
+    let v : ℕ → ℕ → ℕ → ℕ = λ y x c. byteOf (patternOf s) c (toBits binary32 (getD l (samplePlace p gw y x c) nan)) in
     let rgb = picture h w v in
     let low : (y x c : ℕ) → y < h → x < w → c < 3 → v y x c < 256 = λ y x c hy hx hc.
-    known-at sampleBits p (gh * gw) l (z .samples) k (y / p * gw + x / p) c (y % p * p + x % p) (patch-in p gh gw y x (o .patch-low) hy hx) hc (place-in-patch p y x (o .patch-low)) in
+    known-at (patternOf s) p (gh * gw) l (z .samples) k (y / p * gw + x / p) c (y % p * p + x % p) (patch-in p gh gw y x (o .patch-low) hy hx) hc (place-in-patch p y x (o .patch-low)) in
     let bs : Bytes rgb = bytes-rows h _ (λ y hy. bytes-rows w _ (λ x hx. bytes-tab 3 _ (λ c hc. low y x c hy hx hc))) in
     let len : length rgb ≡ h * w * 3 = length-picture h w v ∙ sym (mul-assoc h w 3) in
     let q : Accepts s (length rgb) h w (floatsOf s h w) = record {
       settings = z .settings;
+      channels = z .channels;
       sides = and-both (within 1 8192 h) (within 1 8192 w) (and-both (leb 1 h) (leb h 8192) (le-leb _ _ (a .low)) (le-leb h 8192 (omega (arith, a .high)))) (and-both (leb 1 w) (leb w 8192) (le-leb _ _ (b .low)) (le-leb w 8192 (omega (arith, b .high))));
       bytes = len;
       image = a .image;
@@ -179,8 +184,8 @@ source s l gh gw room z f k =
           let x = j * p + u in
           let hy : y < h = omega (arith, fit p hi) in
           let hx : x < w = omega (arith, fit p hj) in
-          ap (sample c) (pixel-same rgb h w y x c bs (omega (arith, a .high)) (omega (arith, b .high)) hy hx ∙ picture-at h w v 0 y x c hy hx hc)
-          ∙ sample-of-byte c (getD l (samplePlace p gw y x c) nan) (f (samplePlace p gw y x c)) (low y x c hy hx hc))))))
+          ap (valueOf s c) (pixel-same rgb h w y x c bs (omega (arith, a .high)) (omega (arith, b .high)) hy hx ∙ picture-at h w v 0 y x c hy hx hc)
+          ∙ sample-of-byte s c (getD l (samplePlace p gw y x c) nan) (f (samplePlace p gw y x c)) (low y x c hy hx hc))))))
           ∙ patches-self p gh gw l (o .patch-low) (z .samples));
     }
 
@@ -193,16 +198,16 @@ seen s l gh gw room z c =
     let p = s .«patch_size» in
     let v = resizedPixel s (c .rgb) (c .h) (c .w) in
     let low = byte-below (c .rgb) (c .h) (c .w) (thOf s (c .h) (c .w)) (twOf s (c .h) (c .w)) in
-    let k : known sampleBits p l ≡ true =
-    rw (← c .given) (ap (known sampleBits p) (given-is p (ghOf s (c .h) (c .w)) (gwOf s (c .h) (c .w)) v) ∙ known-of sampleBits samples p (ghOf s (c .h) (c .w)) (gwOf s (c .h) (c .w)) v low (o .patch-low)) in
+    let k : known (patternOf s) p l ≡ true =
+    rw (← c .given) (ap (known (patternOf s) p) (given-is s p (ghOf s (c .h) (c .w)) (gwOf s (c .h) (c .w)) v) ∙ known-of (patternOf s) (samples s (q .channels)) p (ghOf s (c .h) (c .w)) (gwOf s (c .h) (c .w)) v low (o .patch-low)) in
     decides s l gh gw room z ∙ rw k
 
 pub eight : Eight
 eight s l gh gw room f z = record {
   none = λ e c. let g = seen s l gh gw room z c in let x : _≡_ {A = ℕ} 0 1 = cc in omega arith;
-  refused = λ c. decides s l gh gw room z ∙ last (known sampleBits (s .«patch_size») l) refl c;
+  refused = λ c. decides s l gh gw room z ∙ last (known (patternOf s) (s .«patch_size») l) refl c;
 }
   where
-    last : (b : Bool) → known sampleBits (s .«patch_size») l ≡ b → (Source s l gh gw → ⊥) → unless b (Restored.Refused Refusal.Sample) (Restored.Picture (gh * s .«patch_size») (gw * s .«patch_size»)) ≡ Restored.Refused Refusal.Sample
+    last : (b : Bool) → known (patternOf s) (s .«patch_size») l ≡ b → (Source s l gh gw → ⊥) → unless b (Restored.Refused Refusal.Sample) (Restored.Picture (gh * s .«patch_size») (gw * s .«patch_size»)) ≡ Restored.Refused Refusal.Sample
     last true e c = absurd (c (source s l gh gw room z f e))
     last false e c = refl

@@ -1,5 +1,6 @@
 -- Any two results that satisfy the contract of a public function are equal. Each contract is one equation for the result and one for each lent buffer. Assumes nothing.
 use mathlib.Core.Path.{_≡_}
+use mathlib.Core.Bool.{Bool}
 use mathlib.Core.List.{List}
 use Prim.Native.Nat.{ℕ}
 use lib.ListN.{length}
@@ -8,7 +9,7 @@ use Rattle.picture_limits.specs.declared.PictureSettings.{PictureSettings}
 use Rattle.picture.specs.declared.Preprocessed.{Preprocessed}
 use Rattle.picture_restore.specs.declared.Restored.{Restored}
 use Rattle.number_floats.proofs.Unique.{one}
-use Rattle.picture_samples.specs.Samples.{sampleTable}
+use Rattle.picture_samples.specs.Samples.{channelsAllowed, value, entry, sampleTable}
 use Rattle.picture_resize.specs.declared.Near.{Near}
 use Rattle.picture_resize.specs.Resize.{near, blend, toByte, resizedByte}
 use Rattle.picture_patches.specs.Resized.{patchesOver}
@@ -37,8 +38,8 @@ patch-unique l p i x y = one _
 pub resize-unique : (rgb : List ℕ) (h w th tw y x c : ℕ) (a b : ℕ) → a ≡ resizedByte rgb h w th tw y x c → b ≡ resizedByte rgb h w th tw y x c → a ≡ b
 resize-unique rgb h w th tw y x c a b = one _
 
-pub patches-unique : (rgb : List ℕ) (h w th tw p : ℕ) (old x y : List Float) → x ≡ patchesOver rgb h w th tw p old → y ≡ patchesOver rgb h w th tw p old → x ≡ y
-patches-unique rgb h w th tw p old x y = one _
+pub patches-unique : (k : ℕ → ℕ → ℕ) (rgb : List ℕ) (h w th tw p : ℕ) (old x y : List Float) → x ≡ patchesOver k rgb h w th tw p old → y ≡ patchesOver k rgb h w th tw p old → x ≡ y
+patches-unique k rgb h w th tw p old x y = one _
 
 pub blend-unique : (v00 v01 v10 v11 fy fx : Float) (a b : ℕ) → a ≡ toByte (blend v00 v01 v10 v11 fy fx) → b ≡ toByte (blend v00 v01 v10 v11 fy fx) → a ≡ b
 blend-unique v00 v01 v10 v11 fy fx a b = one _
@@ -46,5 +47,8 @@ blend-unique v00 v01 v10 v11 fy fx a b = one _
 pub near-unique : (from to i : ℕ) (a b : Near) → a ≡ near from to i → b ≡ near from to i → a ≡ b
 near-unique from to i a b = one _
 
-pub samples-unique : (a b : List ℕ) → a ≡ sampleTable → b ≡ sampleTable → a ≡ b
-samples-unique a b = one _
+pub samples-unique : (ms ds : List Float) (a b : List ℕ) → a ≡ sampleTable ms ds → b ≡ sampleTable ms ds → a ≡ b
+samples-unique ms ds a b = one _
+
+pub channels-unique : (t : List ℕ) (a b : Bool) → a ≡ channelsAllowed (value (entry t)) → b ≡ channelsAllowed (value (entry t)) → a ≡ b
+channels-unique t a b = one _

@@ -7,13 +7,14 @@ use lib.ListN.{length}
 use lib.Ieee.{Float}
 use Rattle.buffers.specs.Region.{over}
 use Rattle.picture_limits.specs.declared.PictureSettings.{PictureSettings}
-use Rattle.picture_limits.specs.declared.Refusal.the-variants.{Setting, Side, RgbLength, ImageSize, Output}
+use Rattle.picture_limits.specs.declared.Refusal.the-variants.{Setting, Channel, Side, RgbLength, ImageSize, Output}
 use Rattle.picture.specs.declared.Preprocessed.{Preprocessed}
 use Rattle.picture.specs.declared.Preprocessed.the-variants.{Patches, Refused}
 use Rattle.picture_limits.specs.Refusal as R
 use Rattle.picture_limits.specs.Refusal.{unless, reported}
 use Rattle.picture_limits.specs.Settings.{allowed, sided, align}
 use Rattle.picture_limits.specs.Sides.{thOf, twOf, ghOf, gwOf}
+use Rattle.picture_samples.specs.Samples.{channelsAllowed, valueOf}
 use Rattle.picture_resize.specs.Resize.{resizedAt}
 use Rattle.picture_limits.specs.Places.{patchFloats, picture}
 use Rattle.picture_patches.specs.Resized.{resizedPatches}
@@ -25,11 +26,12 @@ floatsOf s h w = ghOf s h w * gwOf s h w * patchFloats (s .«patch_size»)
 unfoldable pub preprocessed : PictureSettings → ℕ → ℕ → ℕ → ℕ → Preprocessed
 preprocessed s len h w room =
     unless (allowed s) (Refused Setting)
+    (unless (channelsAllowed (valueOf s)) (Refused Channel)
     (unless (sided h w) (Refused Side)
     (unless (eqb len (h * w * 3)) (Refused RgbLength)
     (unless (leb (align s) (s .«image_size»)) (Refused ImageSize)
     (unless (leb (floatsOf s h w) room) (Refused Output)
-    (Patches (ghOf s h w) (gwOf s h w) (floatsOf s h w))))))
+    (Patches (ghOf s h w) (gwOf s h w) (floatsOf s h w)))))))
 
 -- the resized picture, by row, column and channel
 abbrev pub resizedPixel : PictureSettings → List ℕ → ℕ → ℕ → ℕ → ℕ → ℕ → ℕ
@@ -40,7 +42,7 @@ resizedBytes s rgb h w = picture (thOf s h w) (twOf s h w) (resizedPixel s rgb h
 
 -- its patches
 abbrev pub patchesOf : PictureSettings → List ℕ → ℕ → ℕ → List Float
-patchesOf s rgb h w = resizedPatches rgb h w (thOf s h w) (twOf s h w) (s .«patch_size»)
+patchesOf s rgb h w = resizedPatches (valueOf s) rgb h w (thOf s h w) (twOf s h w) (s .«patch_size»)
 
 -- the output after the call, from what it was
 abbrev pub patchesLeft : Preprocessed → List Float → List Float → List Float
@@ -68,15 +70,16 @@ abbrev pub floats : Preprocessed → ℕ
 floats (Patches gh gw n) = n
 floats (Refused r) = 0
 
--- and these for every call: the first number of 1, 2, 3, 4, 5 that applies, else 0
+-- and these for every call: the first number of 1, 19, 2, 3, 4, 5 that applies, else 0
 unfoldable pub preprocessNumber : PictureSettings → ℕ → ℕ → ℕ → ℕ → ℕ
 preprocessNumber s len h w room =
     unless (allowed s) 1
+    (unless (channelsAllowed (valueOf s)) 19
     (unless (sided h w) 2
     (unless (eqb len (h * w * 3)) 3
     (unless (leb (align s) (s .«image_size»)) 4
     (unless (leb (floatsOf s h w) room) 5
-    0))))
+    0)))))
 
 pub record Numbered (s : PictureSettings) (len h w room : ℕ) (a : Preprocessed) : Type 0 where
   pub number-is : number a ≡ preprocessNumber s len h w room

@@ -15,6 +15,7 @@ use Rattle.picture_restore.specs.declared.Restored.{Restored}
 use Rattle.picture_limits.specs.Settings.{allowed, align}
 use Rattle.picture_limits.specs.Sides.{thOf, twOf}
 use Rattle.picture_limits.specs.Shape.{gridAllowed}
+use Rattle.picture_samples.specs.Samples.{channelsAllowed, valueOf}
 use Rattle.picture_limits.specs.Places.{patchFloats}
 use Rattle.picture.specs.Preprocess.{preprocessed, resizedBytes, patchesOf, patchesOut}
 use Rattle.picture_restore.specs.Restore.{restored, bytesOf, bytesOut}
@@ -68,6 +69,7 @@ OwnBytes = (s : PictureSettings) (rgb : List ℕ) (h w gh gw n room : ℕ)
 -- restore's numbers before 8 do not apply
 pub record Asked (s : PictureSettings) (l : List Float) (gh gw room : ℕ) : Type 0 where
   pub settings : allowed s ≡ true
+  pub channels : channelsAllowed (valueOf s) ≡ true
   pub grid : gridAllowed s gh && gridAllowed s gw ≡ true
   pub samples : length l ≡ gh * gw * patchFloats (s .«patch_size»)
   pub fits : gh * s .«patch_size» * (gw * s .«patch_size») * 3 ≤ room

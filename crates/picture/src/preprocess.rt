@@ -5,11 +5,14 @@ use picture_limits::Refusal;
 use picture_limits::settings::settings_allowed;
 use picture_limits::settings::sides_allowed;
 use picture_patches::frame::resized_patches;
+use picture_samples::allowed::channels_allowed;
+use picture_samples::samples;
 ghost use mathlib.Core.Path.{_≡_};
 ghost use mathlib.Core.Bool.{true};
 ghost use Prim.Native.Nat.{_≤_, _<_, max};
 ghost use lib.ListN.{length};
 ghost use Rattle.picture_limits.specs.Settings.{allowed};
+ghost use Rattle.picture_samples.specs.Samples.{channelsAllowed, value, entry, sampleTable};
 ghost use Rattle.picture_limits.specs.Sides.{kept, side, resized};
 ghost use Rattle.picture.specs.Preprocess.{preprocessed, patchesOut, Numbered};
 
@@ -51,21 +54,19 @@ fn resized_side(s: PictureSettings, m: usize, x: usize) -> usize
     side_of(s.patch_size * s.spatial_merge_size, n, y)
 }
 
-// The patches of a picture, over the front of `out`.
-pub fn pixtral_preprocess(
+// What preprocess does where settings and channels are allowed; t is the table of the settings.
+fn preprocess_by(
     s: PictureSettings,
     rgb: &[u8],
     height: usize,
     width: usize,
     out: &mut [f32],
+    t: &[u32; 768],
 ) -> Preprocessed
+    requires { ⌜ (allowed s ≡ true) × (channelsAllowed (value (entry (now t))) ≡ true) × (now t ≡ sampleTable (s .mean) (s .deviation)) ⌝ }
     ensures answer { λ r. ⌜ r ≡ preprocessed s (length (now (rgb .entry))) height width (length (now (out .entry))) ⌝ }
     ensures output { λ _. ⌜ now (out .exit) ≡ patchesOut s (now (rgb .entry)) height width (now (out .entry)) ⌝ }
-    ensures numbers { λ r. ⌜ Numbered s (length (now (rgb .entry))) height width (length (now (out .entry))) r ⌝ }
 {
-    if !settings_allowed(s) {
-        return Preprocessed::Refused(Refusal::Setting);
-    }
     if !sides_allowed(height, width) {
         return Preprocessed::Refused(Refusal::Side);
     }
@@ -87,10 +88,34 @@ pub fn pixtral_preprocess(
     if out.len() < floats {
         return Preprocessed::Refused(Refusal::Output);
     }
-    resized_patches(rgb, height, width, th, tw, p, out);
+    resized_patches(rgb, height, width, th, tw, p, out, t);
     Preprocessed::Patches {
         grid_h: gh,
         grid_w: gw,
         floats,
     }
+}
+
+// The patches of a picture, over the front of `out`.
+pub fn pixtral_preprocess(
+    s: PictureSettings,
+    rgb: &[u8],
+    height: usize,
+    width: usize,
+    out: &mut [f32],
+) -> Preprocessed
+    ensures answer { λ r. ⌜ r ≡ preprocessed s (length (now (rgb .entry))) height width (length (now (out .entry))) ⌝ }
+    ensures output { λ _. ⌜ now (out .exit) ≡ patchesOut s (now (rgb .entry)) height width (now (out .entry)) ⌝ }
+    ensures numbers { λ r. ⌜ Numbered s (length (now (rgb .entry))) height width (length (now (out .entry))) r ⌝ }
+{
+    if !settings_allowed(s) {
+        return Preprocessed::Refused(Refusal::Setting);
+    }
+    let mean = s.mean;
+    let deviation = s.deviation;
+    let t = samples(mean, deviation);
+    if !channels_allowed(&t) {
+        return Preprocessed::Refused(Refusal::Channel);
+    }
+    preprocess_by(s, rgb, height, width, out, &t)
 }

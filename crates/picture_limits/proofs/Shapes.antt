@@ -76,6 +76,7 @@ never r t e = let z : _≡_ {A = ℕ} 0 1 = cc in omega arith
 
 -- what an accepted shape says
 pub record Accepted (s : PictureSettings) (gh gw n t : ℕ) : Type 0 where
+  pub accepts : allowed s ≡ true
   pub grids : Grids s gh gw
   pub tokens : t ≡ gh * gw
   pub samples : n ≡ gh * gw * patchFloats (s .«patch_size»)
@@ -89,4 +90,4 @@ shaped-says s gh gw n t e =
     let b = passed g _ _ (Shaped t) (never Grid t) (a .1) in
     let d = passed (eqb n m) _ _ (Shaped t) (never PatchesLength t) (b .1) in
     let h = d .1 in
-    record { grids = grids-say s gh gw (a .0) (b .0); tokens = cc; samples = eqb-true n m (d .0) }
+    record { accepts = a .0; grids = grids-say s gh gw (a .0) (b .0); tokens = cc; samples = eqb-true n m (d .0) }

@@ -6,9 +6,11 @@ pub struct PictureSettings {
     pub spatial_merge_size: usize,
     pub image_size: usize,
     pub resize_rule: usize,
+    pub mean: [f32; 3],
+    pub deviation: [f32; 3],
 }
 
-// Why a call is refused, in the order of the paper's numbers, from 1 on.
+// Why a call is refused, in the order of the papers' numbers: 1 to 12, and 19.
 pub enum Refusal {
     Setting,
     Side,
@@ -22,6 +24,7 @@ pub enum Refusal {
     TableLength,
     Scratch,
     NotFinite,
+    Channel,
 }
 
 // What the settings, the grid and the length of the patches say before anything else is looked at.

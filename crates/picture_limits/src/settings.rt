@@ -26,6 +26,7 @@ pub fn number(r: Refusal) -> u32
         Refusal::TableLength => 10,
         Refusal::Scratch => 11,
         Refusal::NotFinite => 12,
+        Refusal::Channel => 19,
     }
 }
 

@@ -12,6 +12,7 @@ use Rattle.buffers.proofs.Lists.{and-both, and-left, and-right}
 use Rattle.picture_limits.specs.Settings.{within, sided}
 use Rattle.picture_limits.specs.Places.{patchFloats}
 use Rattle.picture_limits.proofs.Sides.{within-says}
+use Rattle.picture_samples.specs.Samples.{channelsAllowed, value}
 use Rattle.picture_patches.specs.Resized.{resizedPatches, fits, patchesOver}
 
 pub record Fits (len h w th tw p room : ℕ) : Type 0 where
@@ -52,7 +53,7 @@ fits-where len h w th tw p room f =
     rw (f .sides, le-leb _ _ (f .tall), le-leb _ _ (f .wide), le-leb _ _ (f .patch-low), le-leb _ _ (f .patch-high), eq-eqb _ _ (f .bytes), le-leb _ _ (f .space)) refl
 
 -- where they fit, they are written
-pub written : (rgb : List ℕ) (h w th tw p : ℕ) (old : List Float) → fits (length rgb) h w th tw p (length old) ≡ true
-    → patchesOver rgb h w th tw p old ≡ over (resizedPatches rgb h w th tw p) old
+pub written : (k : ℕ → ℕ → ℕ) (rgb : List ℕ) (h w th tw p : ℕ) (old : List Float) → channelsAllowed (value k) ≡ true → fits (length rgb) h w th tw p (length old) ≡ true
+    → patchesOver k rgb h w th tw p old ≡ over (resizedPatches (value k) rgb h w th tw p) old
 unfolding patchesOver
-written rgb h w th tw p old e = rw e refl
+written k rgb h w th tw p old a e = rw (a, e) refl

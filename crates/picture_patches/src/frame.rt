@@ -2,8 +2,9 @@
 use crate::nest::framed_patches;
 use crate::rows::Frame;
 use picture_limits::settings::sides_allowed;
-use picture_samples::samples;
+use picture_samples::allowed::channels_allowed;
 ghost use mathlib.Core.Path.{_≡_};
+ghost use Rattle.picture_samples.specs.Samples.{entry};
 ghost use Rattle.picture_patches.specs.Resized.{fits, patchesOver};
 
 // Whether len bytes are h rows of w pixels, and the patches of side p of the picture resized to th rows of tw
@@ -21,8 +22,8 @@ fn patches_fit(len: usize, h: usize, w: usize, th: usize, tw: usize, p: usize, r
     (len == h * w * 3) & (th / p * (tw / p) * (3 * (p * p)) <= room)
 }
 
-// The patches of side p of a picture resized to th rows of tw pixels, over the front of `out`; nothing where
-// they do not fit.
+// The patches of side p of a picture resized to th rows of tw pixels, by the table t, over the front of `out`; nothing
+// where they do not fit, or the table's channels are not allowed.
 pub fn resized_patches(
     rgb: &[u8],
     h: usize,
@@ -31,10 +32,11 @@ pub fn resized_patches(
     tw: usize,
     p: usize,
     out: &mut [f32],
+    t: &[u32; 768],
 )
-    ensures { λ _. ⌜ now (out .exit) ≡ patchesOver (now (rgb .entry)) h w th tw p (now (out .entry)) ⌝ }
+    ensures { λ _. ⌜ now (out .exit) ≡ patchesOver (entry (now (t .entry))) (now (rgb .entry)) h w th tw p (now (out .entry)) ⌝ }
 {
-    if !patches_fit(rgb.len(), h, w, th, tw, p, out.len()) {
+    if !(channels_allowed(t) & patches_fit(rgb.len(), h, w, th, tw, p, out.len())) {
         return;
     }
     let gh = th / p;
@@ -49,6 +51,5 @@ pub fn resized_patches(
         gw,
         plain: (th == h) & (tw == w),
     };
-    let t = samples();
-    framed_patches(rgb, f, out, &t);
+    framed_patches(rgb, f, out, t);
 }

@@ -12,18 +12,18 @@ use Rattle.replay.specs.Marks.{marks, floats}
 use Rattle.replay.specs.Counts.{bump}
 use Rattle.picture_replay.specs.Run.{room, at, firstOf, cellsLeft, secondOf}
 
--- a call that answers as the record says is counted at its number; 6 and 9 count what differs
+-- a call that answers as the record says is counted at its number, 19 at 7 and 10; 6 and 9 count what differs
 
 unfoldable pub madePlace : Made → List ℕ → ℕ
 madePlace m v =
     cond (eqb (m .number) (at v 8) && eqb (m .«grid_h») (at v 9) && eqb (m .«grid_w») (at v 10) && eqb (m .floats) (at v 11) && eqb (m .hash) (at v 12))
-    (cond (ltb (m .number) 6) (m .number) 6)
+    (cond (ltb (m .number) 6) (m .number) (cond (eqb (m .number) 19) 7 6))
     6
 
 unfoldable pub backPlace : Back → List ℕ → ℕ
 backPlace b v =
     cond (eqb (b .number) (at v 19) && eqb (b .height) (at v 20) && eqb (b .width) (at v 21) && eqb (b .hash) (at v 22))
-    (cond (ltb (b .number) 9) (b .number) 9)
+    (cond (ltb (b .number) 9) (b .number) (cond (eqb (b .number) 19) 10 9))
     9
 
 abbrev pub neither : Places
@@ -43,9 +43,9 @@ unfoldable pub placesFrom : Read → Places
 placesFrom r = cond (r .whole && smallOf (r .list)) (bothOf (r .list)) neither
 
 abbrev pub placesOf : List ℕ → Places
-placesOf line = placesFrom (readOf 24 line)
+placesOf line = placesFrom (readOf 30 line)
 
 -- the counts after each of the lines
 unfoldable pub tally : List ℕ → List (List ℕ) → List ℕ
 tally c [] = c
-tally c (l ∷ ls) = let p = placesOf l in tally (bump (bump c (p .first)) (p .second + 7)) ls
+tally c (l ∷ ls) = let p = placesOf l in tally (bump (bump c (p .first)) (p .second + 8)) ls

@@ -1,8 +1,8 @@
 -- What the two calls of a record answer and leave. Assumes nothing.
-use Prim.Native.Nat.{ℕ}
-use mathlib.Core.List.{List, _++_}
+use Prim.Native.Nat.{ℕ, _%_}
+use mathlib.Core.List.{List, [], _∷_, _++_}
 use lib.ListN.{length, getD, take, drop}
-use lib.Ieee.{Float}
+use lib.Ieee.{Float, binary32, ofBits}
 use Rattle.picture_limits.specs.declared.PictureSettings.{PictureSettings}
 use Rattle.picture.specs.declared.Preprocessed.{Preprocessed}
 use Rattle.picture_restore.specs.declared.Restored.{Restored}
@@ -40,7 +40,7 @@ brought s l gh gw out = restored s l gh gw (length out)
 unfoldable pub backOf : PictureSettings → List Float → ℕ → ℕ → List ℕ → Back
 backOf s l gh gw out = backFrom (brought s l gh gw out) (byteHash (bytesLeft (brought s l gh gw out) (bytesOf s l gh gw) out))
 
--- ---- a record of 24 numbers
+-- ---- a record of 30 numbers
 
 -- the cells of a buffer: 64 × 64 pixels of three samples, and 64 more
 abbrev pub room : ℕ
@@ -49,8 +49,20 @@ room = 12352
 abbrev pub at : List ℕ → ℕ → ℕ
 at v k = getD v k 0
 
+-- the float of a pattern
+abbrev pub floatOf : ℕ → Float
+floatOf x = ofBits binary32 (x % 4294967296)
+
 abbrev pub settingsOf : List ℕ → PictureSettings
-settingsOf v = record { «patch_size» = at v 0; «spatial_merge_size» = at v 1; «image_size» = at v 2; «resize_rule» = at v 23 }
+settingsOf v =
+    record {
+      «patch_size» = at v 0;
+      «spatial_merge_size» = at v 1;
+      «image_size» = at v 2;
+      «resize_rule» = at v 23;
+      mean = floatOf (at v 24) ∷ floatOf (at v 25) ∷ floatOf (at v 26) ∷ [];
+      deviation = floatOf (at v 27) ∷ floatOf (at v 28) ∷ floatOf (at v 29) ∷ [];
+    }
 
 abbrev pub rgbOf : List ℕ → List ℕ
 rgbOf v = bytes (seeded (at v 7)) (at v 5)

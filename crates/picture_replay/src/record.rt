@@ -10,14 +10,14 @@ use replay::line::read_line;
 use replay::marks::MARKS;
 use replay::marks::fill_floats;
 
-// Where a record's calls are counted: each by its number, and past these where it differs.
+// Where a record's calls are counted: each by its number, past these where it differs, and last of all 19.
 pub struct Places {
     pub first: usize,
     pub second: usize,
 }
 
-fn made_place(m: Made, v: &[usize; 24]) -> usize
-    ensures { λ r. ⌜ (r ≡ madePlace m (now (v .entry))) × (r < 7) ⌝ }
+fn made_place(m: Made, v: &[usize; 30]) -> usize
+    ensures { λ r. ⌜ (r ≡ madePlace m (now (v .entry))) × (r < 8) ⌝ }
 {
     let same = (m.number == v[8])
         & (m.grid_h == v[9])
@@ -28,17 +28,23 @@ fn made_place(m: Made, v: &[usize; 24]) -> usize
         if m.number < 6 {
             return m.number;
         }
+        if m.number == 19 {
+            return 7;
+        }
     }
     6
 }
 
-fn back_place(b: Back, v: &[usize; 24]) -> usize
-    ensures { λ r. ⌜ (r ≡ backPlace b (now (v .entry))) × (r < 10) ⌝ }
+fn back_place(b: Back, v: &[usize; 30]) -> usize
+    ensures { λ r. ⌜ (r ≡ backPlace b (now (v .entry))) × (r < 11) ⌝ }
 {
     let same = (b.number == v[19]) & (b.height == v[20]) & (b.width == v[21]) & (b.hash == v[22]);
     if same {
         if b.number < 9 {
             return b.number;
+        }
+        if b.number == 19 {
+            return 10;
         }
     }
     9
@@ -80,16 +86,16 @@ fn bad(line: &[u8]) -> Places
 }
 
 // Whether the lengths of a record fit the buffers.
-fn small(v: &[usize; 24]) -> bool
+fn small(v: &[usize; 30]) -> bool
     ensures { λ r. ⌜ r ≡ smallOf (now (v .entry)) ⌝ }
 {
     (v[5] <= ROOM) & (v[6] <= ROOM) & (v[15] <= ROOM) & (v[16] <= ROOM)
 }
 
 pub(crate) fn judge(line: &[u8]) -> Places
-    ensures { λ r. ⌜ (r ≡ placesOf (now (line .entry))) × (r .first < 7) × (r .second < 10) ⌝ }
+    ensures { λ r. ⌜ (r ≡ placesOf (now (line .entry))) × (r .first < 8) × (r .second < 11) ⌝ }
 {
-    let mut v = [0usize; 24];
+    let mut v = [0usize; 30];
     if !read_line(line, &mut v) {
         return bad(line);
     }

@@ -1,8 +1,8 @@
-// A record's two calls. v holds its 24 numbers, in the order that main.rt lists.
+// A record's two calls. v holds its 30 numbers, in the order that main.rt lists.
 ghost use mathlib.Core.Path.{_≡_};
 ghost use Prim.Native.Nat.{_≤_};
 ghost use lib.ListN.{length};
-ghost use Rattle.picture_replay.specs.Run.{room, at, madeOf, left, backOf, settingsOf, firstOf, cellsLeft, secondOf};
+ghost use Rattle.picture_replay.specs.Run.{room, at, madeOf, left, backOf, floatOf, settingsOf, firstOf, cellsLeft, secondOf};
 use picture::Preprocessed;
 use picture_limits::PictureSettings;
 use picture_restore::Restored;
@@ -81,19 +81,30 @@ fn bring(s: PictureSettings, patches: &[f32], grid_h: usize, grid_w: usize, out:
     }
 }
 
-fn settings(v: &[usize; 24]) -> PictureSettings
+// The float of a pattern, of which a record's number has the low 32 bits.
+fn float(x: usize) -> f32
+    ensures { λ r. ⌜ r ≡ floatOf x ⌝ }
+{
+    number_floats::pattern::f32_of_bits((x % 4294967296) as u32)
+}
+
+fn settings(v: &[usize; 30]) -> PictureSettings
     ensures { λ r. ⌜ r ≡ settingsOf (now (v .entry)) ⌝ }
 {
+    let mean = [float(v[24]), float(v[25]), float(v[26])];
+    let deviation = [float(v[27]), float(v[28]), float(v[29])];
     PictureSettings {
         patch_size: v[0],
         spatial_merge_size: v[1],
         image_size: v[2],
         resize_rule: v[23],
+        mean,
+        deviation,
     }
 }
 
 // The preprocess of a record, over the front of the cells.
-pub(crate) fn first(v: &[usize; 24], cells: &mut [f32]) -> Made
+pub(crate) fn first(v: &[usize; 30], cells: &mut [f32]) -> Made
     requires { ⌜ (at (now v) 5 ≤ room) × (at (now v) 6 ≤ length (now cells)) ⌝ }
     ensures answer { λ r. ⌜ r ≡ firstOf (now (v .entry)) (now (cells .entry)) ⌝ }
     ensures output { λ _. ⌜ now (cells .exit) ≡ cellsLeft (now (v .entry)) (now (cells .entry)) ⌝ }
@@ -106,7 +117,7 @@ pub(crate) fn first(v: &[usize; 24], cells: &mut [f32]) -> Made
 }
 
 // The restore of the cells that a record leaves, once they are damaged.
-pub(crate) fn second(v: &[usize; 24], cells: &mut [f32]) -> Back
+pub(crate) fn second(v: &[usize; 30], cells: &mut [f32]) -> Back
     requires { ⌜ (at (now v) 15 ≤ length (now cells)) × (at (now v) 16 ≤ room) ⌝ }
     ensures { λ r. ⌜ r ≡ secondOf (now (v .entry)) (now (cells .entry)) ⌝ }
 {

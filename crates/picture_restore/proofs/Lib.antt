@@ -1,4 +1,4 @@
 pub mod Known
 pub mod Numbers
 pub mod Ladder
-pub mod Guesses
+pub mod Spots

@@ -9,14 +9,14 @@ use lib.Ieee.{Float, nan, binary32, toBits}
 use Rattle.buffers.specs.Rows.{all}
 use Rattle.buffers.specs.Region.{over}
 use Rattle.picture_limits.specs.declared.PictureSettings.{PictureSettings}
-use Rattle.picture_limits.specs.declared.Refusal.the-variants.{Setting, Output, Grid, PatchesLength, Sample}
+use Rattle.picture_limits.specs.declared.Refusal.the-variants.{Setting, Channel, Output, Grid, PatchesLength, Sample}
 use Rattle.picture_restore.specs.declared.Restored.{Restored}
 use Rattle.picture_restore.specs.declared.Restored.the-variants.{Picture, Refused}
 use Rattle.picture_limits.specs.Refusal as R
 use Rattle.picture_limits.specs.Refusal.{unless, reported}
 use Rattle.picture_limits.specs.Settings.{allowed}
 use Rattle.picture_limits.specs.Shape.{gridAllowed}
-use Rattle.picture_samples.specs.Samples.{sampleBits, byteOf}
+use Rattle.picture_samples.specs.Samples.{channelsAllowed, byteOf, valueOf, patternOf}
 use Rattle.picture_limits.specs.Places.{patchFloats, picture, samplePlace}
 
 -- by a table k: every sample has the bits of a byte in its channel, and sample i is of channel i / p² mod 3
@@ -27,20 +27,21 @@ known k p l = all (length l) (λ i. ltb (byteOf k (i / (p * p) % 3) (toBits bina
 abbrev pub bytesFrom : (ℕ → ℕ → ℕ) → ℕ → List Float → ℕ → ℕ → List ℕ
 bytesFrom k p l gh gw = picture (gh * p) (gw * p) (λ y x c. byteOf k c (toBits binary32 (getD l (samplePlace p gw y x c) nan)))
 
--- ---- restore, by the samples' own table
+-- ---- restore, by the table of the settings' means and deviations
 
 -- the answer; `room` is the length of the output
 unfoldable pub restored : PictureSettings → List Float → ℕ → ℕ → ℕ → Restored
 restored s l gh gw room =
     unless (allowed s) (Refused Setting)
+    (unless (channelsAllowed (valueOf s)) (Refused Channel)
     (unless (gridAllowed s gh && gridAllowed s gw) (Refused Grid)
     (unless (eqb (length l) (gh * gw * patchFloats (s .«patch_size»))) (Refused PatchesLength)
     (unless (leb (gh * s .«patch_size» * (gw * s .«patch_size») * 3) room) (Refused Output)
-    (unless (known sampleBits (s .«patch_size») l) (Refused Sample)
-    (Picture (gh * s .«patch_size») (gw * s .«patch_size»))))))
+    (unless (known (patternOf s) (s .«patch_size») l) (Refused Sample)
+    (Picture (gh * s .«patch_size») (gw * s .«patch_size»)))))))
 
 abbrev pub bytesOf : PictureSettings → List Float → ℕ → ℕ → List ℕ
-bytesOf s l gh gw = bytesFrom sampleBits (s .«patch_size») l gh gw
+bytesOf s l gh gw = bytesFrom (patternOf s) (s .«patch_size») l gh gw
 
 -- the output after the call, from what it was
 abbrev pub bytesLeft : Restored → List ℕ → List ℕ → List ℕ
@@ -64,15 +65,16 @@ abbrev pub width : Restored → ℕ
 width (Picture h w) = w
 width (Refused r) = 0
 
--- and these for every call: the first number of 1, 6, 7, 5, 8 that applies, else 0
+-- and these for every call: the first number of 1, 19, 6, 7, 5, 8 that applies, else 0
 unfoldable pub restoreNumber : PictureSettings → List Float → ℕ → ℕ → ℕ → ℕ
 restoreNumber s l gh gw room =
     unless (allowed s) 1
+    (unless (channelsAllowed (valueOf s)) 19
     (unless (gridAllowed s gh && gridAllowed s gw) 6
     (unless (eqb (length l) (gh * gw * patchFloats (s .«patch_size»))) 7
     (unless (leb (gh * s .«patch_size» * (gw * s .«patch_size») * 3) room) 5
-    (unless (known sampleBits (s .«patch_size») l) 8
-    0))))
+    (unless (known (patternOf s) (s .«patch_size») l) 8
+    0)))))
 
 pub record Numbered (s : PictureSettings) (l : List Float) (gh gw room : ℕ) (a : Restored) : Type 0 where
   pub number-is : number a ≡ restoreNumber s l gh gw room

@@ -1,2 +1,2 @@
-pub mod Guess
+pub mod Spot
 pub mod Known

@@ -1,20 +1,26 @@
 // Patches back to the resized picture.
 mod byte;
 
+use byte::Way;
 use byte::byte_for;
-use byte::guess;
+use byte::quick_for;
+use byte::spot;
+use byte::way_of;
 use picture_limits::PictureSettings;
 use picture_limits::Refusal;
 use picture_limits::Shape;
+use picture_limits::settings::settings_allowed;
 use picture_limits::settings::shape;
+use picture_samples::allowed::channels_allowed;
 use picture_samples::samples;
 ghost use mathlib.Core.Path.{_≡_};
+ghost use mathlib.Core.Bool.{true};
 ghost use Prim.Native.Nat.{_+_, _*_, _≤_, _<_};
 ghost use lib.ListN.{length};
 ghost use Rattle.buffers.specs.Region.{put};
-ghost use Rattle.picture_samples.specs.Samples.{entry};
+ghost use Rattle.picture_samples.specs.Samples.{sampleTable, channelsAllowed, value, entry};
 ghost use Rattle.picture_restore.specs.inner.Known.{knownRun, knownPatch, knownPatches};
-ghost use Rattle.picture_restore.specs.inner.Guess.{Guessed, guessedPixel, guessedRun, guessedLine, guessedBand, guessedBytes};
+ghost use Rattle.picture_restore.specs.inner.Spot.{guessedBy, spotted, Spots, pixelBy, runBy, lineBy, bandBy, bytesBy};
 ghost use Rattle.picture_limits.specs.Shape.{shaped};
 ghost use Rattle.picture_restore.specs.Restore.{restored, bytesOut, Numbered};
 
@@ -23,14 +29,14 @@ pub enum Restored {
     Refused(Refusal),
 }
 
-// Whether each of the n samples from `at` on has the bits of a byte in channel c.
-fn run_known(patches: &[f32], at: usize, n: usize, c: usize, t: &[u32; 768]) -> bool
-    requires { ⌜ (c < 3) × (at + n ≤ length (now patches)) × Guessed (now t) ⌝ }
+// As run_known, where bytes are spotted by arithmetic.
+fn run_guessed(patches: &[f32], at: usize, n: usize, c: usize, t: &[u32; 768], w: Way) -> bool
+    requires { ⌜ (c < 3) × (at + n ≤ length (now patches)) × Spots (now t) (guessedBy w) ⌝ }
     ensures { λ r. ⌜ r ≡ knownRun (entry (now (t .entry))) n (now (patches .entry)) at c ⌝ }
 {
     let mut k = 0usize;
     while k < n {
-        if 256 <= byte_for(t, c, patches[at + k]) {
+        if 256 <= quick_for(t, w, c, patches[at + k]) {
             return false;
         }
         k += 1;
@@ -38,15 +44,34 @@ fn run_known(patches: &[f32], at: usize, n: usize, c: usize, t: &[u32; 768]) -> 
     true
 }
 
-fn patch_known(patches: &[f32], at: usize, p: usize, t: &[u32; 768]) -> bool
-    requires { ⌜ (p ≤ 32) × (at + 3 * (p * p) ≤ length (now patches)) × Guessed (now t) ⌝ }
+// Whether each of the n samples from `at` on has the bits of a byte in channel c. How bytes are spotted is asked once for
+// all of them.
+fn run_known(patches: &[f32], at: usize, n: usize, c: usize, t: &[u32; 768], w: Way) -> bool
+    requires { ⌜ (c < 3) × (at + n ≤ length (now patches)) × Spots (now t) (spotted w (entry (now t))) ⌝ }
+    ensures { λ r. ⌜ r ≡ knownRun (entry (now (t .entry))) n (now (patches .entry)) at c ⌝ }
+{
+    if w.right {
+        return run_guessed(patches, at, n, c, t, w);
+    }
+    let mut k = 0usize;
+    while k < n {
+        if 256 <= byte_for(t, w, c, patches[at + k]) {
+            return false;
+        }
+        k += 1;
+    }
+    true
+}
+
+fn patch_known(patches: &[f32], at: usize, p: usize, t: &[u32; 768], w: Way) -> bool
+    requires { ⌜ (p ≤ 32) × (at + 3 * (p * p) ≤ length (now patches)) × Spots (now t) (spotted w (entry (now t))) ⌝ }
     ensures { λ r. ⌜ r ≡ knownPatch (entry (now (t .entry))) p (now (patches .entry)) at ⌝ }
 {
     let n = p * p;
     let mut c = 0usize;
     let mut o = at;
     while c < 3 {
-        if !run_known(patches, o, n, c, t) {
+        if !run_known(patches, o, n, c, t, w) {
             return false;
         }
         o += n;
@@ -56,15 +81,15 @@ fn patch_known(patches: &[f32], at: usize, p: usize, t: &[u32; 768]) -> bool
 }
 
 // Whether every sample of n patches has the bits of a byte in its channel.
-fn all_known(patches: &[f32], p: usize, n: usize, t: &[u32; 768]) -> bool
-    requires { ⌜ (p ≤ 32) × (n * (3 * (p * p)) ≤ length (now patches)) × Guessed (now t) ⌝ }
+fn all_known(patches: &[f32], p: usize, n: usize, t: &[u32; 768], w: Way) -> bool
+    requires { ⌜ (p ≤ 32) × (n * (3 * (p * p)) ≤ length (now patches)) × Spots (now t) (spotted w (entry (now t))) ⌝ }
     ensures { λ r. ⌜ r ≡ knownPatches (entry (now (t .entry))) p n (now (patches .entry)) ⌝ }
 {
     let m = 3 * (p * p);
     let mut q = 0usize;
     let mut o = 0usize;
     while q < n {
-        if !patch_known(patches, o, p, t) {
+        if !patch_known(patches, o, p, t, w) {
             return false;
         }
         o += m;
@@ -74,25 +99,41 @@ fn all_known(patches: &[f32], p: usize, n: usize, t: &[u32; 768]) -> bool
 }
 
 // The three bytes of a pixel, whose samples lie n apart from `from` on.
-fn restore_pixel(patches: &[f32], n: usize, from: usize, at: usize, out: &mut [u8])
-    requires { ⌜ (from + 2 * n < length (now patches)) × (at + 3 ≤ length (now out)) ⌝ }
-    ensures { λ _. ⌜ now (out .exit) ≡ put (now (out .entry)) at (guessedPixel n (now (patches .entry)) from) ⌝ }
+fn restore_pixel(
+    patches: &[f32],
+    n: usize,
+    from: usize,
+    at: usize,
+    out: &mut [u8],
+    t: &[u32; 768],
+    w: Way,
+)
+    requires { ⌜ (from + 2 * n < length (now patches)) × (at + 3 ≤ length (now out)) × Spots (now t) (spotted w (entry (now t))) ⌝ }
+    ensures { λ _. ⌜ now (out .exit) ≡ put (now (out .entry)) at (pixelBy (spotted w (entry (now (t .entry)))) n (now (patches .entry)) from) ⌝ }
 {
-    out[at] = guess(0, patches[from]) as u8;
-    out[at + 1] = guess(1, patches[from + n]) as u8;
-    out[at + 2] = guess(2, patches[from + 2 * n]) as u8;
+    out[at] = spot(t, w, 0, patches[from]) as u8;
+    out[at + 1] = spot(t, w, 1, patches[from + n]) as u8;
+    out[at + 2] = spot(t, w, 2, patches[from + 2 * n]) as u8;
 }
 
 // A row of a patch: p pixels.
-fn restore_run(patches: &[f32], p: usize, from: usize, at: usize, out: &mut [u8])
-    requires { ⌜ (p ≤ 32) × (from + 2 * (p * p) + p ≤ length (now patches)) × (at + p * 3 ≤ length (now out)) ⌝ }
-    ensures { λ _. ⌜ now (out .exit) ≡ put (now (out .entry)) at (guessedRun p (now (patches .entry)) from) ⌝ }
+fn restore_run(
+    patches: &[f32],
+    p: usize,
+    from: usize,
+    at: usize,
+    out: &mut [u8],
+    t: &[u32; 768],
+    w: Way,
+)
+    requires { ⌜ (p ≤ 32) × (from + 2 * (p * p) + p ≤ length (now patches)) × (at + p * 3 ≤ length (now out)) × Spots (now t) (spotted w (entry (now t))) ⌝ }
+    ensures { λ _. ⌜ now (out .exit) ≡ put (now (out .entry)) at (runBy (spotted w (entry (now (t .entry)))) p (now (patches .entry)) from) ⌝ }
 {
     let n = p * p;
     let mut j = 0usize;
     let mut o = at;
     while j < p {
-        restore_pixel(patches, n, from + j, o, out);
+        restore_pixel(patches, n, from + j, o, out, t, w);
         o += 3;
         j += 1;
     }
@@ -107,9 +148,11 @@ fn restore_line(
     from: usize,
     at: usize,
     out: &mut [u8],
+    t: &[u32; 768],
+    w: Way,
 )
-    requires { ⌜ (p ≤ 32) × (i < p) × (from + gw * (3 * (p * p)) ≤ length (now patches)) × (at + gw * (p * 3) ≤ length (now out)) ⌝ }
-    ensures { λ _. ⌜ now (out .exit) ≡ put (now (out .entry)) at (guessedLine p gw (now (patches .entry)) from i) ⌝ }
+    requires { ⌜ (p ≤ 32) × (i < p) × (from + gw * (3 * (p * p)) ≤ length (now patches)) × (at + gw * (p * 3) ≤ length (now out)) × Spots (now t) (spotted w (entry (now t))) ⌝ }
+    ensures { λ _. ⌜ now (out .exit) ≡ put (now (out .entry)) at (lineBy (spotted w (entry (now (t .entry)))) p gw (now (patches .entry)) from i) ⌝ }
 {
     let m = 3 * (p * p);
     let d = i * p;
@@ -117,7 +160,7 @@ fn restore_line(
     let mut o = at;
     let mut k = from;
     while b < gw {
-        restore_run(patches, p, k + d, o, out);
+        restore_run(patches, p, k + d, o, out, t, w);
         o += p * 3;
         k += m;
         b += 1;
@@ -125,24 +168,41 @@ fn restore_line(
 }
 
 // The p rows of the picture that gw patches side by side give.
-fn restore_band(patches: &[f32], p: usize, gw: usize, from: usize, at: usize, out: &mut [u8])
-    requires { ⌜ (p ≤ 32) × (gw ≤ 2048) × (from + gw * (3 * (p * p)) ≤ length (now patches)) × (at + p * (gw * (p * 3)) ≤ length (now out)) ⌝ }
-    ensures { λ _. ⌜ now (out .exit) ≡ put (now (out .entry)) at (guessedBand p gw (now (patches .entry)) from) ⌝ }
+fn restore_band(
+    patches: &[f32],
+    p: usize,
+    gw: usize,
+    from: usize,
+    at: usize,
+    out: &mut [u8],
+    t: &[u32; 768],
+    w: Way,
+)
+    requires { ⌜ (p ≤ 32) × (gw ≤ 2048) × (from + gw * (3 * (p * p)) ≤ length (now patches)) × (at + p * (gw * (p * 3)) ≤ length (now out)) × Spots (now t) (spotted w (entry (now t))) ⌝ }
+    ensures { λ _. ⌜ now (out .exit) ≡ put (now (out .entry)) at (bandBy (spotted w (entry (now (t .entry)))) p gw (now (patches .entry)) from) ⌝ }
 {
     let n = gw * (p * 3);
     let mut i = 0usize;
     let mut o = at;
     while i < p {
-        restore_line(patches, p, gw, i, from, o, out);
+        restore_line(patches, p, gw, i, from, o, out, t, w);
         o += n;
         i += 1;
     }
 }
 
 // All rows, over the front of `out`.
-fn restore_bands(patches: &[f32], p: usize, gh: usize, gw: usize, out: &mut [u8])
-    requires { ⌜ (p ≤ 32) × (gw ≤ 2048) × (gh * (gw * (3 * (p * p))) ≤ length (now patches)) × (gh * (p * (gw * (p * 3))) ≤ length (now out)) ⌝ }
-    ensures { λ _. ⌜ now (out .exit) ≡ put (now (out .entry)) 0 (guessedBytes p gh gw (now (patches .entry))) ⌝ }
+fn restore_bands(
+    patches: &[f32],
+    p: usize,
+    gh: usize,
+    gw: usize,
+    out: &mut [u8],
+    t: &[u32; 768],
+    w: Way,
+)
+    requires { ⌜ (p ≤ 32) × (gw ≤ 2048) × (gh * (gw * (3 * (p * p))) ≤ length (now patches)) × (gh * (p * (gw * (p * 3))) ≤ length (now out)) × Spots (now t) (spotted w (entry (now t))) ⌝ }
+    ensures { λ _. ⌜ now (out .exit) ≡ put (now (out .entry)) 0 (bytesBy (spotted w (entry (now (t .entry)))) p gh gw (now (patches .entry))) ⌝ }
 {
     let m = gw * (3 * (p * p));
     let n = p * (gw * (p * 3));
@@ -150,14 +210,14 @@ fn restore_bands(patches: &[f32], p: usize, gh: usize, gw: usize, out: &mut [u8]
     let mut o = 0usize;
     let mut k = 0usize;
     while a < gh {
-        restore_band(patches, p, gw, k, o, out);
+        restore_band(patches, p, gw, k, o, out, t, w);
         o += n;
         k += m;
         a += 1;
     }
 }
 
-// What restore does where settings, grid and length are in order.
+// What restore does where settings, channels, grid and length are in order; t is the table of the settings.
 fn restore_shaped(
     s: PictureSettings,
     patches: &[f32],
@@ -165,8 +225,10 @@ fn restore_shaped(
     grid_w: usize,
     tokens: usize,
     out: &mut [u8],
+    t: &[u32; 768],
 ) -> Restored
     requires { ⌜ shaped s «grid_h» «grid_w» (length (now patches)) ≡ Shape.Shaped tokens ⌝ }
+    requires { ⌜ (now t ≡ sampleTable (s .mean) (s .deviation)) × (channelsAllowed (value (entry (now t))) ≡ true) ⌝ }
     ensures answer { λ r. ⌜ r ≡ restored s (now (patches .entry)) «grid_h» «grid_w» (length (now (out .entry))) ⌝ }
     ensures output { λ _. ⌜ now (out .exit) ≡ bytesOut s (now (patches .entry)) «grid_h» «grid_w» (now (out .entry)) ⌝ }
 {
@@ -174,11 +236,13 @@ fn restore_shaped(
     if out.len() < grid_h * p * (grid_w * p) * 3 {
         return Restored::Refused(Refusal::Output);
     }
-    let t = samples();
-    if !all_known(patches, p, tokens, &t) {
+    let mean = s.mean;
+    let deviation = s.deviation;
+    let w = way_of(t, mean, deviation);
+    if !all_known(patches, p, tokens, t, w) {
         return Restored::Refused(Refusal::Sample);
     }
-    restore_bands(patches, p, grid_h, grid_w, out);
+    restore_bands(patches, p, grid_h, grid_w, out, t, w);
     Restored::Picture {
         height: grid_h * p,
         width: grid_w * p,
@@ -197,9 +261,18 @@ pub fn restore(
     ensures output { λ _. ⌜ now (out .exit) ≡ bytesOut s (now (patches .entry)) «grid_h» «grid_w» (now (out .entry)) ⌝ }
     ensures numbers { λ r. ⌜ Numbered s (now (patches .entry)) «grid_h» «grid_w» (length (now (out .entry))) r ⌝ }
 {
+    if !settings_allowed(s) {
+        return Restored::Refused(Refusal::Setting);
+    }
+    let mean = s.mean;
+    let deviation = s.deviation;
+    let t = samples(mean, deviation);
+    if !channels_allowed(&t) {
+        return Restored::Refused(Refusal::Channel);
+    }
     let found = shape(s, grid_h, grid_w, patches.len());
     match found {
         Shape::Unshaped(r) => Restored::Refused(r),
-        Shape::Shaped { tokens } => restore_shaped(s, patches, grid_h, grid_w, tokens, out),
+        Shape::Shaped { tokens } => restore_shaped(s, patches, grid_h, grid_w, tokens, out, &t),
     }
 }

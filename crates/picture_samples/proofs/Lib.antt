@@ -1,2 +1,3 @@
+pub mod Channels
 pub mod Table
 pub mod Finds

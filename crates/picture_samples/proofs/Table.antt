@@ -1,19 +1,21 @@
--- The table of samples: its rule at every entry and the strict rise in each channel, each one test that antt computes. Assumes nothing.
+-- The table of the Rust's own means and deviations: its rule at every entry and the strict rise in each channel, each one test
+-- that antt computes. Assumes nothing.
 use mathlib.Core.Path.{_≡_, refl, sym, ap, _∙_, subst}
-use mathlib.Core.Bool.{Bool, true, false, not, cond, _&&_, _||_}
+use mathlib.Core.Bool.{Bool, true, false, _&&_, _||_}
 use mathlib.Core.List.{List, [], _∷_}
-use Prim.Native.Nat.{ℕ, zero, suc, _+_, _*_, _-_, _/_, _%_, _<_}
+use Prim.Native.Nat.{ℕ, zero, suc, _+_, _*_, _/_, _%_, _<_}
 use native.Mathlib.Nat.{add-zero, zero-add, add-suc, suc-add, le-of-suc-le-suc, not-suc-le-zero}
 use native.Mathlib.Omega.{arith}
-use native.Mathlib.Decide.{decLt}
-use lib.Dec.{T, eqb, ltb, eqb→eq, ltb→lt}
+use lib.Dec.{T, eqb, eqb→eq}
 use lib.ListN.{length, getD}
-use lib.Ieee.{binary32, sub, div, lt, ofInt, ofBits, toBits, nanBits}
-use lib.Ieee.Bits.{ofBits-toBits}
-use lib.Ieee.Fits.{div-fits, and-l, and-r}
-use Rattle.buffers.proofs.Lists.{rows-ext, tab-ext, tab-mul, tab-self}
-use Rattle.picture_samples.specs.Samples.{sample, sampleBits, value, entry, sampleTable}
-use Rattle.picture_samples.specs.inner.Clean.{Clean}
+use lib.Ieee.{binary32, sub, div, lt, ofInt, ofBits, toBits}
+use lib.Ieee.Bits.{is-true}
+use lib.Ieee.Fits.{and-l, and-r}
+use lib.Ieee.Scale.{finite}
+use Rattle.buffers.specs.Rows.{all}
+use Rattle.buffers.proofs.Lists.{rows-ext, tab-ext, tab-mul, tab-self, all-of, and-both}
+use Rattle.picture_samples.specs.Samples.{sample, sampleOf, ownMeans, ownDeviations, rising, falling, channelAllowed, channelsAllowed, sampleBits, entry, sampleTable}
+use Rattle.picture_samples.proofs.Channels.{value-is}
 
 -- ---- a test of the pattern of each byte in each channel of a table
 abbrev every : (ℕ → ℕ → ℕ → Bool) → ℕ → List ℕ → Bool
@@ -95,90 +97,59 @@ pub length-table : length table ≡ 768
 unfolding table
 length-table = refl
 
--- the formula's pattern, and no NaN's
+-- the formula's pattern, and a finite value
 right : ℕ → ℕ → ℕ → Bool
-right c b x = eqb x (sampleBits c b) && not (nanBits binary32 x)
+right c b x = eqb x (sampleBits ownMeans ownDeviations c b) && finite (ofBits binary32 x)
 
 checked : T (tested right table)
-unfolding table right sample div toBits ofBits nanBits sub ofInt
+unfolding table right sample div toBits ofBits sub ofInt
 checked = tt
 
-pub entry-is : (c b : ℕ) → c < 3 → b < 256 → entry table c b ≡ sampleBits c b
+pub entry-is : (c b : ℕ) → c < 3 → b < 256 → entry table c b ≡ sampleBits ownMeans ownDeviations c b
 unfolding right
 entry-is c b h l =
     let x = entry table c b in
-    eqb→eq x (sampleBits c b) (and-l (eqb x (sampleBits c b)) (not (nanBits binary32 x)) (tested-at right table length-table checked c b h l))
-
-pub clean-table : Clean table
-unfolding right
-clean-table =
-    record { clean = λ c b h l. let x = entry table c b in and-r (eqb x (sampleBits c b)) (not (nanBits binary32 x)) (tested-at right table length-table checked c b h l) }
+    let y = sampleBits ownMeans ownDeviations c b in
+    eqb→eq x y (and-l (eqb x y) (finite (ofBits binary32 x)) (tested-at right table length-table checked c b h l))
 
 -- the table is the definition's
-pub table-is : table ≡ sampleTable
+pub table-is : table ≡ sampleTable ownMeans ownDeviations
 unfolding sampleTable
 table-is =
     sym (tab-self table (3 * 256) 0 length-table)
     ∙ tab-mul 3 256 (λ k. getD table k 0)
     ∙ rows-ext 3 _ _ (λ c h. tab-ext 256 _ _ (λ b l. entry-is c b h l))
 
--- ---- what a copy of the table says
-module _ (t : List ℕ) (e : t ≡ sampleTable) where
-  pub entry-of : (c b : ℕ) → c < 3 → b < 256 → entry t c b ≡ sampleBits c b
-  entry-of c b h l = ap (λ (s : List ℕ). entry s c b) (e ∙ sym table-is) ∙ entry-is c b h l
-
-  pub clean-of : Clean t
-  clean-of = subst Clean (table-is ∙ sym e) clean-table
-
-pub value-is : (c b : ℕ) → value sampleBits c b ≡ sample c b
-unfolding sample
-value-is c b = ofBits-toBits binary32 (sample c b) (div-fits binary32 _ _)
-
--- ---- the strict rise in each channel, of the values and of a key of their patterns
-
--- a number that rises with the value of the float of this pattern
-key : ℕ → ℕ
-key x = cond (ltb x 0x8000_0000) (x + 0x8000_0000) (0xFFFF_FFFF - x)
-
+-- ---- the strict rise in each channel
 climbs : ℕ → ℕ → ℕ → Bool
-climbs c b x = eqb b 255 || ltb (key x) (key (entry table c (suc b))) && lt (ofBits binary32 x) (ofBits binary32 (entry table c (suc b)))
+climbs c b x = eqb b 255 || lt (ofBits binary32 x) (ofBits binary32 (entry table c (suc b)))
 
 risen : T (tested climbs table)
-unfolding table climbs ofBits lt key
+unfolding table climbs ofBits lt
 risen = tt
 
 or-r : (a b : Bool) → T (a || b) → (T a → ⊥) → T b
 or-r true b t n = absurd (n tt)
 or-r false b t n = t
 
-next : (c b : ℕ) → c < 3 → b < 255 → (key (sampleBits c b) < key (sampleBits c (suc b))) × T (lt (sample c b) (sample c (suc b)))
+own-is : (c b : ℕ) → c < 3 → b < 256 → ofBits binary32 (entry table c b) ≡ sampleOf ownMeans ownDeviations c b
+own-is c b h l = ap (ofBits binary32) (entry-is c b h l) ∙ value-is ownMeans ownDeviations c b
+
+pub rises : (c b : ℕ) → c < 3 → b < 255 → T (lt (sampleOf ownMeans ownDeviations c b) (sampleOf ownMeans ownDeviations c (suc b)))
 unfolding climbs
-next c b h l =
-    let x = entry table c b in
-    let y = entry table c (suc b) in
-    let p = ltb (key x) (key y) in
-    let q = lt (ofBits binary32 x) (ofBits binary32 y) in
-    let t = or-r (eqb b 255) (p && q) (tested-at climbs table length-table risen c b h (omega arith)) (λ z. omega (arith, eqb→eq b 255 z)) in
-    let d : x ≡ sampleBits c b = entry-is c b h (omega arith) in
-    let e : y ≡ sampleBits c (suc b) = entry-is c (suc b) h (omega arith) in
-    (rw (d, e) at (ltb→lt (key x) (key y) (and-l p q t)), rw (d, e, value-is c b, value-is c (suc b)) at (and-r p q t))
+rises c b h l =
+    let x = ofBits binary32 (entry table c b) in
+    let y = ofBits binary32 (entry table c (suc b)) in
+    let t = or-r (eqb b 255) (lt x y) (tested-at climbs table length-table risen c b h (omega arith)) (λ z. omega (arith, eqb→eq b 255 z)) in
+    rw (own-is c b h (omega arith), own-is c (suc b) h (omega arith)) at t
 
-pub rises : (c b : ℕ) → c < 3 → b < 255 → T (lt (sample c b) (sample c (suc b)))
-rises c b h l = next c b h l .1
-
-keys-rise : (c i j : ℕ) → c < 3 → i < j → j < 256 → key (sampleBits c i) < key (sampleBits c j)
-keys-rise c i zero h l m = absurd (omega arith)
-keys-rise c i (suc j) h l m = last (decLt i j) (λ d. keys-rise c i j h d (omega arith))
-  where
-    last : Dec (i < j) → (i < j → key (sampleBits c i) < key (sampleBits c j)) → key (sampleBits c i) < key (sampleBits c (suc j))
-    last (yes d) r = omega (arith, r d, next c j h (omega arith) .0)
-    last (no d) r = let e : i ≡ j = omega arith in rw e (next c j h (omega arith) .0)
-
--- two bytes of a channel never have the same pattern
-pub distinct : (c i j : ℕ) → c < 3 → i < 256 → j < 256 → sampleBits c i ≡ sampleBits c j → i ≡ j
-distinct c i j h a b e = order (decLt i j) (decLt j i)
-  where
-    order : Dec (i < j) → Dec (j < i) → i ≡ j
-    order (yes l) d = absurd (omega (arith, ap key e, keys-rise c i j h l b))
-    order (no l) (yes d) = absurd (omega (arith, ap key e, keys-rise c j i h d a))
-    order (no l) (no d) = omega arith
+-- the Rust's own means and deviations are allowed
+pub own-allowed : channelsAllowed (sampleOf ownMeans ownDeviations) ≡ true
+unfolding channelsAllowed channelAllowed rising right
+own-allowed =
+    let v = sampleOf ownMeans ownDeviations in
+    all-of 3 (λ c. channelAllowed (v c)) (λ c h.
+    let f : all 256 (λ b. finite (v c b)) ≡ true = all-of 256 (λ b. finite (v c b)) (λ b l.
+    ap finite (sym (own-is c b h l)) ∙ is-true (finite (ofBits binary32 (entry table c b))) (and-r (eqb (entry table c b) (sampleBits ownMeans ownDeviations c b)) _ (tested-at right table length-table checked c b h l))) in
+    let r : rising (v c) ≡ true = all-of 255 (λ b. lt (v c b) (v c (suc b))) (λ b l. is-true _ (rises c b h l)) in
+    and-both (all 256 (λ b. finite (v c b))) (rising (v c) || falling (v c)) f (ap (λ (x : Bool). x || falling (v c)) r))

@@ -1,9 +1,19 @@
-// The sample values of the 256 bytes in three channels, (byte / 255 - mean) / std in f32, as one table of bits.
+// The sample values of the 256 bytes in three channels, (byte / 255 - mean) / deviation in f32, as one table of bits.
+pub mod allowed;
+mod formula;
+
+use formula::own;
+use formula::worked_out;
 ghost use mathlib.Core.Path.{_≡_};
 ghost use Rattle.picture_samples.specs.Samples.{sampleTable};
 
-// The bits of the 768 values: channel after channel, 256 bytes each. That each is the formula's, and
-// that a channel rises strictly, is proved once over the table.
+// The Rust's own means and deviations.
+pub const MEAN: [f32; 3] = [0.48145466, 0.4578275, 0.40821073];
+
+pub const DEVIATION: [f32; 3] = [0.26862954, 0.26130258, 0.27577711];
+
+// The bits of the 768 values of the Rust's own means and deviations: channel after channel, 256 bytes each. That each
+// is the formula's, and that a channel rises strictly, is proved once over the table.
 const SAMPLES: [u32; 768] = [
     0xBFE568DC,
     0xBFE38A7F,
@@ -775,9 +785,12 @@ const SAMPLES: [u32; 768] = [
     0x40095660,
 ];
 
-// The table, whose every entry is the formula's.
-pub fn samples() -> [u32; 768]
-    ensures { λ r. ⌜ r ≡ sampleTable ⌝ }
+// The table of three means and three deviations.
+pub fn samples(mean: [f32; 3], deviation: [f32; 3]) -> [u32; 768]
+    ensures { λ r. ⌜ r ≡ sampleTable mean deviation ⌝ }
 {
-    SAMPLES
+    if own(mean, deviation) {
+        return SAMPLES;
+    }
+    worked_out(mean, deviation)
 }

@@ -12,7 +12,7 @@ use lib.Seq.{take-at}
 use lib.Ieee.{Float}
 use Rattle.picture_limits.specs.declared.PictureSettings.{PictureSettings}
 use Rattle.picture_limits.specs.declared.Refusal.{Refusal}
-use Rattle.picture_limits.specs.declared.Refusal.the-variants.{Setting, Output, Grid, PatchesLength, Sample}
+use Rattle.picture_limits.specs.declared.Refusal.the-variants.{Setting, Channel, Output, Grid, PatchesLength, Sample}
 use Rattle.picture.specs.declared.Preprocessed.{Preprocessed}
 use Rattle.picture.specs.declared.Preprocessed.the-variants as P
 use Rattle.picture_restore.specs.declared.Restored.{Restored}
@@ -23,7 +23,7 @@ use Rattle.picture_limits.specs.Places.{patchFloats}
 use Rattle.picture_limits.specs.Shape.{gridAllowed}
 use Rattle.picture.specs.Preprocess.{floatsOf, preprocessed, patchesOf}
 use Rattle.picture_restore.specs.Restore.{known, restored, bytesOf, bytesLeft}
-use Rattle.picture_samples.specs.Samples.{sampleBits}
+use Rattle.picture_samples.specs.Samples.{channelsAllowed, valueOf, patternOf}
 use Rattle.picture_limits.proofs.Places.{times, length-picture}
 use Rattle.picture_limits.proofs.Sides.{side-le}
 use Rattle.picture_limits.proofs.Refusals.{passed}
@@ -75,10 +75,11 @@ module _ (s : PictureSettings) (l : List Float) (gh gw : ℕ) where
   back-says room h w e =
       let x = Picture h w in
       let a = passed (allowed s) _ _ x (never Setting h w) e in
-      let b = passed (gridAllowed s gh && gridAllowed s gw) _ _ x (never Grid h w) (a .1) in
+      let k = passed (channelsAllowed (valueOf s)) _ _ x (never Channel h w) (a .1) in
+      let b = passed (gridAllowed s gh && gridAllowed s gw) _ _ x (never Grid h w) (k .1) in
       let c = passed (eqb (length l) (gh * gw * patchFloats (s .«patch_size»))) _ _ x (never PatchesLength h w) (b .1) in
       let d = passed (leb need room) _ _ x (never Output h w) (c .1) in
-      let f = passed (known sampleBits (s .«patch_size») l) _ _ x (never Sample h w) (d .1) in
+      let f = passed (known (patternOf s) (s .«patch_size») l) _ _ x (never Sample h w) (d .1) in
       let g = f .1 in
       record { tall = cc (g); wide = cc (g); grids = grids-say s gh gw (a .0) (b .0) }
 

@@ -14,11 +14,12 @@ use Rattle.picture_restore.specs.declared.Restored.the-variants as R
 use Rattle.picture_limits.specs.Refusal.{number}
 use Rattle.picture.specs.Preprocess.{floatsOf, preprocessed, patchesOf}
 use Rattle.picture_restore.specs.Restore.{restored, bytesOf}
+use Rattle.picture_samples.specs.Samples.{ownMeans, ownDeviations}
 use Rattle.unpatch_form.specs.Form.{Request, form}
 use Rattle.unpatch_text.specs.Print.{refusedLine, outsideLine, gridLine, rowLines}
 
 abbrev pub settings : Request → PictureSettings
-settings q = record { «patch_size» = q .patch; «spatial_merge_size» = q .merge; «image_size» = q .image; «resize_rule» = 1 }
+settings q = record { «patch_size» = q .patch; «spatial_merge_size» = q .merge; «image_size» = q .image; «resize_rule» = 1; mean = ownMeans; deviation = ownDeviations }
 
 -- the restored bytes of a grid's patches, by what restore answers
 abbrev pub restoredText : PictureSettings → ℕ → ℕ → List ℕ → Restored → List ℕ

@@ -5,6 +5,8 @@ mod run;
 use crate::print::put_bytes;
 use crate::run::run;
 use picture_limits::PictureSettings;
+use picture_samples::DEVIATION;
+use picture_samples::MEAN;
 use unpatch_read::read::Reading;
 use unpatch_read::read::read;
 ghost use mathlib.Core.Path.{_≡_};
@@ -38,6 +40,8 @@ pub fn unpatch(input: &[u8], out: &mut [u8]) -> usize
                 spatial_merge_size: merge,
                 image_size: image,
                 resize_rule: 1,
+                mean: MEAN,
+                deviation: DEVIATION,
             };
             run(s, &rgb[..bytes], height, width, out)
         }

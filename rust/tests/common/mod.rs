@@ -33,6 +33,30 @@ impl Random {
         PictureSettings { resize_rule: self.from(1, 2), ..settings }
     }
 
+    /// A mean and a deviation, of ordinary and of extreme sizes; some are not allowed.
+    pub fn channel(&mut self) -> (f32, f32) {
+        let mut float = |size: f32| self.floats(1, size)[0];
+        let (mean, deviation) = (float(1.0), float(1.0));
+        let any = f32::from_bits(self.next() as u32);
+        match self.from(0, 7) {
+            0 => (any, deviation),
+            1 => (mean, any),
+            2 => (mean * [1e3, 1e5, 3e5, 1e8][self.from(0, 3)], deviation),
+            3 => (mean, deviation * [1e38, 1e-30, 1e-38, 1e-39][self.from(0, 3)]),
+            _ => (mean, deviation),
+        }
+    }
+
+    /// An allowed mean and deviation.
+    pub fn allowed_channel(&mut self) -> (f32, f32) {
+        loop {
+            let (mean, deviation) = self.channel();
+            if allowed(mean, deviation) {
+                return (mean, deviation);
+            }
+        }
+    }
+
     pub fn encoder(&mut self) -> EncoderSettings {
         let (num_heads, head_dim) = (self.from(1, 3), 4 * self.from(1, 2));
         EncoderSettings {
@@ -46,6 +70,23 @@ impl Random {
             scaling: 0.5,
         }
     }
+}
+
+/// The sample of a byte, as its definition reads.
+pub fn sample(byte: u8, mean: f32, deviation: f32) -> f32 {
+    (f32::from(byte) / 255.0 - mean) / deviation
+}
+
+/// Whether a channel's 256 samples are finite and strictly rise or strictly fall.
+pub fn allowed(mean: f32, deviation: f32) -> bool {
+    let samples: Vec<f32> = (0..=255).map(|byte| sample(byte, mean, deviation)).collect();
+    let strict = |before: fn(&f32, &f32) -> bool| samples.windows(2).all(|two| before(&two[0], &two[1]));
+    samples.iter().all(|x| x.is_finite()) && (strict(f32::lt) || strict(f32::gt))
+}
+
+/// Settings with the same mean and the same deviation in all channels.
+pub fn alike(mean: f32, deviation: f32, settings: PictureSettings) -> PictureSettings {
+    PictureSettings { mean: [mean; 3], deviation: [deviation; 3], ..settings }
 }
 
 /// Whether two buffers have the same bits, NaNs too.

@@ -20,10 +20,10 @@ abbrev seen : List ℕ → ℕ → List Float → ℕ → ℕ → Bool
 seen t p l at c = knownRun (entry t) (p * p) l (at + c * (p * p)) c
 
 abbrev Inv-loop : tie.InvT-loop
-Inv-loop patches at p t n c₀ o₀ c o = (c ≤ 3) × (o ≡ at + c * (p * p)) × (all c (seen t p patches at) ≡ true)
+Inv-loop patches at p t w n c₀ o₀ c o = (c ≤ 3) × (o ≡ at + c * (p * p)) × (all c (seen t p patches at) ≡ true)
 
 abbrev μ-loop : tie.MeasureT-loop
-μ-loop patches at p t n c₀ o₀ c o = 3 - c
+μ-loop patches at p t w n c₀ o₀ c o = 3 - c
 
 answer : (c : tie.After-run-known Inv-loop μ-loop) → let a = c .before .before .before .before .args in c .run-known .result ≡ seen (a .t .now) (a .p) (a .patches .now) (a .at) (c .before .before .loop .c)
 answer c =

@@ -7,10 +7,11 @@ use lib.ListN.{length}
 use Rattle.buffers.specs.Rows.{rows}
 use Rattle.buffers.specs.Region.{put}
 use Rattle.buffers.proofs.Lists.{fit, rows-step}
-use Rattle.picture_restore.specs.inner.Guess.{guessedBand}
+use Rattle.picture_samples.specs.Samples.{entry}
+use Rattle.picture_restore.specs.inner.Spot.{spotted, bandBy}
 use Rattle.picture_limits.specs.Places.{patchFloats}
 use Rattle.picture_limits.proofs.Places.{turn, times, square}
-use Rattle.picture_restore.proofs.Guesses.{length-guessedBand}
+use Rattle.picture_restore.proofs.Spots.{length-bandBy}
 use Rattle.picture_restore.proofs.restore_bands.Statement.{statement}
 use Rattle.picture_restore.proofs.restore_bands.Tie as tie
 
@@ -22,12 +23,12 @@ abbrev bytes : ℕ → ℕ → ℕ
 bytes p gw = p * (gw * (p * 3))
 
 abbrev Inv-loop : tie.InvT-loop
-Inv-loop patches p gh gw out₀ m n a₀ o₀ k₀ out a o k =
+Inv-loop patches p gh gw out₀ t w m n a₀ o₀ k₀ out a o k =
     (a ≤ gh) × (o ≡ 0 + a * bytes p gw) × (k ≡ a * samples p gw) × (length out ≡ length out₀)
-    × (out ≡ put out₀ 0 (rows a (λ j. guessedBand p gw patches (j * samples p gw))))
+    × (out ≡ put out₀ 0 (rows a (λ j. bandBy (spotted w (entry t)) p gw patches (j * samples p gw))))
 
 abbrev μ-loop : tie.MeasureT-loop
-μ-loop patches p gh gw out₀ m n a₀ o₀ k₀ out a o k = gh - a
+μ-loop patches p gh gw out₀ t w m n a₀ o₀ k₀ out a o k = gh - a
 
 sizes : (p gw : ℕ) → p ≤ 32 → gw ≤ 2048 → (p * p ≤ 1024) × (samples p gw ≤ 6291456) × (gw * (p * 3) ≤ 196608) × (bytes p gw ≤ 6291456)
 sizes p gw h k =
@@ -68,7 +69,10 @@ unfolding put rows
 loop-holds c = search needs
 
 restore-band-requires : tie.Need-restore-band-requires Inv-loop μ-loop
-restore-band-requires c κs = omega (arith, room (c .before))
+restore-band-requires c κs =
+    let s = c .before .before .before .before .before in
+    let r = room (c .before) in
+    (omega arith, omega arith, omega arith, omega arith, s .pre .4)
 
 add-o : tie.Need-add-o Inv-loop μ-loop
 add-o c = omega (arith, room (c .before .before .before .before))
@@ -92,8 +96,8 @@ loop-again c =
       omega (arith, turn (l .a) n),
       omega (arith, turn (l .a) m),
       c .before .before .restore-band .kept .1 .1 .1 .1 .1 .0 ∙ l .inv .3,
-      rows-step _ n (λ j. length-guessedBand (s .p) (s .patches .now) (s .gw) (j * m)) (s .out .now) (l .out) _ 0 (l .o) (l .a) (l .inv .4) (l .inv .1)
-          (c .before .before .restore-band .ensures ∙ ap (λ (k : ℕ). put (l .out) (l .o) (guessedBand (s .p) (s .gw) (s .patches .now) k)) (l .inv .2)),
+      rows-step _ n (λ j. length-bandBy (spotted (s .w) (entry (s .t .now))) (s .p) (s .patches .now) (s .gw) (j * m)) (s .out .now) (l .out) _ 0 (l .o) (l .a) (l .inv .4) (l .inv .1)
+          (c .before .before .restore-band .ensures ∙ ap (λ (k : ℕ). put (l .out) (l .o) (bandBy (spotted (s .w) (entry (s .t .now))) (s .p) (s .gw) (s .patches .now) k)) (l .inv .2)),
     )
 
 same-length : tie.Need-same-length Inv-loop μ-loop
@@ -103,7 +107,7 @@ returns : tie.Need-returns Inv-loop μ-loop
 returns c =
     let s = c .before .before .before .before .args in
     let e : c .before .loop .a ≡ s .gh = omega arith in
-    c .before .loop .inv .4 ∙ ap (λ (n : ℕ). put (s .out .now) 0 (rows n (λ j. guessedBand (s .p) (s .gw) (s .patches .now) (j * samples (s .p) (s .gw))))) e
+    c .before .loop .inv .4 ∙ ap (λ (n : ℕ). put (s .out .now) 0 (rows n (λ j. bandBy (spotted (s .w) (entry (s .t .now))) (s .p) (s .gw) (s .patches .now) (j * samples (s .p) (s .gw))))) e
 
 pub restore-bands-spec : {M : Type 1} → statement M
 restore-bands-spec =

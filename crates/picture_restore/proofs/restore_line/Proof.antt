@@ -7,20 +7,21 @@ use lib.ListN.{length}
 use Rattle.buffers.specs.Rows.{rows}
 use Rattle.buffers.specs.Region.{put}
 use Rattle.buffers.proofs.Lists.{fit, rows-step}
-use Rattle.picture_restore.specs.inner.Guess.{guessedRun}
+use Rattle.picture_samples.specs.Samples.{entry}
+use Rattle.picture_restore.specs.inner.Spot.{spotted, runBy}
 use Rattle.picture_limits.specs.Places.{patchFloats}
 use Rattle.picture_limits.proofs.Places.{turn, square}
-use Rattle.picture_restore.proofs.Guesses.{length-guessedRun}
+use Rattle.picture_restore.proofs.Spots.{length-runBy}
 use Rattle.picture_restore.proofs.restore_line.Statement.{statement}
 use Rattle.picture_restore.proofs.restore_line.Tie as tie
 
 abbrev Inv-loop : tie.InvT-loop
-Inv-loop patches p gw i from at out₀ m d b₀ o₀ k₀ out b o k =
+Inv-loop patches p gw i from at out₀ t w m d b₀ o₀ k₀ out b o k =
     (b ≤ gw) × (o ≡ at + b * (p * 3)) × (k ≡ from + b * patchFloats p) × (length out ≡ length out₀)
-    × (out ≡ put out₀ at (rows b (λ j. guessedRun p patches (from + j * patchFloats p + i * p))))
+    × (out ≡ put out₀ at (rows b (λ j. runBy (spotted w (entry t)) p patches (from + j * patchFloats p + i * p))))
 
 abbrev μ-loop : tie.MeasureT-loop
-μ-loop patches p gw i from at out₀ m d b₀ o₀ k₀ out b o k = gw - b
+μ-loop patches p gw i from at out₀ t w m d b₀ o₀ k₀ out b o k = gw - b
 
 -- a patch is small, and row i lies inside it
 small : (c : tie.Start Inv-loop μ-loop) → let a = c .args in (a .p * a .p ≤ 1024) × (a .i * a .p + a .p ≤ a .p * a .p)
@@ -48,7 +49,11 @@ add-restore-run : tie.Need-add-restore-run Inv-loop μ-loop
 add-restore-run c = omega (arith, small (c .before .before .before .before), room c)
 
 restore-run-requires : tie.Need-restore-run-requires Inv-loop μ-loop
-restore-run-requires c κs = omega (arith, small (c .before .before .before .before .before), room (c .before))
+restore-run-requires c κs =
+    let s = c .before .before .before .before .before in
+    let k = small s in
+    let r = room (c .before) in
+    (omega arith, omega arith, omega arith, s .pre .4)
 
 mul-o : tie.Need-mul-o Inv-loop μ-loop
 mul-o c = search needs
@@ -73,8 +78,8 @@ loop-again c =
       omega (arith, turn (l .b) (a .p * 3)),
       omega (arith, turn (l .b) (patchFloats (a .p))),
       c .before .before .restore-run .kept .1 .1 .1 .1 .0 ∙ l .inv .3,
-      rows-step _ (a .p * 3) (λ j. length-guessedRun (a .p) (a .patches .now) (a .from + j * patchFloats (a .p) + a .i * a .p)) (a .out .now) (l .out) _ (a .at) (l .o) (l .b) (l .inv .4) (l .inv .1)
-          (c .before .before .restore-run .ensures ∙ ap (λ (k : ℕ). put (l .out) (l .o) (guessedRun (a .p) (a .patches .now) (k + a .i * a .p))) (l .inv .2)),
+      rows-step _ (a .p * 3) (λ j. length-runBy (spotted (a .w) (entry (a .t .now))) (a .p) (a .patches .now) (a .from + j * patchFloats (a .p) + a .i * a .p)) (a .out .now) (l .out) _ (a .at) (l .o) (l .b) (l .inv .4) (l .inv .1)
+          (c .before .before .restore-run .ensures ∙ ap (λ (k : ℕ). put (l .out) (l .o) (runBy (spotted (a .w) (entry (a .t .now))) (a .p) (a .patches .now) (k + a .i * a .p))) (l .inv .2)),
     )
 
 same-length : tie.Need-same-length Inv-loop μ-loop
@@ -84,7 +89,7 @@ returns : tie.Need-returns Inv-loop μ-loop
 returns c =
     let a = c .before .before .before .before .args in
     let e : c .before .loop .b ≡ a .gw = omega arith in
-    c .before .loop .inv .4 ∙ ap (λ (n : ℕ). put (a .out .now) (a .at) (rows n (λ j. guessedRun (a .p) (a .patches .now) (a .from + j * patchFloats (a .p) + a .i * a .p)))) e
+    c .before .loop .inv .4 ∙ ap (λ (n : ℕ). put (a .out .now) (a .at) (rows n (λ j. runBy (spotted (a .w) (entry (a .t .now))) (a .p) (a .patches .now) (a .from + j * patchFloats (a .p) + a .i * a .p)))) e
 
 pub restore-line-spec : {M : Type 1} → statement M
 restore-line-spec =

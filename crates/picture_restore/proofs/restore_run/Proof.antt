@@ -7,18 +7,19 @@ use lib.ListN.{length}
 use Rattle.buffers.specs.Rows.{rows}
 use Rattle.buffers.specs.Region.{put}
 use Rattle.buffers.proofs.Lists.{rows-step}
-use Rattle.picture_restore.specs.inner.Guess.{guessedPixel}
+use Rattle.picture_samples.specs.Samples.{entry}
+use Rattle.picture_restore.specs.inner.Spot.{spotted, pixelBy}
 use Rattle.picture_limits.proofs.Places.{square}
-use Rattle.picture_restore.proofs.Guesses.{length-guessedPixel}
+use Rattle.picture_restore.proofs.Spots.{length-pixelBy}
 use Rattle.picture_restore.proofs.restore_run.Statement.{statement}
 use Rattle.picture_restore.proofs.restore_run.Tie as tie
 
 abbrev Inv-loop : tie.InvT-loop
-Inv-loop patches p from at out₀ n j₀ o₀ out j o =
-    (j ≤ p) × (o ≡ at + j * 3) × (length out ≡ length out₀) × (out ≡ put out₀ at (rows j (λ i. guessedPixel (p * p) patches (from + i))))
+Inv-loop patches p from at out₀ t w n j₀ o₀ out j o =
+    (j ≤ p) × (o ≡ at + j * 3) × (length out ≡ length out₀) × (out ≡ put out₀ at (rows j (λ i. pixelBy (spotted w (entry t)) (p * p) patches (from + i))))
 
 abbrev μ-loop : tie.MeasureT-loop
-μ-loop patches p from at out₀ n j₀ o₀ out j o = p - j
+μ-loop patches p from at out₀ t w n j₀ o₀ out j o = p - j
 
 mul-n : tie.Need-mul-n Inv-loop μ-loop
 mul-n c = let s = c .before .before in omega (arith, square (s .args .p) (s .pre .0))
@@ -31,7 +32,7 @@ add-restore-pixel : tie.Need-add-restore-pixel Inv-loop μ-loop
 add-restore-pixel c = search needs
 
 restore-pixel-requires : tie.Need-restore-pixel-requires Inv-loop μ-loop
-restore-pixel-requires c κs = omega arith
+restore-pixel-requires c κs = let s = c .before .before .before .before .before in (omega arith, omega arith, s .pre .3)
 
 add-o : tie.Need-add-o Inv-loop μ-loop
 add-o c = search needs
@@ -50,7 +51,7 @@ loop-again c =
       omega arith,
       omega arith,
       c .before .before .restore-pixel .kept .1 .1 .1 .1 .0 ∙ l .inv .2,
-      rows-step _ 3 (λ i. length-guessedPixel n (a .patches .now) (a .from + i)) (a .out .now) (l .out) _ (a .at) (l .o) (l .j) (l .inv .3) (l .inv .1)
+      rows-step _ 3 (λ i. length-pixelBy (spotted (a .w) (entry (a .t .now))) n (a .patches .now) (a .from + i)) (a .out .now) (l .out) _ (a .at) (l .o) (l .j) (l .inv .3) (l .inv .1)
           (c .before .before .restore-pixel .ensures),
     )
 
@@ -61,7 +62,7 @@ returns : tie.Need-returns Inv-loop μ-loop
 returns c =
     let a = c .before .before .before .before .args in
     let e : c .before .loop .j ≡ a .p = omega arith in
-    c .before .loop .inv .3 ∙ ap (λ (n : ℕ). put (a .out .now) (a .at) (rows n (λ i. guessedPixel (a .p * a .p) (a .patches .now) (a .from + i)))) e
+    c .before .loop .inv .3 ∙ ap (λ (n : ℕ). put (a .out .now) (a .at) (rows n (λ i. pixelBy (spotted (a .w) (entry (a .t .now))) (a .p * a .p) (a .patches .now) (a .from + i)))) e
 
 pub restore-run-spec : {M : Type 1} → statement M
 restore-run-spec =

@@ -1,4 +1,4 @@
--- `picture_restore::restore_shaped` meets its contract: with the shape accepted, the room and then the samples decide. Assumes nothing.
+-- `picture_restore::restore_shaped` meets its contract: with shape and channels accepted, the room and then the samples decide. Assumes nothing.
 use mathlib.Core.Path.{_≡_, sym, ap, _∙_}
 use Prim.Native.Nat.{ℕ, _*_, _≤_}
 use native.Mathlib.Nat.{mul-assoc}
@@ -11,43 +11,49 @@ use Rattle.buffers.specs.Region.{put}
 use Rattle.buffers.proofs.Regions.{put-over}
 use Rattle.picture_restore.specs.declared.Restored.the-variants.{Picture, Refused}
 use Rattle.picture_limits.specs.declared.Refusal.the-variants.{Output, Sample}
-use Rattle.picture_samples.specs.Samples.{sampleBits, entry}
+use Rattle.picture_samples.specs.Samples.{channelsAllowed, value, entry, valueOf, patternOf}
 use Rattle.picture_limits.specs.Places.{patchFloats}
 use Rattle.picture_limits.specs.Refusal.{unless}
 use Rattle.picture_restore.specs.Restore.{known, restored, bytesFrom}
 use Rattle.picture_limits.proofs.Places.{length-picture}
 use Rattle.picture_limits.proofs.Shapes.{Accepted, shaped-says}
-use Rattle.picture_samples.proofs.Table.{entry-of}
+use Rattle.picture_samples.proofs.Channels.{entry-of, allowed-of}
+use Rattle.picture_samples.proofs.Finds.{Same}
 use Rattle.picture_restore.proofs.Known.{known-same, known-cut}
-use Rattle.picture_restore.proofs.Ladder.{decided, agrees}
-use Rattle.picture_restore.proofs.Guesses.{guessed-of, guessed-bytes}
+use Rattle.picture_restore.proofs.Ladder.{agreed}
+use Rattle.picture_restore.specs.inner.Spot.{spotted}
+use Rattle.picture_restore.proofs.Spots.{spotted-bytes}
 use Rattle.picture_restore.proofs.restore_shaped.Statement.{statement}
 use Rattle.picture_restore.proofs.restore_shaped.Tie as tie
 
 accepted : (c : tie.Start) → let a = c .args in Accepted (a .s) (a .grid-h) (a .grid-w) (length (a .patches .now)) (a .tokens)
-accepted c = let a = c .args in shaped-says (a .s) (a .grid-h) (a .grid-w) (length (a .patches .now)) (a .tokens) (c .pre)
+accepted c = let a = c .args in shaped-says (a .s) (a .grid-h) (a .grid-w) (length (a .patches .now)) (a .tokens) (c .pre .0)
 
 -- what is left to decide
 decision : (c : tie.Start) → let a = c .args in let p = a .s .«patch_size» in
     restored (a .s) (a .patches .now) (a .grid-h) (a .grid-w) (length (a .out .now))
     ≡ unless (leb (a .grid-h * p * (a .grid-w * p) * 3) (length (a .out .now))) (Refused Output)
-    (unless (known sampleBits p (a .patches .now)) (Refused Sample) (Picture (a .grid-h * p) (a .grid-w * p)))
+    (unless (known (patternOf (a .s)) p (a .patches .now)) (Refused Sample) (Picture (a .grid-h * p) (a .grid-w * p)))
 decision c =
     let a = c .args in
-    agrees (a .s) (a .patches .now) (a .grid-h) (a .grid-w) (length (a .out .now))
-    ∙ ap (decided (a .s) (a .patches .now) (a .grid-h) (a .grid-w) (length (a .out .now))) (c .pre)
+    let s = a .s in
+    agreed s (a .patches .now) (a .grid-h) (a .grid-w) (length (a .out .now)) (a .tokens) (c .pre .0)
+    (sym (allowed-of (s .mean) (s .deviation) (a .t .now) (c .pre .1 .0)) ∙ c .pre .1 .1)
 
-answer : (c : tie.After-all-known) → let a = c .before .before .before .before .before .before .args in
-    c .all-known .result ≡ known sampleBits (a .s .«patch_size») (a .patches .now)
+-- the table's patterns are the settings'
+same : (c : tie.Start) → Same (entry (c .args .t .now)) (patternOf (c .args .s))
+same c = let a = c .args in entry-of (a .s .mean) (a .s .deviation) (a .t .now) (c .pre .1 .0)
+
+answer : (c : tie.After-all-known) → let a = c .before .before .before .before .before .before .before .args in
+    c .all-known .result ≡ known (patternOf (a .s)) (a .s .«patch_size») (a .patches .now)
 answer c =
-    let s = c .before .before .before .before .before .before in
+    let s = c .before .before .before .before .before .before .before in
     let a = s .args in
-    let t = c .before .before .samples in
     let p = a .s .«patch_size» in
     let k = accepted s in
     c .all-known .ensures
-    ∙ sym (known-cut (entry (t .result)) p (a .tokens) (a .patches .now) (k .samples ∙ ap (λ (n : ℕ). n * patchFloats p) (sym (k .tokens))))
-    ∙ known-same (entry (t .result)) sampleBits (entry-of (t .result) (t .ensures)) p (a .patches .now)
+    ∙ sym (known-cut (entry (a .t .now)) p (a .tokens) (a .patches .now) (k .samples ∙ ap (λ (n : ℕ). n * patchFloats p) (sym (k .tokens))))
+    ∙ known-same (entry (a .t .now)) (patternOf (a .s)) (same s) p (a .patches .now)
 
 bytes : (gh gw p : ℕ) → gh * p * (gw * p) * 3 ≡ gh * (p * (gw * (p * 3)))
 bytes gh gw p = simp mul-assoc
@@ -67,55 +73,56 @@ mul-if1-4 c = let k = accepted (c .before .before) in omega arith
 returns : tie.Need-returns
 returns c = let d = decision (c .before .before .before) in let e = lt-leb _ _ (c .if1 .taken) in (rw (d, e), rw (d, e))
 
-samples-requires : tie.Need-samples-requires
-samples-requires c κs = search needs
+way-of-requires : tie.Need-way-of-requires
+way-of-requires c κs = c .before .before .before .before .before .pre .1 .1
 
 all-known-requires : tie.Need-all-known-requires
 all-known-requires c κs =
-    let s = c .before .before .before .before .before in
+    let s = c .before .before .before .before .before .before in
     let k = accepted s in
-    (k .grids .settings .patch-high, omega (arith, k .samples, ap (λ (n : ℕ). n * patchFloats (s .args .s .«patch_size»)) (k .tokens)), guessed-of _ (c .before .samples .ensures))
+    (k .grids .settings .patch-high, omega (arith, k .samples, ap (λ (n : ℕ). n * patchFloats (s .args .s .«patch_size»)) (k .tokens)), c .way-of .ensures)
 
 returns-2 : tie.Need-returns-2
 returns-2 c =
-    let d = decision (c .before .before .before .before .before .before .before) in
-    let e = le-leb _ _ (c .before .before .before .before .if1 .left) in
+    let d = decision (c .before .before .before .before .before .before .before .before) in
+    let e = le-leb _ _ (c .before .before .before .before .before .if1 .left) in
     let k = sym (answer (c .before)) ∙ not-true _ (c .if2 .taken) in
     (rw (d, e, k), rw (d, e, k))
 
 restore-bands-requires : tie.Need-restore-bands-requires
 restore-bands-requires c κs =
-    let a = c .before .before .before .before .before .before .before .before .args in
+    let a = c .before .before .before .before .before .before .before .before .before .args in
     let p = a .s .«patch_size» in
-    let k = accepted (c .before .before .before .before .before .before .before .before) in (
+    let k = accepted (c .before .before .before .before .before .before .before .before .before) in (
       k .grids .settings .patch-high,
       omega (arith, k .grids .wide .few, k .grids .settings .image-high),
       omega (arith, k .samples, mul-assoc (a .grid-h) (a .grid-w) (patchFloats p)),
-      omega (arith, c .before .before .before .before .before .if1 .left, bytes (a .grid-h) (a .grid-w) p),
+      omega (arith, c .before .before .before .before .before .before .if1 .left, bytes (a .grid-h) (a .grid-w) p),
+      c .before .before .before .way-of .ensures,
     )
 
-mul-t9 : tie.Need-mul-t9
-mul-t9 c = let k = accepted (c .before .before .before .before .before .before .before .before .before .before .before) in omega (arith, k .grids)
+mul-t12 : tie.Need-mul-t12
+mul-t12 c = let k = accepted (c .before .before .before .before .before .before .before .before .before .before .before .before) in omega (arith, k .grids)
 
-mul-t10 : tie.Need-mul-t10
-mul-t10 c = let k = accepted (c .before .before .before .before .before .before .before .before .before .before .before) in omega (arith, k .grids)
+mul-t13 : tie.Need-mul-t13
+mul-t13 c = let k = accepted (c .before .before .before .before .before .before .before .before .before .before .before .before) in omega (arith, k .grids)
 
 same-length : tie.Need-same-length
 same-length c = c .before .before .restore-bands .kept .1 .1 .1 .1 .0
 
 returns-3 : tie.Need-returns-3
 returns-3 c =
-    let s = c .before .before .before .before .before .before .before .before .before .before .before in
+    let s = c .before .before .before .before .before .before .before .before .before .before .before .before in
     let a = s .args in
     let p = a .s .«patch_size» in
     let k = accepted s in
     let d = decision s in
-    let f = c .before .before .before .before .before .before .before .before .if1 .left in
+    let f = c .before .before .before .before .before .before .before .before .before .if1 .left in
     let e = le-leb _ _ f in
     let g = sym (answer (c .before .before .before .before .before)) ∙ not-false _ (c .before .before .before .before .if2 .left) in
-    let ys = bytesFrom sampleBits p (a .patches .now) (a .grid-h) (a .grid-w) in
-    let ok = c .before .before .before .before .before .before .before .before .before .before .shared-slice-known .given in
-    let w = guessed-bytes p (a .grid-h) (a .grid-w) (a .patches .now) (k .grids .settings .patch-low) g (k .samples) (λ i _. ok i) in
+    let ys = bytesFrom (patternOf (a .s)) p (a .patches .now) (a .grid-h) (a .grid-w) in
+    let ok = c .before .before .before .before .before .before .before .before .before .before .before .shared-slice-known .given in
+    let w = spotted-bytes (a .t .now) (spotted (c .before .before .before .before .before .before .way-of .result) (entry (a .t .now))) (patternOf (a .s)) p (a .grid-h) (a .grid-w) (a .patches .now) (c .before .before .before .before .before .before .way-of .ensures) (same s) (k .grids .settings .patch-low) g (k .samples) (λ i _. ok i) in
     let l : length ys ≤ length (a .out .now) = rw (length-picture (a .grid-h * p) (a .grid-w * p) _) (omega (arith, f, mul-assoc (a .grid-h * p) (a .grid-w * p) 3)) in
     (rw (d, e, g), rw (d, e, g) (c .before .before .restore-bands .ensures ∙ ap (put (a .out .now) 0) w ∙ put-over (a .out .now) ys l))
 
@@ -128,11 +135,11 @@ restore-shaped-spec =
     mul-if1-3
     mul-if1-4
     returns
-    samples-requires
+    way-of-requires
     all-known-requires
     returns-2
     restore-bands-requires
-    mul-t9
-    mul-t10
+    mul-t12
+    mul-t13
     same-length
     returns-3)

@@ -13,14 +13,15 @@ use Rattle.buffers.specs.Rows.{all}
 use Rattle.buffers.proofs.Lists.{all-step, all-fails}
 use Rattle.picture_samples.specs.Samples.{byteOf, entry}
 use Rattle.picture_restore.specs.inner.Known.{knownRun}
+use Rattle.picture_restore.proofs.Spots.{by-guess}
 use Rattle.picture_restore.proofs.run_known.Statement.{statement}
 use Rattle.picture_restore.proofs.run_known.Tie as tie
 
 abbrev Inv-loop : tie.InvT-loop
-Inv-loop patches at n c t k₀ k = (k ≤ n) × (knownRun (entry t) k patches at c ≡ true)
+Inv-loop patches at n c t w k₀ k = (k ≤ n) × (knownRun (entry t) k patches at c ≡ true)
 
 abbrev μ-loop : tie.MeasureT-loop
-μ-loop patches at n c t k₀ k = n - k
+μ-loop patches at n c t w k₀ k = n - k
 
 -- the byte of sample i, and whether it is one
 abbrev byte : List ℕ → List Float → ℕ → ℕ → ℕ → ℕ
@@ -28,6 +29,14 @@ byte t l at c i = byteOf (entry t) c (toBits binary32 (getD l (at + i) nan))
 
 abbrev seen : List ℕ → List Float → ℕ → ℕ → ℕ → Bool
 seen t l at c i = ltb (byte t l at c i) 256
+
+run-guessed-requires : tie.Need-run-guessed-requires Inv-loop μ-loop
+run-guessed-requires c κs =
+    let s = c .before .before in
+    (s .pre .0, s .pre .1, by-guess (s .args .w) (s .args .t .now) (c .if1 .taken) (s .pre .2))
+
+returns : tie.Need-returns Inv-loop μ-loop
+returns c = c .run-guessed .ensures
 
 loop-holds : tie.Need-loop-holds Inv-loop μ-loop
 unfolding all
@@ -45,12 +54,12 @@ shared-slice-read-byte-for c = search needs
 byte-for-requires : tie.Need-byte-for-requires Inv-loop μ-loop
 byte-for-requires c κs = search needs
 
-returns : tie.Need-returns Inv-loop μ-loop
-returns c =
-    let a = c .before .before .before .before .before .before .args in
+returns-2 : tie.Need-returns-2 Inv-loop μ-loop
+returns-2 c =
+    let a = c .before .before .before .before .before .before .before .args in
     let k = c .before .before .before .before .loop .k in
     sym (all-fails (a .n) (seen (a .t .now) (a .patches .now) (a .at) (a .c)) k (c .before .before .before .loop-test .taken)
-    (le-ltb (byte (a .t .now) (a .patches .now) (a .at) (a .c) k) 256 (omega (arith, c .if1 .taken, c .before .byte-for .ensures))))
+    (le-ltb (byte (a .t .now) (a .patches .now) (a .at) (a .c) k) 256 (omega (arith, c .if2 .taken, c .before .byte-for .ensures))))
 
 add-k : tie.Need-add-k Inv-loop μ-loop
 add-k c = search needs
@@ -60,16 +69,16 @@ loop-less c = search needs
 
 loop-again : tie.Need-loop-again Inv-loop μ-loop
 loop-again c =
-    let a = c .before .before .before .before .before .before .args in
+    let a = c .before .before .before .before .before .before .before .args in
     let l = c .before .before .before .before .loop in (
       omega arith,
       all-step (l .k) (seen (a .t .now) (a .patches .now) (a .at) (a .c)) (l .inv .1)
-          (lt-ltb (byte (a .t .now) (a .patches .now) (a .at) (a .c) (l .k)) 256 (omega (arith, c .if1 .left, c .before .byte-for .ensures))),
+          (lt-ltb (byte (a .t .now) (a .patches .now) (a .at) (a .c) (l .k)) 256 (omega (arith, c .if2 .left, c .before .byte-for .ensures))),
     )
 
-returns-2 : tie.Need-returns-2 Inv-loop μ-loop
-returns-2 c =
-    let a = c .before .before .before .args in
+returns-3 : tie.Need-returns-3 Inv-loop μ-loop
+returns-3 c =
+    let a = c .before .before .before .before .args in
     let e : c .before .loop .k ≡ a .n = omega arith in
     sym (c .before .loop .inv .1) ∙ ap (λ (n : ℕ). knownRun (entry (a .t .now)) n (a .patches .now) (a .at) (a .c)) e
 
@@ -79,13 +88,15 @@ run-known-spec =
     (tie.spec
     Inv-loop
     μ-loop
+    run-guessed-requires
+    returns
     loop-holds
     add-byte-for
     mul-byte-for
     shared-slice-read-byte-for
     byte-for-requires
-    returns
+    returns-2
     add-k
     loop-less
     loop-again
-    returns-2)
+    returns-3)

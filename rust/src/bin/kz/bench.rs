@@ -4,6 +4,7 @@ use crate::fail::Fail;
 use crate::given::Given;
 use crate::model::{refused_settings, Lent, Model, Random};
 use crate::{room, say};
+use kyzgultam::PictureSettings;
 use std::fs;
 use std::io::{stderr, Write};
 use std::process::Command;
@@ -26,7 +27,9 @@ The second form, and the first where the source or rustc is missing, times
 the port alone on noise, on one core: the best of the runs that fit into half
 a second, at least one. `share` is the part of a sweep's time. Without --size
 three sizes are timed, the largest without forward. The model is as for
-`kz encode`.
+`kz encode`. Last, restore of the largest is timed by three choices of mean
+and deviation, whatever --settings say: the Rust's, 0.2 and 0.25 as for grey
+ultrasound, and 0.2 and 1e38, by which a byte has to be found by halving.
 ";
 
 const ORACLE: &str = concat!(env!("CARGO_MANIFEST_DIR"), "/../oracle/run");
@@ -91,25 +94,70 @@ fn alone(given: &Given) -> Result<(), Fail> {
         s.picture.image_size,
         s.picture.resize_rule
     ));
+    let PictureSettings { mean, deviation, .. } = PictureSettings::default();
+    if (s.picture.mean, s.picture.deviation) == (mean, deviation) {
+        say(format_args!("mean and deviation as in the Rust"));
+    } else {
+        let channels = |numbers: [f32; 3]| numbers.map(|number| format!("{number:?}")).join("/");
+        say(format_args!("mean {}, deviation {}", channels(s.picture.mean), channels(s.picture.deviation)));
+    }
     say(format_args!("{:<11} {:<9} {:<11} {:>11} {:>17} {:>7}", "picture", "patches", "call", "time", "rate", "share"));
     let sizes = asked.map_or(vec![(280, 280), (490, 650), (1540, 1540)], |size| vec![size]);
-    for (height, width) in sizes {
-        sweep(&model, height, width, asked.is_some())?;
+    for (height, width) in &sizes {
+        sweep(&model, *height, *width, asked.is_some())?;
+    }
+    let (height, width) = sizes[sizes.len() - 1];
+    choices(&s.picture, height, width)
+}
+
+/// A picture of noise, and room for its patches and for what they bring back.
+struct Buffers {
+    rgb: Vec<u8>,
+    patches: Vec<f32>,
+    back: Vec<u8>,
+}
+
+impl Buffers {
+    fn new(settings: &PictureSettings, height: usize, width: usize) -> Result<Buffers, Fail> {
+        let floats = settings.patches_len(height, width).map_err(refused_settings)?;
+        let advice = "give a smaller --size or --settings";
+        let of = |what: &str| format!("{what} of {height}x{width} pixels (image={})", settings.image_size);
+        let patches = room::zeros(floats, &of("the patches"), advice).map_err(Fail::Refused)?;
+        let back = room::zeros(floats, &of("the restored picture"), advice).map_err(Fail::Refused)?;
+        let mut rgb: Vec<u8> = room::empty(height * width * 3, &of("a picture"), advice).map_err(Fail::Refused)?;
+        let mut random = Random::new(1);
+        rgb.extend((0..height * width * 3).map(|_| (random.float() * 127.0 + 128.0) as u8));
+        Ok(Buffers { rgb, patches, back })
+    }
+}
+
+/// Times restore by the Rust's means and deviations, and by two choices that are the same in all channels.
+fn choices(settings: &PictureSettings, height: usize, width: usize) -> Result<(), Fail> {
+    let Buffers { rgb, mut patches, mut back } = Buffers::new(settings, height, width)?;
+    let PictureSettings { mean, deviation, .. } = PictureSettings::default();
+    let head = format!("restore of {height}x{width} by mean and deviation");
+    say(format_args!("\n{head:<42} {:>11} {:>26}", "time", "rate"));
+    for (name, mean, deviation) in [
+        ("the Rust's", mean, deviation),
+        ("0.2 and 0.25, for grey ultrasound", [0.2; 3], [0.25; 3]),
+        // 255 × 1e38 is infinite in f32: no product leads back to the byte.
+        ("0.2 and 1e38, bytes found by halving", [0.2; 3], [1e38; 3]),
+    ] {
+        let settings = PictureSettings { mean, deviation, ..*settings };
+        let cut = kyzgultam::pixtral_preprocess(&rgb, height, width, &settings, &mut patches);
+        let cut = cut.map_err(refused_settings)?;
+        let time = best(|| kyzgultam::restore(&patches, cut.grid_h, cut.grid_w, &settings, &mut back).map(drop));
+        let seconds = time.map_err(refused_settings)?.as_secs_f64();
+        let rate = back.len() as f64 / 1e6 / seconds;
+        say(format_args!("{name:<42} {:>8.2} ms {rate:>7.1} MB of RGB a second", seconds * 1e3));
     }
     Ok(())
 }
 
 fn sweep(model: &Model, height: usize, width: usize, all: bool) -> Result<(), Fail> {
     let settings = model.settings.picture;
-    let floats = settings.patches_len(height, width).map_err(refused_settings)?;
+    let Buffers { rgb, mut patches, mut back } = Buffers::new(&settings, height, width)?;
     let (grid_h, grid_w) = settings.grid(height, width).map_err(refused_settings)?;
-    let advice = "give a smaller --size or --settings";
-    let of = |what: &str| format!("{what} of {height}x{width} pixels (image={})", settings.image_size);
-    let mut patches = room::zeros(floats, &of("the patches"), advice).map_err(Fail::Refused)?;
-    let mut back = room::zeros(floats, &of("the restored picture"), advice).map_err(Fail::Refused)?;
-    let mut rgb: Vec<u8> = room::empty(height * width * 3, &of("a picture"), advice).map_err(Fail::Refused)?;
-    let mut random = Random::new(1);
-    rgb.extend((0..height * width * 3).map(|_| (random.float() * 127.0 + 128.0) as u8));
     let mut lent = Lent::default();
 
     let mut times = vec![];

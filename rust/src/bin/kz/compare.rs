@@ -3,6 +3,7 @@
 use crate::encode::{by_rule, Cutter};
 use crate::fail::Fail;
 use crate::given::Given;
+use crate::model::allowed;
 use crate::netpbm::{ppm, Picture};
 use crate::png::png;
 use crate::shown::shown;
@@ -18,7 +19,9 @@ side is above image, the answer names the rule. Sweeps archived before there
 was a choice were cut by rule 1. With -o it writes a picture of A, resized, in
 which the patches that differ are red (PPM, if OUT ends in .ppm). Exit status
 0 whether they differ or not, 1 where that cannot be said on standard output.
-Of --settings (`kz encode --help`) patch, merge, image and rule are used.
+Of --settings (`kz encode --help`) patch, merge, image, rule, mean and
+deviation are used; the last two change no answer, since the same patches are
+equal by all that are allowed.
 ";
 
 const LARGER: &str = "give a larger patch= or a smaller image= in --settings";
@@ -32,6 +35,7 @@ pub fn run(given: &Given) -> Result<(), Fail> {
         files::vacant(out, given.force)?;
     }
     let settings = given.settings()?.picture;
+    allowed(&settings)?;
     let (mut first, mut second) = (Cutter::default(), Cutter::default());
     let (grid, of_a) = first.cut(a, &settings)?;
     let (other, of_b) = second.cut(b, &settings)?;

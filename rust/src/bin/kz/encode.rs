@@ -2,7 +2,7 @@
 
 use crate::fail::Fail;
 use crate::given::Given;
-use crate::model::{refused_settings, Lent, Model};
+use crate::model::{allowed, refused_settings, Lent, Model};
 use crate::progress::Progress;
 use crate::shown::shown;
 use crate::source::Source;
@@ -27,12 +27,14 @@ goes on with --skip-existing, which takes files that are there for done.
   merge 2 (1..4)     heads 4 (1..64)      intermediate 128 (1..8192)
   image 1540         head: hidden / heads text 64 (1..8192)
     (1..2048)          (4, 8 .. 256)      scale: 1 / root of head
-  rule 1 (1, 2)
-The rule is how a sweep is resized. 1, as in the Rust and in all that was
-archived before there was a choice, cuts each side to image by itself and so
-squashes a sweep that is longer; 2 keeps its shape. Where a side is above
-image, what is said of a file names the rule. The file does not, so go on
-with --skip-existing by the rule that the list was begun with.
+  rule 1 (1, 2)      mean, deviation: as in the Rust
+Rule 1, as in the Rust and in all that was archived before there was a choice,
+cuts each side to image by itself and so squashes a longer sweep; 2 keeps its
+shape. A byte becomes (byte / 255 - mean) / deviation: one number for all
+channels or three, as mean=0.2,deviation=0.3/0.25/0.3, by which no two bytes
+may be alike. Where a side is above image, what is said of a file names the
+rule. The file has neither the rule nor means and deviations, so go on with
+--skip-existing by those that the list was begun with.
 ";
 
 pub const PATCHES: &str = "\
@@ -42,9 +44,11 @@ Writes the patches of each SWEEP (P5 or P6) to DIR/SWEEP.patches.npy, an array
 of NumPy: grid rows x grid columns x 3 patch^2, a patch's samples by channel,
 row and column. `kz restore` brings the picture back. A list that was cut off
 goes on with --skip-existing, which takes files that are there for done. Of
---settings (`kz encode --help`) patch, merge, image and rule are used. Where a
-side of a sweep is above image, what is said of its file names the rule. The
-file does not, so go on by the rule that the list was begun with.
+--settings (`kz encode --help`) patch, merge, image, rule, mean and deviation
+are used. Where a side of a sweep is above image, what is said of its file
+names the rule. The file has neither the rule nor means and deviations: go on
+by those that the list was begun with, and note them beside the files, since
+restore needs the same means and deviations.
 ";
 
 /// Patches of one picture after another, in one buffer.
@@ -66,7 +70,7 @@ impl Cutter {
         let picture = netpbm::read(file)?;
         let (height, width) = (picture.height, picture.width);
         let refused = |refusal| match refusal {
-            Refusal::Setting => refused_settings(refusal),
+            Refusal::Setting | Refusal::Channel => refused_settings(refusal),
             Refusal::ImageSize => Fail::call(file, refusal, "give a larger image= in --settings"),
             _ => Fail::call(file, refusal, "cut or shrink the picture"),
         };
@@ -100,7 +104,7 @@ pub fn encode(given: &Given) -> Result<(), Fail> {
 pub fn patches(given: &Given) -> Result<(), Fail> {
     let list = List::read(given, ".patches.npy")?;
     let settings = given.settings()?.picture;
-    settings.grid(1, 1).or_else(|r| if r == Refusal::Setting { Err(refused_settings(r)) } else { Ok((0, 0)) })?;
+    allowed(&settings)?;
     let floats = 3 * settings.patch_size.pow(2);
     let mut cutter = Cutter::default();
     list.each(floats, |file, out| {

@@ -113,22 +113,21 @@ impl Given {
         for pair in list.split(',').filter(|pair| !pair.is_empty()) {
             let (key, value) = pair.split_once('=').unwrap_or((pair, ""));
             let bad = || Fail::usage(format!("--settings: {}: {KEYS}", shown(pair)));
-            if key == "scale" {
-                scale = Some(value.parse().map_err(|_| bad())?);
-                continue;
-            }
-            let number = decimal(value).ok_or_else(bad)?;
+            let number = || decimal(value).ok_or_else(bad);
             match key {
-                "patch" => s.picture.patch_size = number,
-                "merge" => s.picture.spatial_merge_size = number,
-                "image" => s.picture.image_size = number,
-                "rule" => s.picture.resize_rule = number,
-                "hidden" => s.hidden_size = number,
-                "heads" => s.num_heads = number,
-                "head" => head = Some(number),
-                "layers" => s.num_layers = number,
-                "intermediate" => s.intermediate_size = number,
-                "text" => s.text_hidden_size = number,
+                "patch" => s.picture.patch_size = number()?,
+                "merge" => s.picture.spatial_merge_size = number()?,
+                "image" => s.picture.image_size = number()?,
+                "rule" => s.picture.resize_rule = number()?,
+                "mean" => s.picture.mean = channels(value).ok_or_else(bad)?,
+                "deviation" => s.picture.deviation = channels(value).ok_or_else(bad)?,
+                "hidden" => s.hidden_size = number()?,
+                "heads" => s.num_heads = number()?,
+                "head" => head = Some(number()?),
+                "layers" => s.num_layers = number()?,
+                "intermediate" => s.intermediate_size = number()?,
+                "text" => s.text_hidden_size = number()?,
+                "scale" => scale = Some(value.parse().map_err(|_| bad())?),
                 _ => return Err(bad()),
             }
         }
@@ -139,8 +138,8 @@ impl Given {
     }
 }
 
-const KEYS: &str = "a list of KEY=NUMBER, parted by commas; keys: patch merge image rule hidden heads head layers \
-                    intermediate text scale";
+const KEYS: &str = "a list of KEY=NUMBER, parted by commas; keys: patch merge image rule mean deviation hidden heads \
+                    head layers intermediate text scale; mean and deviation take one number, or three as 0.5/0.4/0.3";
 
 /// The model that is built in.
 pub const SMALL: EncoderSettings = EncoderSettings {
@@ -156,6 +155,16 @@ pub const SMALL: EncoderSettings = EncoderSettings {
 
 fn decimal(text: &str) -> Option<usize> {
     (!text.is_empty() && text.bytes().all(|b| b.is_ascii_digit())).then(|| text.parse().ok()).flatten()
+}
+
+/// `0.2` for each of three channels, or `0.5/0.4/0.3` for one each.
+fn channels(text: &str) -> Option<[f32; 3]> {
+    let numbers: Option<Vec<f32>> = text.split('/').map(|number| number.parse().ok()).collect();
+    match numbers?[..] {
+        [all] => Some([all; 3]),
+        [red, green, blue] => Some([red, green, blue]),
+        _ => None,
+    }
 }
 
 /// `2x4` as 2 and 4.

@@ -40,7 +40,7 @@ Pictures are binary netpbm, P5 or P6. Patches and token vectors are .npy of
 NumPy, which says its shape; weights and tables plain floats: f32, little-
 endian, in the order of include/kyzgultam.h. Sizes are HEIGHTxWIDTH.
 
-  --settings LIST   as patch=14,merge=2,image=1540,rule=1 (`kz encode --help`)
+  --settings LIST   as rule=2,mean=0.2,deviation=0.25 (`kz encode --help`)
   --weights FILE    for encode and bench; a small seeded model without it
   --tables FILE     for encode and bench; the Rust's without it
   --grid HxW        for restore of plain floats, which do not say it

@@ -5,7 +5,7 @@ use crate::given::Given;
 use crate::room;
 use crate::shown::shown;
 use crate::source::{unread, Source};
-use kyzgultam::{EncoderSettings, PixtralEncoder, Refusal};
+use kyzgultam::{pixtral_preprocess, EncoderSettings, PictureSettings, PixtralEncoder, Refusal};
 use std::path::{Path, PathBuf};
 
 /// What forward is lent, from one sweep to the next.
@@ -26,6 +26,7 @@ pub struct Model {
 impl Model {
     pub fn read(given: &Given) -> Result<Model, Fail> {
         let settings = given.settings()?;
+        allowed(&settings.picture)?;
         let files = ["--weights", "--tables"].map(|name| given.path(name));
         let merge = settings.picture.spatial_merge_size;
         let lengths = match settings.lengths(merge, merge) {
@@ -84,10 +85,20 @@ impl Model {
 }
 
 const RANGES: &str = "`kz encode --help` has the ranges";
+const CHANNELS: &str = "give another mean= or deviation=, as mean=0.2,deviation=0.25, or leave both out";
 const SMALLER: &str = "give smaller --settings";
 
 pub fn refused_settings(refusal: Refusal) -> Fail {
-    Fail::Refused(format!("--settings: {}", numbered(refusal, RANGES)))
+    let advice = if refusal == Refusal::Channel { CHANNELS } else { RANGES };
+    Fail::Refused(format!("--settings: {}", numbered(refusal, advice)))
+}
+
+/// Refuses what no picture is cut or restored with. 1 and 19 come before the number of sides that no picture has.
+pub fn allowed(settings: &PictureSettings) -> Result<(), Fail> {
+    match pixtral_preprocess(&[], 0, 0, settings, &mut []) {
+        Err(refusal @ (Refusal::Setting | Refusal::Channel)) => Err(refused_settings(refusal)),
+        _ => Ok(()),
+    }
 }
 
 fn weights_room(s: &EncoderSettings, len: usize) -> Result<Vec<f32>, Fail> {

@@ -2,7 +2,7 @@
 
 use crate::fail::Fail;
 use crate::given::Given;
-use crate::model::refused_settings;
+use crate::model::allowed;
 use crate::netpbm::{ppm, Picture};
 use crate::shown::shown;
 use crate::source::{unread, Source};
@@ -19,8 +19,10 @@ Writes the picture that gave the patches, as it was resized before it was
 cut. A .npy file, as `kz patches` writes it, says its grid itself: its shape
 is grid rows x grid columns x 3 patch^2, and another is refused. A file of
 plain floats (f32, little-endian) needs --grid. --settings are to be those
-that the patches were cut with: patch, merge and image (`kz encode --help`).
-The resize rule may be left out: the grid says which sides it gave.
+that the patches were cut with: patch, merge, image, mean and deviation
+(`kz encode --help`). The file does not hold the last two: with others than
+its own most files are refused with 8. The resize rule may be left out: the
+grid says which sides it gave.
 ";
 
 pub fn run(given: &Given) -> Result<(), Fail> {
@@ -30,14 +32,14 @@ pub fn run(given: &Given) -> Result<(), Fail> {
     let out = given.needed("-o", "OUT.ppm")?;
     let settings = given.settings()?.picture;
     let asked = given.sides("--grid")?;
+    allowed(&settings)?;
     files::vacant(&out, given.force)?;
     let mut source = Source::open(file)?;
     let (grid_h, grid_w, depth) =
         grid(file, &mut source, asked, settings.patch_size.saturating_pow(2).saturating_mul(3))?;
     let advice = format!("it was read as {grid_h}x{grid_w} patches of {depth} floats: {OWN}");
     let refused = |refusal| match refusal {
-        Refusal::Setting => refused_settings(refusal),
-        Refusal::Sample => Fail::call(file, refusal, "the file is damaged, or was not written by `kz patches`"),
+        Refusal::Sample => Fail::call(file, refusal, DAMAGED),
         _ => Fail::call(file, refusal, &advice),
     };
     let len = settings.restored_len(grid_h, grid_w).map_err(refused)?;
@@ -55,6 +57,8 @@ pub fn run(given: &Given) -> Result<(), Fail> {
     Ok(())
 }
 
+const DAMAGED: &str = "the file is damaged, or was cut with another mean= or deviation= than these --settings have, \
+                       or was not written by `kz patches`";
 const OWN: &str = "give the --settings, and of plain floats the --grid, that it was written with";
 const ELSEWHERE: &str = "restore it where there is more";
 

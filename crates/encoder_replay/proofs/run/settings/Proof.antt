@@ -18,20 +18,20 @@ element-copy-out-t14 c = search needs
 element-copy-out-t5-2 : tie.Need-element-copy-out-t5-2
 element-copy-out-t5-2 c = search needs
 
-element-copy-out-t14-2 : tie.Need-element-copy-out-t14-2
-element-copy-out-t14-2 c = search needs
+element-copy-out-t8-2 : tie.Need-element-copy-out-t8-2
+element-copy-out-t8-2 c = search needs
 
 element-copy-out-t11-2 : tie.Need-element-copy-out-t11-2
 element-copy-out-t11-2 c = search needs
 
-element-copy-out-t8-2 : tie.Need-element-copy-out-t8-2
-element-copy-out-t8-2 c = search needs
+element-copy-out-t14-2 : tie.Need-element-copy-out-t14-2
+element-copy-out-t14-2 c = search needs
 
-element-copy-out-t25 : tie.Need-element-copy-out-t25
-element-copy-out-t25 c = search needs
+element-copy-out-t27 : tie.Need-element-copy-out-t27
+element-copy-out-t27 c = search needs
 
-element-copy-out-t28 : tie.Need-element-copy-out-t28
-element-copy-out-t28 c = search needs
+element-copy-out-t30 : tie.Need-element-copy-out-t30
+element-copy-out-t30 c = search needs
 
 element-copy-out-f32-of-bits : tie.Need-element-copy-out-f32-of-bits
 element-copy-out-f32-of-bits c = search needs
@@ -54,11 +54,11 @@ settings-spec =
     element-copy-out-t11
     element-copy-out-t14
     element-copy-out-t5-2
-    element-copy-out-t14-2
-    element-copy-out-t11-2
     element-copy-out-t8-2
-    element-copy-out-t25
-    element-copy-out-t28
+    element-copy-out-t11-2
+    element-copy-out-t14-2
+    element-copy-out-t27
+    element-copy-out-t30
     element-copy-out-f32-of-bits
     cast-f32-of-bits
     f32-of-bits-requires

@@ -19,19 +19,19 @@ use Rattle.picture_replay.proofs.record.judge.Statement.{statement}
 use Rattle.picture_replay.proofs.record.judge.Tie as tie
 
 -- a line that was not read
-unread : (line : List ℕ) (t : Bool) → t ≡ readOf 24 line .whole → t ≡ false → neither ≡ placesOf line
+unread : (line : List ℕ) (t : Bool) → t ≡ readOf 30 line .whole → t ≡ false → neither ≡ placesOf line
 unfolding placesFrom
 unread line t e f = rw (← e, f)
 
 -- a line that was, by whether its lengths fit
-module _ (line v : List ℕ) (t : Bool) (e : t ≡ readOf 24 line .whole) (o : v ≡ over (readOf 24 line .list) (replicate 24 0)) (f : t ≡ true) where
+module _ (line v : List ℕ) (t : Bool) (e : t ≡ readOf 30 line .whole) (o : v ≡ over (readOf 30 line .list) (replicate 30 0)) (f : t ≡ true) where
   large : smallOf v ≡ false → neither ≡ placesOf line
   unfolding placesFrom
-  large s = rw (read-whole 24 line (replicate 24 0) v t refl e o f, s)
+  large s = rw (read-whole 30 line (replicate 30 0) v t refl e o f, s)
 
   fitting : smallOf v ≡ true → bothOf v ≡ placesOf line
   unfolding placesFrom
-  fitting s = rw (read-whole 24 line (replicate 24 0) v t refl e o f, s)
+  fitting s = rw (read-whole 30 line (replicate 30 0) v t refl e o f, s)
 
 pub record Fit (v : List ℕ) : Type 0 where
   pub rgb : at v 5 ≤ room

@@ -16,7 +16,7 @@ use Rattle.picture_replay.proofs.text.replay.Statement.{statement}
 use Rattle.picture_replay.proofs.text.replay.Tie as tie
 
 abbrev Inv-loop : tie.InvT-loop
-Inv-loop text counts₀ at₀ counts at = (at ≤ length text) × (tally counts (pieces 10 (drop at text)) ≡ tally (replicate 17 0) (pieces 10 text)) × ((k : ℕ) → getD counts k 0 ≤ 2 * at)
+Inv-loop text counts₀ at₀ counts at = (at ≤ length text) × (tally counts (pieces 10 (drop at text)) ≡ tally (replicate 19 0) (pieces 10 text)) × ((k : ℕ) → getD counts k 0 ≤ 2 * at)
 
 abbrev μ-loop : tie.MeasureT-loop
 μ-loop text counts₀ at₀ counts at = length text - at
@@ -25,12 +25,12 @@ abbrev μ-loop : tie.MeasureT-loop
 turn : (s c : List ℕ) (at r : ℕ) (p : Places)
     → pieces 10 (drop at s) ≡ take r (drop at s) ∷ pieces 10 (drop (at + r) s)
     → p ≡ placesOf (take r (drop at s))
-    → tally c (pieces 10 (drop at s)) ≡ tally (bump (bump c (p .first)) (p .second + 7)) (pieces 10 (drop (at + r) s))
+    → tally c (pieces 10 (drop at s)) ≡ tally (bump (bump c (p .first)) (p .second + 8)) (pieces 10 (drop (at + r) s))
 unfolding tally
 turn s c at r p first judged = rw (first, judged)
 
 loop-holds : tie.Need-loop-holds Inv-loop μ-loop
-loop-holds c = (search needs, search needs, zeros 17)
+loop-holds c = (search needs, search needs, zeros 19)
 
 sub-piece-len : tie.Need-sub-piece-len Inv-loop μ-loop
 sub-piece-len c = search needs
@@ -86,7 +86,7 @@ add-counts-2 : tie.Need-add-counts-2 Inv-loop μ-loop
 add-counts-2 c =
     let l = c .before .before .before .before .before .before .loop in
     let p = c .before .judge .result in
-    omega (arith, bumped (l .counts) (p .first) (2 * l .at) (l .inv .2) (p .second + 7))
+    omega (arith, bumped (l .counts) (p .first) (2 * l .at) (l .inv .2) (p .second + 8))
 
 array-write-counts-2 : tie.Need-array-write-counts-2 Inv-loop μ-loop
 array-write-counts-2 c = search needs
@@ -114,7 +114,7 @@ loop-again c =
     let more : 2 * l .at + 1 + 1 ≤ 2 * (l .at + r) = omega arith in (
       search needs,
       sym (turn s (l .counts) (l .at) r p first judged) ∙ l .inv .1,
-      λ i. le-trans (bumped (bump (l .counts) (p .first)) (p .second + 7) (2 * l .at + 1) (bumped (l .counts) (p .first) (2 * l .at) (l .inv .2)) i) more,
+      λ i. le-trans (bumped (bump (l .counts) (p .first)) (p .second + 8) (2 * l .at + 1) (bumped (l .counts) (p .first) (2 * l .at) (l .inv .2)) i) more,
     )
 
 returns : tie.Need-returns Inv-loop μ-loop

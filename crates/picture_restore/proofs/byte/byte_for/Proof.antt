@@ -1,38 +1,45 @@
--- `picture_restore::byte::byte_for` meets its contract: a sample's byte can only be its guess, and a NaN has none. Assumes nothing.
-use mathlib.Core.Path.{sym, ap, _∙_, subst}
+-- `picture_restore::byte::byte_for` meets its contract: a sample's byte can only be the one spotted, and a NaN has none. Assumes nothing.
+use mathlib.Core.Path.{_≡_, sym, ap, _∙_, subst}
+use Prim.Native.Nat.{_<_}
 use native.Mathlib.Omega.{arith}
 use borrow.Author.Needs.{needs}
 use lib.Dec.{T}
 use lib.Ieee.{Float, binary32, fits, toBits}
 use Rattle.number_floats.proofs.Patterns.{is-nan, no-nan}
 use Rattle.picture_samples.specs.Samples.{byteOf, entry}
-use Rattle.picture_restore.proofs.Guesses.{guess-lt, guess-found, guess-missed, nan-missed}
+use Rattle.picture_samples.proofs.Channels.{clean-of}
+use Rattle.picture_restore.specs.inner.Spot.{spotted}
+use Rattle.picture_restore.proofs.Spots.{spot-found, spot-missed, nan-missed}
 use Rattle.picture_restore.proofs.byte.byte_for.Statement.{statement}
 use Rattle.picture_restore.proofs.byte.byte_for.Tie as tie
 
 whole : (c : tie.Start) → T (fits binary32 (c .args .v))
-whole c = subst T (sym (c .good .1 .1 .0 .1)) tt
+whole c = subst T (sym (c .good .1 .1 .1 .0 .1)) tt
 
 returns : tie.Need-returns
 returns c =
     let a = c .before .args in
-    nan-missed (a .t .now) (c .before .pre .1 .clean) (a .c) (c .before .pre .0)
+    nan-missed (a .t .now) (clean-of (a .t .now) (c .before .pre .1 .allowed)) (a .c) (c .before .pre .0)
     ∙ ap (λ (v : Float). byteOf (entry (a .t .now)) (a .c) (toBits binary32 v)) (sym (is-nan (a .v) (c .if1 .taken)))
 
-guess-requires : tie.Need-guess-requires
-guess-requires c κs = search needs
+spot-requires : tie.Need-spot-requires
+spot-requires c κs = let s = c .before in (s .pre .0, s .pre .1 .allowed)
+
+-- the byte spotted is one
+low : (c : tie.After-spot) → c .spot .result < 256
+low c = let s = c .before .before in let a = s .args in rw (c .spot .ensures) (s .pre .1 .low (a .c) (a .v))
 
 mul-if2 : tie.Need-mul-if2
 mul-if2 c = search needs
 
 add-if2 : tie.Need-add-if2
-add-if2 c = omega (arith, guess-lt _ _ _ (c .guess .ensures))
+add-if2 c = omega (arith, low c)
 
 mul-if2-2 : tie.Need-mul-if2-2
-mul-if2-2 c = omega (arith, guess-lt _ _ _ (c .guess .ensures))
+mul-if2-2 c = omega (arith, low c)
 
 element-copy-out-if2 : tie.Need-element-copy-out-if2
-element-copy-out-if2 c = omega (arith, guess-lt _ _ _ (c .guess .ensures))
+element-copy-out-if2 c = omega (arith, low c)
 
 float-to-bits-if2 : tie.Need-float-to-bits-if2
 float-to-bits-if2 c = no-nan (c .before .before .before .args .v) (c .before .before .if1 .left)
@@ -41,21 +48,21 @@ returns-2 : tie.Need-returns-2
 returns-2 c =
     let s = c .before .before .before .before in
     let a = s .args in
-    let e = c .before .before .guess .ensures in
-    e ∙ guess-found (entry (a .t .now)) (s .pre .1 .right) (a .c) (s .pre .0) (a .v) (whole s) (ap (entry (a .t .now) (a .c)) (sym e) ∙ c .if2 .taken)
+    let e = c .before .before .spot .ensures in
+    e ∙ spot-found (a .t .now) (spotted (a .w) (entry (a .t .now))) (s .pre .1) (a .c) (s .pre .0) (a .v) (whole s) (ap (entry (a .t .now) (a .c)) (sym e) ∙ c .if2 .taken)
 
 returns-3 : tie.Need-returns-3
 returns-3 c =
     let s = c .before .before .before .before in
     let a = s .args in
-    guess-missed (entry (a .t .now)) (s .pre .1 .right) (a .c) (s .pre .0) (a .v) (whole s) (λ e. c .if2 .left (ap (entry (a .t .now) (a .c)) (c .before .before .guess .ensures) ∙ e))
+    spot-missed (a .t .now) (spotted (a .w) (entry (a .t .now))) (s .pre .1) (a .c) (s .pre .0) (a .v) (whole s) (λ e. c .if2 .left (ap (entry (a .t .now) (a .c)) (c .before .before .spot .ensures) ∙ e))
 
 pub byte-for-spec : {M : Type 1} → statement M
 byte-for-spec =
     tie.close
     (tie.spec
     returns
-    guess-requires
+    spot-requires
     mul-if2
     add-if2
     mul-if2-2

@@ -1,14 +1,8 @@
 -- `picture_restore::byte::guess` meets its contract: its sums are the definition's. Assumes nothing.
 use borrow.Author.Needs.{needs}
-use Rattle.picture_restore.specs.inner.Guess.{guessed}
+use Rattle.picture_restore.specs.inner.Spot.{guessed}
 use Rattle.picture_restore.proofs.byte.guess.Statement.{statement}
 use Rattle.picture_restore.proofs.byte.guess.Tie as tie
-
-slope-of-requires : tie.Need-slope-of-requires
-slope-of-requires c κs = search needs
-
-shift-of-requires : tie.Need-shift-of-requires
-shift-of-requires c κs = search needs
 
 bits-of-f32-requires : tie.Need-bits-of-f32-requires
 bits-of-f32-requires c κs = search needs
@@ -18,9 +12,7 @@ cast-result c = search needs
 
 returns : tie.Need-returns
 unfolding guessed
-returns c = rw (c .bits-of-f32 .ensures, c .before .shift-of .ensures, c .before .before .slope-of .ensures)
+returns c = rw (c .bits-of-f32 .ensures)
 
 pub guess-spec : {M : Type 1} → statement M
-guess-spec =
-    tie.close
-    (tie.spec slope-of-requires shift-of-requires bits-of-f32-requires cast-result returns)
+guess-spec = tie.close (tie.spec bits-of-f32-requires cast-result returns)

@@ -1,0 +1,53 @@
+-- Forward never reads the means and deviations of its settings: any other six numbers, a NaN too, leave answer, output, scratch
+-- and the lengths that are asked for the same. Assumes nothing.
+use mathlib.Core.Path.{_≡_, refl}
+use mathlib.Core.List.{List}
+use Prim.Native.Nat.{ℕ}
+use lib.Ieee.{Float}
+use Rattle.picture_limits.specs.Settings as P
+use Rattle.picture_limits.specs.Shape.{shaped}
+use Rattle.encoder_settings.specs.declared.EncoderSettings.{EncoderSettings}
+use Rattle.encoder_settings.specs.Settings.{scalingAllowed, allowed, lengths, checkedOf}
+use Rattle.encoder_settings.specs.Lengths.{neededOf}
+use Rattle.encoder_stages.specs.Forward.{runOf}
+use Rattle.encoder.specs.Forward.{encodedOf, outOf, scratchOf}
+
+-- the same settings, but for their means and deviations
+abbrev pub otherwise : List Float → List Float → EncoderSettings → EncoderSettings
+otherwise means deviations s =
+    record {
+      picture =
+          record {
+            «patch_size» = s .picture .«patch_size»;
+            «spatial_merge_size» = s .picture .«spatial_merge_size»;
+            «image_size» = s .picture .«image_size»;
+            «resize_rule» = s .picture .«resize_rule»;
+            mean = means;
+            deviation = deviations;
+          };
+      «hidden_size» = s .«hidden_size»;
+      «num_heads» = s .«num_heads»;
+      «head_dim» = s .«head_dim»;
+      «num_layers» = s .«num_layers»;
+      «intermediate_size» = s .«intermediate_size»;
+      «text_hidden_size» = s .«text_hidden_size»;
+      scaling = s .scaling;
+    }
+
+module _ (s : EncoderSettings) (means deviations : List Float) (gh gw : ℕ) where
+  pub lengths-unread : neededOf (otherwise means deviations s) gh gw ≡ neededOf s gh gw
+  unfolding neededOf allowed P.allowed scalingAllowed
+  lengths-unread = refl
+
+  module _ (w cos sin x : List Float) where
+    pub answer-unread : (out scratch : ℕ) → encodedOf (otherwise means deviations s) gh gw w cos sin x out scratch ≡ encodedOf s gh gw w cos sin x out scratch
+    unfolding encodedOf checkedOf allowed P.allowed scalingAllowed shaped lengths runOf
+    answer-unread out scratch = refl
+
+    pub output-unread : (scratch : ℕ) (old : List Float) → outOf (otherwise means deviations s) gh gw w cos sin x scratch old ≡ outOf s gh gw w cos sin x scratch old
+    unfolding outOf checkedOf allowed P.allowed scalingAllowed shaped lengths runOf
+    output-unread scratch old = refl
+
+    pub scratch-unread : (out : ℕ) (old : List Float) → scratchOf (otherwise means deviations s) gh gw w cos sin x out old ≡ scratchOf s gh gw w cos sin x out old
+    unfolding scratchOf checkedOf allowed P.allowed scalingAllowed shaped lengths
+    scratch-unread out old = refl
