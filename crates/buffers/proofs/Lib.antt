@@ -1,4 +1,5 @@
 pub mod Regions
+pub mod Puts
 pub mod Lists
 pub mod Steps
 pub mod Rooms
