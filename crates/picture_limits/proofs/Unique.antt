@@ -6,9 +6,11 @@ use Rattle.number_floats.proofs.Unique.{one}
 use Rattle.picture_limits.specs.declared.PictureSettings.{PictureSettings}
 use Rattle.picture_limits.specs.declared.Refusal.{Refusal}
 use Rattle.picture_limits.specs.declared.Shape.{Shape}
+use Rattle.picture_limits.specs.declared.View.{View}
 use Rattle.picture_limits.specs.Refusal.{number}
 use Rattle.picture_limits.specs.Settings.{allowed, sided}
 use Rattle.picture_limits.specs.Shape.{gridAllowed, shaped}
+use Rattle.picture_limits.specs.View.{inside}
 
 pub shape-unique : (s : PictureSettings) (gh gw n : ℕ) (a b : Shape) → a ≡ shaped s gh gw n → b ≡ shaped s gh gw n → a ≡ b
 shape-unique s gh gw n a b = one _
@@ -24,3 +26,6 @@ sided-unique h w a b = one _
 
 pub grid-allowed-unique : (s : PictureSettings) (gh gw : ℕ) (a b : Bool) → a ≡ (allowed s && (gridAllowed s gh && gridAllowed s gw)) → b ≡ (allowed s && (gridAllowed s gh && gridAllowed s gw)) → a ≡ b
 grid-allowed-unique s gh gw a b = one _
+
+pub inside-unique : (v : View) (h w : ℕ) (a b : Bool) → a ≡ inside v h w → b ≡ inside v h w → a ≡ b
+inside-unique v h w a b = one _

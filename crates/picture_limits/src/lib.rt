@@ -10,7 +10,7 @@ pub struct PictureSettings {
     pub deviation: [f32; 3],
 }
 
-// Why a call is refused, in the order of the papers' numbers: 1 to 12, and 19.
+// Why a call is refused, in the order of the papers' numbers: 1 to 12, 19 and 20.
 pub enum Refusal {
     Setting,
     Side,
@@ -25,6 +25,15 @@ pub enum Refusal {
     Scratch,
     NotFinite,
     Channel,
+    Tile,
+}
+
+// A part of a picture: `height` rows from row `top` on and `width` columns from column `left` on.
+pub struct View {
+    pub top: usize,
+    pub left: usize,
+    pub height: usize,
+    pub width: usize,
 }
 
 // What the settings, the grid and the length of the patches say before anything else is looked at.

@@ -2,12 +2,16 @@
 use crate::PictureSettings;
 use crate::Refusal;
 use crate::Shape;
+use crate::View;
 ghost use mathlib.Core.Path.{_≡_};
 ghost use mathlib.Core.Bool.{_&&_};
+ghost use Prim.Native.Nat.{_+_};
+ghost use lib.Dec.{leb};
 ghost use Rattle.picture_limits.specs.Refusal as S;
 ghost use Rattle.picture_limits.specs.Settings.{allowed, sided};
 ghost use Rattle.picture_limits.specs.inner.Divides.{Divides};
 ghost use Rattle.picture_limits.specs.Shape.{gridAllowed, shaped};
+ghost use Rattle.picture_limits.specs.View.{inside};
 
 // The paper's number of a refusal.
 pub fn number(r: Refusal) -> u32
@@ -27,6 +31,7 @@ pub fn number(r: Refusal) -> u32
         Refusal::Scratch => 11,
         Refusal::NotFinite => 12,
         Refusal::Channel => 19,
+        Refusal::Tile => 20,
     }
 }
 
@@ -45,6 +50,23 @@ pub fn sides_allowed(h: usize, w: usize) -> bool
     ensures { λ r. ⌜ r ≡ sided h w ⌝ }
 {
     (1 <= h) & (h <= 8192) & ((1 <= w) & (w <= 8192))
+}
+
+// Whether n have room for `len` from `at` on.
+fn span_inside(at: usize, len: usize, n: usize) -> bool
+    ensures { λ r. ⌜ r ≡ leb (at + len) n ⌝ }
+{
+    if n < len {
+        return false;
+    }
+    at <= n - len
+}
+
+// Whether a view lies inside a picture of h rows and w columns.
+pub fn view_inside(v: View, h: usize, w: usize) -> bool
+    ensures { λ r. ⌜ r ≡ inside v h w ⌝ }
+{
+    span_inside(v.top, v.height, h) & span_inside(v.left, v.width, w)
 }
 
 fn grid_side_allowed(s: PictureSettings, g: usize) -> bool

@@ -12,7 +12,7 @@ use lib.Dec.{eqb, ltb, leb}
 use lib.ListN.{length, getD}
 use Rattle.picture_limits.specs.declared.PictureSettings.{PictureSettings}
 use Rattle.picture_limits.specs.declared.Refusal.{Refusal}
-use Rattle.picture_limits.specs.declared.Refusal.the-variants.{Setting, Side, RgbLength, ImageSize, Output, Grid, PatchesLength, Sample, WeightsLength, TableLength, Scratch, NotFinite, Channel}
+use Rattle.picture_limits.specs.declared.Refusal.the-variants.{Setting, Side, RgbLength, ImageSize, Output, Grid, PatchesLength, Sample, WeightsLength, TableLength, Scratch, NotFinite, Channel, Tile}
 use Rattle.picture.specs.declared.Preprocessed.{Preprocessed}
 use Rattle.picture.specs.declared.Preprocessed.the-variants as P
 use Rattle.picture_restore.specs.declared.Restored.{Restored}
@@ -69,6 +69,7 @@ refused-differs TableLength = digit-there 10 49 refl (omega arith)
 refused-differs Scratch = digit-there 11 49 refl (omega arith)
 refused-differs NotFinite = digit-there 12 49 refl (omega arith)
 refused-differs Channel = digit-there 19 49 refl (omega arith)
+refused-differs Tile = digit-there 20 50 refl (omega arith)
 
 grid-differs : (a b d : ℕ) (l : List ℕ) → gridLine a b d ++ l ≡ outsideLine → ⊥
 unfolding gridLine
