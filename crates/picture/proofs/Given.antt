@@ -67,4 +67,4 @@ samples s a = record {
 
 -- its patches are those of the samples
 pub given-is : (s : PictureSettings) (p gh gw : ℕ) (v : ℕ → ℕ → ℕ → ℕ) → patches p gh gw (λ y x c. valueOf s c (v y x c)) ≡ patches p gh gw (λ y x c. value (patternOf s) c (v y x c))
-given-is s p gh gw v = patches-ext p gh gw _ _ (λ y x c hc. sym (value-is (s .mean) (s .deviation) c (v y x c)))
+given-is s p gh gw v = patches-ext p gh gw _ _ (λ y x c _ _ hc. sym (value-is (s .mean) (s .deviation) c (v y x c)))

@@ -13,7 +13,10 @@ use Rattle.picture_limits.specs.Settings.{within, sided}
 use Rattle.picture_limits.specs.Places.{patchFloats}
 use Rattle.picture_limits.proofs.Sides.{within-says}
 use Rattle.picture_samples.specs.Samples.{channelsAllowed, value}
+use Rattle.picture_limits.specs.declared.View.{View}
+use Rattle.picture_limits.specs.View.{inside}
 use Rattle.picture_patches.specs.Resized.{resizedPatches, fits, patchesOver}
+use Rattle.picture_patches.specs.Viewed.{viewPatches, viewOver}
 
 pub record Fits (len h w th tw p room : ℕ) : Type 0 where
   pub sides : sided h w ≡ true
@@ -57,3 +60,8 @@ pub written : (k : ℕ → ℕ → ℕ) (rgb : List ℕ) (h w th tw p : ℕ) (ol
     → patchesOver k rgb h w th tw p old ≡ over (resizedPatches (value k) rgb h w th tw p) old
 unfolding patchesOver
 written k rgb h w th tw p old a e = rw (a, e) refl
+
+pub view-written : (k : ℕ → ℕ → ℕ) (rgb : List ℕ) (h w : ℕ) (v : View) (th tw p : ℕ) (old : List Float) → channelsAllowed (value k) ≡ true → fits (length rgb) h w th tw p (length old) ≡ true → inside v h w ≡ true
+    → viewOver k rgb h w v th tw p old ≡ over (viewPatches (value k) rgb w v th tw p) old
+unfolding viewOver
+view-written k rgb h w v th tw p old a e i = rw (a, e, i) refl

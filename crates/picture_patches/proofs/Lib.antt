@@ -1,4 +1,5 @@
 pub mod Patches
-pub mod Plain
+pub mod Views
 pub mod Stored
 pub mod Fits
+pub mod Frames

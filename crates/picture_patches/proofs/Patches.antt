@@ -1,8 +1,9 @@
 -- How long each piece of the patches is, and patches by their samples. Assumes nothing.
 use mathlib.Core.Path.{_≡_}
 use Prim.Native.Nat.{ℕ, _+_, _*_, _<_}
+use native.Mathlib.Omega.{arith}
 use lib.ListN.{length}
-use Rattle.buffers.proofs.Lists.{length-tab, length-rows, rows-ext, tab-ext}
+use Rattle.buffers.proofs.Lists.{fit, length-tab, length-rows, rows-ext, tab-ext}
 use Rattle.picture_limits.specs.Places.{patchFloats}
 use Rattle.picture_patches.specs.Patches.{patchRow, patchChannel, patchAt, patchLine, patches}
 
@@ -20,5 +21,9 @@ module _ {A : Type 0} (p : ℕ) (v : ℕ → ℕ → ℕ → A) where
   length-patches gh gw = length-rows (λ a. patchLine p gw v (a * p)) (gw * patchFloats p) (λ a. length-line gw (a * p)) gh
 
 -- patches by their samples
-pub patches-ext : {A : Type 0} (p gh gw : ℕ) (f g : ℕ → ℕ → ℕ → A) → ((y x c : ℕ) → c < 3 → f y x c ≡ g y x c) → patches p gh gw f ≡ patches p gh gw g
-patches-ext p gh gw f g h = rows-ext gh _ _ (λ a ha. rows-ext gw _ _ (λ b hb. rows-ext 3 _ _ (λ c hc. rows-ext p _ _ (λ i hi. tab-ext p _ _ (λ j hj. h _ _ c hc)))))
+pub patches-ext : {A : Type 0} (p gh gw : ℕ) (f g : ℕ → ℕ → ℕ → A) → ((y x c : ℕ) → y < gh * p → x < gw * p → c < 3 → f y x c ≡ g y x c) → patches p gh gw f ≡ patches p gh gw g
+patches-ext p gh gw f g h =
+    rows-ext gh _ _ (λ a ha. rows-ext gw _ _ (λ b hb. rows-ext 3 _ _ (λ c hc. rows-ext p _ _ (λ i hi. tab-ext p _ _ (λ j hj.
+    let y : a * p + i < gh * p = omega (arith, fit p ha) in
+    let x : b * p + j < gw * p = omega (arith, fit p hb) in
+    h _ _ c y x hc)))))

@@ -1,3 +1,4 @@
 pub mod Patches
 pub mod Resized
+pub mod Viewed
 pub mod inner

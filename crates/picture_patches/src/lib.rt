@@ -1,6 +1,7 @@
-// A picture resized, and cut into patches.
+// A picture resized, or a part of it as it is, cut into patches.
 pub mod frame;
 mod nest;
 pub mod pixel;
 mod places;
 mod rows;
+mod view;

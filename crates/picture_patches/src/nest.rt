@@ -3,7 +3,7 @@ use crate::places::COLUMNS;
 use crate::places::places;
 use crate::rows::Frame;
 use crate::rows::mixed_row;
-use crate::rows::plain_row;
+use crate::view::view_row;
 ghost use mathlib.Core.Path.{_≡_};
 ghost use Prim.Native.Nat.{_+_, _*_, _≤_, _<_};
 ghost use lib.ListN.{length};
@@ -30,13 +30,11 @@ fn patch_channel(
     ensures { λ _. ⌜ now (out .exit) ≡ put (now (out .entry)) at (patchChannel (f .p) (seen (entry (now (t .entry))) f (now (rgb .entry))) r x c) ⌝ }
 {
     let p = f.p;
-    let w = f.w;
     let mut i = 0usize;
     let mut o = at;
     while i < p {
         if f.plain {
-            let from = ((r + i) * w + x) * 3 + c;
-            plain_row(rgb, from, p, c, o, out, t);
+            view_row(rgb, f, r + i, x, c, o, out, t);
         } else {
             mixed_row(rgb, f, r + i, x, c, o, out, t, lows, parts);
         }

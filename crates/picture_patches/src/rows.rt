@@ -2,6 +2,7 @@
 use crate::pixel::mix_of;
 use crate::places::COLUMNS;
 use crate::places::near_at;
+use picture_limits::View;
 ghost use mathlib.Core.Path.{_≡_};
 ghost use Prim.Native.Nat.{ℕ, _+_, _*_, _≤_, _<_};
 ghost use lib.ListN.{length, getD};
@@ -10,10 +11,10 @@ ghost use Rattle.buffers.specs.Region.{put};
 ghost use Rattle.picture_samples.specs.Samples.{value, entry};
 ghost use Rattle.picture_samples.specs.inner.Clean.{Clean};
 ghost use Rattle.picture_patches.specs.Patches.{patchRow};
-ghost use Rattle.picture_patches.specs.inner.Frame.{Ready, seen};
+ghost use Rattle.picture_patches.specs.inner.Frame.{Ready, mixed};
 
-// The sides of a picture, of its target and of a patch, and how many patches stand down and across; `plain` where
-// the target is the picture.
+// The sides of a picture, of its target and of a patch, and how many patches stand down and across; where it is `plain`
+// the target is a view of the picture, padded right and below, and else the picture resized.
 pub(crate) struct Frame {
     pub h: usize,
     pub w: usize,
@@ -23,10 +24,11 @@ pub(crate) struct Frame {
     pub gh: usize,
     pub gw: usize,
     pub plain: bool,
+    pub view: View,
 }
 
 // The value of byte b in channel c by the table t.
-fn sample_of(t: &[u32; 768], c: usize, b: u8) -> f32
+pub(crate) fn sample_of(t: &[u32; 768], c: usize, b: u8) -> f32
     requires { ⌜ (c < 3) × Clean (now t) ⌝ }
     ensures { λ r. ⌜ r ≡ value (entry (now (t .entry))) c b ⌝ }
 {
@@ -67,7 +69,7 @@ pub(crate) fn mixed_row(
     parts: &[f64],
 )
     requires { ⌜ Ready f (length (now rgb)) (now t) (now lows) (now parts) × (r < f .th) × (x + f .p ≤ f .tw) × (c < 3) × (at + f .p ≤ length (now out)) ⌝ }
-    ensures { λ _. ⌜ now (out .exit) ≡ put (now (out .entry)) at (patchRow (f .p) (seen (entry (now (t .entry))) f (now (rgb .entry))) r x c) ⌝ }
+    ensures { λ _. ⌜ now (out .exit) ≡ put (now (out .entry)) at (patchRow (f .p) (mixed (entry (now (t .entry))) f (now (rgb .entry))) r x c) ⌝ }
 {
     let p = f.p;
     let w = f.w;

@@ -42,7 +42,7 @@ channels c = let a = c .args in sym (allowed-of (a .s .mean) (a .s .deviation) (
 -- the table's values are the samples
 sampled : (c : tie.Start) (p gh gw : ℕ) (v : ℕ → ℕ → ℕ → ℕ) → ((y x k : ℕ) → v y x k < 256)
     → patches p gh gw (λ y x k. value (entry (c .args .t .now)) k (v y x k)) ≡ patches p gh gw (λ y x k. valueOf (c .args .s) k (v y x k))
-sampled c p gh gw v h = let a = c .args in patches-ext p gh gw _ _ (λ y x k hk. value-of (a .s .mean) (a .s .deviation) (a .t .now) (c .pre .2) k (v y x k) hk (h y x k))
+sampled c p gh gw v h = let a = c .args in patches-ext p gh gw _ _ (λ y x k _ _ hk. value-of (a .s .mean) (a .s .deviation) (a .t .now) (c .pre .2) k (v y x k) hk (h y x k))
 
 -- the grid's sides
 tall : (c : tie.After-resized-side2) → Spans (c .before .resized-side .result / c .before .before .before .before .before .before .before .before .before .before .args .s .«patch_size») (c .before .before .before .before .before .before .before .before .before .before .args .s .«patch_size»)

@@ -1,49 +1,27 @@
 -- `picture_patches::frame::resized_patches` meets its contract. Assumes nothing.
-use mathlib.Core.Path.{_≡_, sym, _∙_}
+use mathlib.Core.Path.{_≡_, sym, ap, _∙_}
 use mathlib.Core.Bool.{true, _&&_}
-use Prim.Native.Nat.{ℕ, _/_, _≤_}
+use Prim.Native.Nat.{ℕ, _/_, _≤_, _<_}
 use native.Mathlib.Nat.{mul-assoc, div-mul-le-self}
 use native.Mathlib.Omega.{arith}
 use borrow.Author.Needs.{needs}
-use borrow.Author.Tests.{not-true, not-false, eqb-true}
-use lib.Dec.{eqb}
+use borrow.Author.Tests.{not-true, not-false}
 use lib.ListN.{length}
+use Rattle.buffers.specs.Region.{put}
 use Rattle.buffers.proofs.Lists.{and-left, and-right}
 use Rattle.buffers.proofs.Regions.{put-over}
 use Rattle.picture_limits.specs.Places.{patchFloats}
-use Rattle.picture_limits.proofs.Sides.{sided-says, spans}
+use Rattle.picture_limits.proofs.Sides.{sided-says}
 use Rattle.picture_samples.specs.Samples.{channelsAllowed, value, entry}
 use Rattle.picture_samples.proofs.Channels.{clean-of}
-use Rattle.picture_patches.specs.declared.rows.Frame.{Frame}
 use Rattle.picture_resize.specs.Resize.{resizedAt}
-use Rattle.picture_patches.specs.inner.Frame.{Framed}
 use Rattle.picture_patches.specs.Resized.{fits, resizedPatches, patchesOver}
-use Rattle.picture_patches.proofs.Patches.{length-patches}
+use Rattle.picture_patches.proofs.Patches.{length-patches, patches-ext}
 use Rattle.picture_patches.proofs.Fits.{Fits, fits-says, written}
+use Rattle.picture_patches.proofs.Views.{full}
+use Rattle.picture_patches.proofs.Frames.{framed, seen-resized}
 use Rattle.picture_patches.proofs.frame.resized_patches.Statement.{statement}
 use Rattle.picture_patches.proofs.frame.resized_patches.Tie as tie
-
-abbrev frame : ℕ → ℕ → ℕ → ℕ → ℕ → Frame
-frame h w th tw p = record { h = h; w = w; th = th; tw = tw; p = p; gh = th / p; gw = tw / p; plain = eqb th h && eqb tw w }
-
-framed : (len h w th tw p room : ℕ) → Fits len h w th tw p room → Framed (frame h w th tw p) len
-framed len h w th tw p room f =
-    let t = sided-says h w (f .sides) in
-    record {
-      bytes = f .bytes;
-      tall = t .0;
-      wide = t .2;
-      tall-high = t .1;
-      wide-high = t .3;
-      target-tall = f .tall;
-      target-wide = f .wide;
-      patch-high = f .patch-high;
-      grid-tall = div-mul-le-self th p;
-      grid-wide = div-mul-le-self tw p;
-      grid-tall-high = spans th p (f .patch-low) (f .tall) .low;
-      grid-wide-high = spans tw p (f .patch-low) (f .wide) .low;
-      plain = λ q. (eqb-true _ _ (and-left (eqb th h) (eqb tw w) q), eqb-true _ _ (and-right (eqb th h) (eqb tw w) q));
-    }
 
 -- the table's channels are allowed, and the patches fit
 both : (c : tie.Else1) → let a = c .before .before .before .before .before .args in (channelsAllowed (value (entry (a .t .now))) ≡ true) × (fits (length (a .rgb .now)) (a .h) (a .w) (a .th) (a .tw) (a .p) (length (a .out .now)) ≡ true)
@@ -78,7 +56,7 @@ framed-patches-requires : tie.Need-framed-patches-requires
 framed-patches-requires c κs =
     let a = c .before .before .before .before .before .before .args in
     let f = passed (c .before) in (
-      framed _ _ _ _ _ _ _ f,
+      framed _ _ _ _ _ _ _ _ (full (a .h) (a .w)) f (omega arith, omega arith),
       clean-of (a .t .now) (both (c .before) .0),
       omega (arith, f .space, mul-assoc (a .th / a .p) (a .tw / a .p) (patchFloats (a .p))),
     )
@@ -95,8 +73,14 @@ returns-2 c =
     let gw = a .tw / a .p in
     let v : ℕ → ℕ → ℕ → ℕ = resizedAt (a .rgb .now) (a .h) (a .w) (a .th) (a .tw) in
     let ys = resizedPatches (value k) (a .rgb .now) (a .h) (a .w) (a .th) (a .tw) (a .p) in
-    let l : length ys ≤ length (a .out .now) = omega (arith, passed e .space, length-patches (a .p) (λ y x c. value k c (v y x c)) gh gw, mul-assoc gh gw (patchFloats (a .p))) in
+    let f = passed e in
+    let s = sided-says (a .h) (a .w) (f .sides) in
+    let l : length ys ≤ length (a .out .now) = omega (arith, f .space, length-patches (a .p) (λ y x c. value k c (v y x c)) gh gw, mul-assoc gh gw (patchFloats (a .p))) in
     c .before .before .framed-patches .ensures
+    ∙ ap (put (a .out .now) 0) (patches-ext (a .p) gh gw _ _ (λ y x i hy hx _.
+    let ty : y < a .th = omega (arith, hy, div-mul-le-self (a .th) (a .p)) in
+    let tx : x < a .tw = omega (arith, hx, div-mul-le-self (a .tw) (a .p)) in
+    seen-resized k (a .rgb .now) (a .h) (a .w) (a .th) (a .tw) (a .p) (λ n. e .before .before .before .before .shared-slice-known .given n .fits) (s .1) (s .3) y x i ty tx))
     ∙ put-over (a .out .now) ys l
     ∙ sym (written k (a .rgb .now) (a .h) (a .w) (a .th) (a .tw) (a .p) (a .out .now) (both e .0) (both e .1))
 

@@ -1,27 +1,29 @@
--- `picture_patches::nest::patch_channel` meets its contract: both ways write the samples of the resized picture. Assumes nothing.
-use mathlib.Core.Path.{_≡_, refl, ap, _∙_}
+-- `picture_patches::nest::patch_channel` meets its contract: both ways write the samples that are seen. Assumes nothing.
+use mathlib.Core.Path.{_≡_, refl, sym, ap, _∙_}
+use mathlib.Core.Bool.{Bool, cond}
+use mathlib.Core.List.{List}
 use mathlib.Core.Logic.{⊎-elim}
 use Prim.Native.Nat.{ℕ, _+_, _*_, _-_, _≤_, _<_}
 use native.Mathlib.Omega.{arith}
 use lib.ListN.{length}
+use lib.Ieee.{Float}
 use Rattle.buffers.specs.Rows.{rows}
 use Rattle.buffers.specs.Region.{put}
 use Rattle.buffers.proofs.Lists.{fit, length-tab, rows-step}
 use Rattle.buffers.proofs.Regions.{length-put}
 use Rattle.picture_samples.specs.Samples.{entry}
 use Rattle.picture_patches.specs.Patches.{patchRow}
-use Rattle.picture_patches.specs.inner.Frame.{seen}
+use Rattle.picture_patches.specs.inner.Frame.{mixed, viewed, seen}
 use Rattle.picture_limits.proofs.Places.{turn}
-use Rattle.picture_patches.proofs.Plain.{plain-in, plain-same}
 use Rattle.picture_patches.proofs.nest.patch_channel.Statement.{statement}
 use Rattle.picture_patches.proofs.nest.patch_channel.Tie as tie
 
 abbrev Inv-loop : tie.InvT-loop
-Inv-loop rgb f r x c at out₀ t lows parts p w i₀ o₀ out i o =
+Inv-loop rgb f r x c at out₀ t lows parts p i₀ o₀ out i o =
     (i ≤ p) × (o ≡ at + i * p) × (length out ≡ length out₀) × (out ≡ put out₀ at (rows i (λ k. patchRow p (seen (entry t) f rgb) (r + k) x c)))
 
 abbrev μ-loop : tie.MeasureT-loop
-μ-loop rgb f r x c at out₀ t lows parts p w i₀ o₀ out i o = p - i
+μ-loop rgb f r x c at out₀ t lows parts p i₀ o₀ out i o = p - i
 
 loop-holds : tie.Need-loop-holds Inv-loop μ-loop
 unfolding put rows
@@ -36,37 +38,13 @@ room c =
     let s = c .before .before .before .before .before .before in
     omega (arith, s .pre .4, c .before .loop .inv .1, fit (s .args .f .p) (c .loop-test .taken))
 
--- each byte that a row is read from straight lies in the picture
-bytes : (c : tie.Then1 Inv-loop μ-loop) → let s = c .before .before .before .before .before .before .before in
-    let a = s .args in (j : ℕ) → j < a .f .p → ((a .r + c .before .before .loop .i) * a .f .w + a .x) * 3 + a .c + j * 3 < length (a .rgb .now)
-bytes c =
-    let s = c .before .before .before .before .before .before .before in
-    let a = s .args in
-    plain-in (a .f) (a .rgb .now) (s .pre .0 .frame) (c .if1 .taken) (a .r + c .before .before .loop .i) (a .x) (a .c) (row-in (c .before)) (s .pre .2) (s .pre .3)
+add-view-row : tie.Need-add-view-row Inv-loop μ-loop
+add-view-row c = let g = c .before .before .before .before .before .before .before .pre in omega (arith, row-in (c .before), g .0 .frame .target-tall)
 
-first : (c : tie.Then1 Inv-loop μ-loop) → let s = c .before .before .before .before .before .before .before in
-    let a = s .args in ((a .r + c .before .before .loop .i) * a .f .w + a .x) * 3 + a .c < length (a .rgb .now)
-first c = omega (arith, bytes c 0 (omega (arith, c .before .loop-test .taken)))
-
-add-from : tie.Need-add-from Inv-loop μ-loop
-add-from c = let g = c .before .before .before .before .before .before .before .pre in omega (arith, row-in (c .before), g .0 .frame .target-tall)
-
-mul-from : tie.Need-mul-from Inv-loop μ-loop
-mul-from c = omega (arith, first c)
-
-add-from-2 : tie.Need-add-from-2 Inv-loop μ-loop
-add-from-2 c = omega (arith, first c)
-
-mul-from-2 : tie.Need-mul-from-2 Inv-loop μ-loop
-mul-from-2 c = omega (arith, first c)
-
-add-from-3 : tie.Need-add-from-3 Inv-loop μ-loop
-add-from-3 c = omega (arith, first c)
-
-plain-row-requires : tie.Need-plain-row-requires Inv-loop μ-loop
-plain-row-requires c κs =
+view-row-requires : tie.Need-view-row-requires Inv-loop μ-loop
+view-row-requires c κs =
     let g = c .before .before .before .before .before .before .before .before .pre in
-    (bytes (c .before), omega (arith, room (c .before .before), c .before .before .before .loop .inv .2), g .3, g .0 .table)
+    (g .0 .frame, g .0 .table, c .before .if1 .taken, row-in (c .before .before), g .2, g .3, omega (arith, room (c .before .before), c .before .before .before .loop .inv .2))
 
 add-mixed-row : tie.Need-add-mixed-row Inv-loop μ-loop
 add-mixed-row c = let g = c .before .before .before .before .before .before .before .pre in omega (arith, row-in (c .before), g .0 .frame .target-tall)
@@ -90,16 +68,11 @@ wrote : (c : tie.Joined1 Inv-loop μ-loop) → let a = c .before .before .before
     let l = c .before .before .loop in
     c .if1 .out ≡ put (l .out) (l .o) (patchRow (a .f .p) (seen (entry (a .t .now)) (a .f) (a .rgb .now)) (a .r + l .i) (a .x) (a .c))
 wrote c =
-    let s = c .before .before .before .before .before .before .before in
-    let a = s .args in
+    let a = c .before .before .before .before .before .before .before .args in
     let l = c .before .before .loop in
-    ⊎-elim
-    (λ w.
-    w .5
-    ∙ w .2 .ensures
-    ∙ ap (put (l .out) (l .o)) (plain-same (a .f) (a .rgb .now) (s .pre .0 .frame) (w .0 .taken) (a .r + l .i) (a .x) (a .c) (row-in (c .before)) (s .pre .2) (λ k. c .before .before .before .before .before .before .shared-slice-known .given k .fits) (entry (a .t .now))))
-    (λ w. w .5 ∙ w .2 .ensures)
-    (c .if1 .came)
+    let k = entry (a .t .now) in
+    let row : Bool → List Float = λ b. put (l .out) (l .o) (patchRow (a .f .p) (cond b (viewed k (a .f) (a .rgb .now)) (mixed k (a .f) (a .rgb .now))) (a .r + l .i) (a .x) (a .c)) in
+    ⊎-elim (λ w. w .5 ∙ w .2 .ensures ∙ ap row (sym (w .0 .taken))) (λ w. w .5 ∙ w .2 .ensures ∙ ap row (sym (w .0 .left))) (c .if1 .came)
 
 loop-again : tie.Need-loop-again Inv-loop μ-loop
 loop-again c =
@@ -128,12 +101,8 @@ patch-channel-spec =
     Inv-loop
     μ-loop
     loop-holds
-    add-from
-    mul-from
-    add-from-2
-    mul-from-2
-    add-from-3
-    plain-row-requires
+    add-view-row
+    view-row-requires
     add-mixed-row
     mixed-row-requires
     add-o
