@@ -2,10 +2,10 @@
 -- loops find and write is the definitions'. Assumes nothing.
 use mathlib.Core.Path.{_≡_, refl, sym, ap, _∙_, subst}
 use mathlib.Core.Bool.{Bool, true, false, not, cond, true≢false}
-use mathlib.Core.List.{List}
+use mathlib.Core.List.{List, _++_}
 use mathlib.Core.Logic.{⊎-elim}
 use Prim.Native.Nat.{ℕ, suc, _+_, _*_, _/_, _%_, _≤_, _<_}
-use native.Mathlib.Nat.{mul-assoc, add-mul}
+use native.Mathlib.Nat.{mul-assoc, add-mul, le-refl}
 use native.Mathlib.Omega.{arith}
 use native.Mathlib.Decide.{decLt}
 use borrow.Author.Tests.{eqb-true}
@@ -16,14 +16,14 @@ use lib.Ieee.Compare.{nan-differs}
 use lib.Ieee.Bits.{ofBits-toBits, is-true, is-false}
 use Rattle.number_floats.proofs.Order.{lt-self, lt-trans}
 use Rattle.buffers.specs.Rows.{tab, rows, all, first}
-use Rattle.buffers.proofs.Lists.{fit, length-tab, length-rows, rows-ext, rows-mul, tab-ext, all-at, first-at, first-none, first-le}
+use Rattle.buffers.proofs.Lists.{length-tab, length-rows, rows-ext, rows-add, rows-mul, tab-ext, all-at, first-at, first-none, first-le}
 use Rattle.picture_samples.specs.Samples.{rising, falling, channelAllowed, channelsAllowed, value, byteOf, entry}
 use Rattle.picture_samples.specs.inner.Clean.{Clean}
 use Rattle.picture_restore.specs.declared.byte.Way.{Way}
-use Rattle.picture_restore.specs.inner.Spot.{guessed, guesses, beyond, halved, guessedBy, spotted, Spots, pixelBy, runBy, lineBy, bandBy, bytesBy}
+use Rattle.picture_restore.specs.inner.Spot.{guessed, guesses, beyond, halved, guessedBy, spotted, Spots, pixelBy, runBy, lineBy, rowBy}
 use Rattle.picture_limits.specs.Places.{patchFloats, samplePlace}
 use Rattle.picture_restore.specs.Restore.{known, bytesFrom}
-use Rattle.picture_limits.proofs.Places.{place-of, at-in}
+use Rattle.picture_limits.proofs.Places.{quotient, remainder, patch-in, place-in-patch, at-in}
 use Rattle.picture_samples.proofs.Channels.{rises, falls, ordered, channel-of, distinct-of, clean-of}
 use Rattle.picture_samples.proofs.Finds.{Distinct, Same, byte-same, found, missed, pattern-back}
 use Rattle.picture_restore.proofs.Known.{known-at}
@@ -195,42 +195,47 @@ pub length-pixelBy : (g : ℕ → Float → ℕ) (n : ℕ) (l : List Float) (fro
 length-pixelBy g n l from = length-tab 3 _
 
 module _ (g : ℕ → Float → ℕ) (p : ℕ) (l : List Float) where
-  pub length-runBy : (from : ℕ) → length (runBy g p l from) ≡ p * 3
-  length-runBy from = length-rows _ 3 (λ j. length-pixelBy g (p * p) l (from + j)) p
+  pub length-runBy : (n from : ℕ) → length (runBy g p n l from) ≡ n * 3
+  length-runBy n from = length-rows _ 3 (λ j. length-pixelBy g (p * p) l (from + j)) n
 
   pub length-lineBy : (gw from i : ℕ) → length (lineBy g p gw l from i) ≡ gw * (p * 3)
-  length-lineBy gw from i = length-rows _ (p * 3) (λ b. length-runBy (from + b * patchFloats p + i * p)) gw
+  length-lineBy gw from i = length-rows _ (p * 3) (λ b. length-runBy p (from + b * patchFloats p + i * p)) gw
 
-  pub length-bandBy : (gw from : ℕ) → length (bandBy g p gw l from) ≡ p * (gw * (p * 3))
-  length-bandBy gw from = length-rows _ (gw * (p * 3)) (λ i. length-lineBy gw from i) p
+  pub length-rowBy : (gw n y : ℕ) → length (rowBy g p gw n l y) ≡ n * 3
+  length-rowBy gw n y = length-rows _ 3 (λ x. length-tab 3 _) n
 
--- ---- what the loops write
-pub spotted-bytes : (t : List ℕ) (g : ℕ → Float → ℕ) (k : ℕ → ℕ → ℕ) (p gh gw : ℕ) (l : List Float) → Spots t g → Same (entry t) k → 0 < p → known k p l ≡ true
-    → length l ≡ gh * gw * patchFloats p → ((i : ℕ) → i < length l → T (fits binary32 (getD l i nan))) → bytesBy g p gh gw l ≡ bytesFrom k p l gh gw
-spotted-bytes t g k p gh gw l s eq h seen len ok =
-    let byte : ℕ → ℕ → ℕ → ℕ = λ y x c. byteOf k c (toBits binary32 (getD l (samplePlace p gw y x c) nan)) in
-    let row : ℕ → List ℕ = λ y. rows (gw * p) (λ x. tab 3 (λ c. byte y x c)) in
-    rows-ext gh _ _ (λ a ha. rows-ext p _ _ (λ i hi.
-    rows-ext gw _ _ (λ b hb. rows-ext p _ _ (λ j hj. tab-ext 3 _ _ (λ c hc. same a i b j c ha hi hb hj hc)))
-    ∙ sym (rows-mul gw p (λ x. tab 3 (λ c. byte (a * p + i) x c)))))
-    ∙ sym (rows-mul gh p row)
-  where
-    same : (a i b j c : ℕ) → a < gh → i < p → b < gw → j < p → c < 3
-        → g c (getD l (a * (gw * patchFloats p) + b * patchFloats p + i * p + j + c * (p * p)) nan)
-        ≡ byteOf k c (toBits binary32 (getD l (samplePlace p gw (a * p + i) (b * p + j) c) nan))
-    same a i b j c ha hi hb hj hc =
+  -- a row of the picture: of whole patches, and then of a part of one
+  module _ (gw y : ℕ) (h : 0 < p) where
+    -- where the pixel at column j of patch b of the row has its samples
+    place : (b j c : ℕ) → j < p → y / p * (gw * patchFloats p) + b * patchFloats p + y % p * p + j + c * (p * p) ≡ samplePlace p gw y (b * p + j) c
+    place b j c hj =
         let n = patchFloats p in
-        let q = a * gw + b in
-        let d = i * p + j in
-        let at = q * n + c * (p * p) + d in
-        let u : q < gh * gw = omega (arith, fit gw ha) in
-        let w : d < p * p = omega (arith, fit p hi) in
-        let m : at < length l = omega (arith, len, at-in p (gh * gw) q c d u hc w) in
-        let x : a * (gw * n) + b * n + i * p + j + c * (p * p) ≡ at = omega (arith, add-mul (a * gw) b n, mul-assoc a gw n) in
-        let r : samplePlace p gw (a * p + i) (b * p + j) c ≡ at = omega (arith, place-of p h gw a b c i j hi hj) in
-        let v = getD l at nan in
-        let z = byte-same (entry t) k eq c (toBits binary32 v) hc in
-        ap (λ (y : ℕ). g c (getD l y nan)) x
-        ∙ spot-byte t g s c hc v (ok at m) (rw z (known-at k p (gh * gw) l len seen q c d u hc w))
-        ∙ z
-        ∙ ap (λ (y : ℕ). byteOf k c (toBits binary32 (getD l y nan))) (sym r)
+        rw (quotient p h b j hj, remainder p h b j hj) (omega (arith, add-mul (y / p * gw) b n, mul-assoc (y / p) gw n))
+
+    pub row-parts : (q n : ℕ) → n < p → lineBy g p q l (y / p * (gw * patchFloats p)) (y % p) ++ runBy g p n l (y / p * (gw * patchFloats p) + q * patchFloats p + y % p * p) ≡ rowBy g p gw (q * p + n) l y
+    row-parts q n hn =
+        let f : ℕ → List ℕ = λ x. tab 3 (λ c. g c (getD l (samplePlace p gw y x c) nan)) in
+        let a : lineBy g p q l (y / p * (gw * patchFloats p)) (y % p) ≡ rows (q * p) f =
+        rows-ext q _ _ (λ b hb. rows-ext p _ _ (λ j hj. tab-ext 3 _ _ (λ c hc. ap (λ (k : ℕ). g c (getD l k nan)) (place b j c hj)))) ∙ sym (rows-mul q p f) in
+        let b : runBy g p n l (y / p * (gw * patchFloats p) + q * patchFloats p + y % p * p) ≡ rows n (λ j. f (q * p + j)) =
+        rows-ext n _ _ (λ j hj. let k : j < p = omega arith in tab-ext 3 _ _ (λ c hc. ap (λ (k : ℕ). g c (getD l k nan)) (place q j c k))) in
+        ap (λ (x : List ℕ). x ++ runBy g p n l (y / p * (gw * patchFloats p) + q * patchFloats p + y % p * p)) a ∙ ap (λ (x : List ℕ). rows (q * p) f ++ x) b ∙ sym (rows-add (q * p) n f)
+
+-- ---- what the loops write, of known samples
+module _ (t : List ℕ) (g : ℕ → Float → ℕ) (k : ℕ → ℕ → ℕ) (p gh gw : ℕ) (l : List Float) (s : Spots t g) (eq : Same (entry t) k) (h : 0 < p) (seen : known k p l ≡ true)
+    (len : length l ≡ gh * gw * patchFloats p) (ok : (i : ℕ) → i < length l → T (fits binary32 (getD l i nan))) where
+  pub spotted-row : (n y : ℕ) → y < gh * p → n ≤ gw * p → rowBy g p gw n l y ≡ rows n (λ x. tab 3 (λ c. byteOf k c (toBits binary32 (getD l (samplePlace p gw y x c) nan))))
+  spotted-row n y hy hn = rows-ext n _ _ (λ x hx. tab-ext 3 _ _ (λ c hc. let z : x < gw * p = omega arith in same x c z hc))
+    where
+      same : (x c : ℕ) → x < gw * p → c < 3 → g c (getD l (samplePlace p gw y x c) nan) ≡ byteOf k c (toBits binary32 (getD l (samplePlace p gw y x c) nan))
+      same x c hx hc =
+          let u = patch-in p gh gw y x h hy hx in
+          let w = place-in-patch p y x h in
+          let at = samplePlace p gw y x c in
+          let m : at < length l = omega (arith, len, at-in p (gh * gw) (y / p * gw + x / p) c (y % p * p + x % p) u hc w) in
+          let v = getD l at nan in
+          let z = byte-same (entry t) k eq c (toBits binary32 v) hc in
+          spot-byte t g s c hc v (ok at m) (rw z (known-at k p (gh * gw) l len seen (y / p * gw + x / p) c (y % p * p + x % p) u hc w)) ∙ z
+
+  pub spotted-bytes : rows (gh * p) (rowBy g p gw (gw * p) l) ≡ bytesFrom k p l gh gw
+  spotted-bytes = rows-ext (gh * p) _ _ (λ y hy. spotted-row (gw * p) y hy (le-refl (gw * p)))

@@ -1,5 +1,6 @@
-// Patches back to the resized picture.
+// Patches back to the resized picture, and to a view of a picture.
 mod byte;
+pub mod view;
 
 use byte::Way;
 use byte::byte_for;
@@ -15,12 +16,12 @@ use picture_samples::allowed::channels_allowed;
 use picture_samples::samples;
 ghost use mathlib.Core.Path.{_≡_};
 ghost use mathlib.Core.Bool.{true};
-ghost use Prim.Native.Nat.{_+_, _*_, _≤_, _<_};
+ghost use Prim.Native.Nat.{ℕ, _+_, _*_, _/_, _≤_, _<_};
 ghost use lib.ListN.{length};
-ghost use Rattle.buffers.specs.Region.{put};
+ghost use Rattle.buffers.specs.Region.{put, putRows};
 ghost use Rattle.picture_samples.specs.Samples.{sampleTable, channelsAllowed, value, entry};
 ghost use Rattle.picture_restore.specs.inner.Known.{knownRun, knownPatch, knownPatches};
-ghost use Rattle.picture_restore.specs.inner.Spot.{guessedBy, spotted, Spots, pixelBy, runBy, lineBy, bandBy, bytesBy};
+ghost use Rattle.picture_restore.specs.inner.Spot.{guessedBy, spotted, Spots, pixelBy, runBy, lineBy, rowBy, Rows};
 ghost use Rattle.picture_limits.specs.Shape.{shaped};
 ghost use Rattle.picture_restore.specs.Restore.{restored, bytesOut, Numbered};
 
@@ -81,7 +82,7 @@ fn patch_known(patches: &[f32], at: usize, p: usize, t: &[u32; 768], w: Way) -> 
 }
 
 // Whether every sample of n patches has the bits of a byte in its channel.
-fn all_known(patches: &[f32], p: usize, n: usize, t: &[u32; 768], w: Way) -> bool
+pub(crate) fn all_known(patches: &[f32], p: usize, n: usize, t: &[u32; 768], w: Way) -> bool
     requires { ⌜ (p ≤ 32) × (n * (3 * (p * p)) ≤ length (now patches)) × Spots (now t) (spotted w (entry (now t))) ⌝ }
     ensures { λ r. ⌜ r ≡ knownPatches (entry (now (t .entry))) p n (now (patches .entry)) ⌝ }
 {
@@ -116,30 +117,31 @@ fn restore_pixel(
     out[at + 2] = spot(t, w, 2, patches[from + 2 * n]) as u8;
 }
 
-// A row of a patch: p pixels.
+// The first n pixels of a row of a patch of side p.
 fn restore_run(
     patches: &[f32],
     p: usize,
+    n: usize,
     from: usize,
     at: usize,
     out: &mut [u8],
     t: &[u32; 768],
     w: Way,
 )
-    requires { ⌜ (p ≤ 32) × (from + 2 * (p * p) + p ≤ length (now patches)) × (at + p * 3 ≤ length (now out)) × Spots (now t) (spotted w (entry (now t))) ⌝ }
-    ensures { λ _. ⌜ now (out .exit) ≡ put (now (out .entry)) at (runBy (spotted w (entry (now (t .entry)))) p (now (patches .entry)) from) ⌝ }
+    requires { ⌜ (p ≤ 32) × ((j : ℕ) → j < n → from + j + 2 * (p * p) < length (now patches)) × (at + n * 3 ≤ length (now out)) × Spots (now t) (spotted w (entry (now t))) ⌝ }
+    ensures { λ _. ⌜ now (out .exit) ≡ put (now (out .entry)) at (runBy (spotted w (entry (now (t .entry)))) p n (now (patches .entry)) from) ⌝ }
 {
-    let n = p * p;
+    let m = p * p;
     let mut j = 0usize;
     let mut o = at;
-    while j < p {
-        restore_pixel(patches, n, from + j, o, out, t, w);
+    while j < n {
+        restore_pixel(patches, m, from + j, o, out, t, w);
         o += 3;
         j += 1;
     }
 }
 
-// A row of the picture: row i of each of the gw patches side by side, the first of which starts at `from`.
+// Row i of each of the gw patches side by side, the first of which starts at `from`.
 fn restore_line(
     patches: &[f32],
     p: usize,
@@ -160,60 +162,66 @@ fn restore_line(
     let mut o = at;
     let mut k = from;
     while b < gw {
-        restore_run(patches, p, k + d, o, out, t, w);
+        restore_run(patches, p, p, k + d, o, out, t, w);
         o += p * 3;
         k += m;
         b += 1;
     }
 }
 
-// The p rows of the picture that gw patches side by side give.
-fn restore_band(
+// The first `wide` pixels of row y of the picture, whose patches stand gw side by side: of whole patches, and then of a part
+// of one.
+fn restore_row(
     patches: &[f32],
     p: usize,
     gw: usize,
-    from: usize,
+    y: usize,
+    wide: usize,
     at: usize,
     out: &mut [u8],
     t: &[u32; 768],
     w: Way,
 )
-    requires { ⌜ (p ≤ 32) × (gw ≤ 2048) × (from + gw * (3 * (p * p)) ≤ length (now patches)) × (at + p * (gw * (p * 3)) ≤ length (now out)) × Spots (now t) (spotted w (entry (now t))) ⌝ }
-    ensures { λ _. ⌜ now (out .exit) ≡ put (now (out .entry)) at (bandBy (spotted w (entry (now (t .entry)))) p gw (now (patches .entry)) from) ⌝ }
+    requires { ⌜ (0 < p) × (p ≤ 32) × (y / p * (gw * (3 * (p * p))) + gw * (3 * (p * p)) ≤ length (now patches)) × (wide ≤ gw * p) × (at + wide * 3 ≤ length (now out)) × Spots (now t) (spotted w (entry (now t))) ⌝ }
+    ensures { λ _. ⌜ now (out .exit) ≡ put (now (out .entry)) at (rowBy (spotted w (entry (now (t .entry)))) p gw wide (now (patches .entry)) y) ⌝ }
 {
-    let n = gw * (p * 3);
-    let mut i = 0usize;
-    let mut o = at;
-    while i < p {
-        restore_line(patches, p, gw, i, from, o, out, t, w);
-        o += n;
-        i += 1;
-    }
+    let m = 3 * (p * p);
+    let q = wide / p;
+    let i = y % p;
+    let from = y / p * (gw * m);
+    restore_line(patches, p, q, i, from, at, out, t, w);
+    restore_run(
+        patches,
+        p,
+        wide % p,
+        from + q * m + i * p,
+        at + q * (p * 3),
+        out,
+        t,
+        w,
+    );
 }
 
-// All rows, over the front of `out`.
-fn restore_bands(
+// The first `wide` pixels of the first `tall` rows of the picture, from `at` on, with `stride` from row to row.
+pub(crate) fn restore_rows(
     patches: &[f32],
     p: usize,
-    gh: usize,
     gw: usize,
+    tall: usize,
+    wide: usize,
+    at: usize,
+    stride: usize,
     out: &mut [u8],
     t: &[u32; 768],
     w: Way,
 )
-    requires { ⌜ (p ≤ 32) × (gw ≤ 2048) × (gh * (gw * (3 * (p * p))) ≤ length (now patches)) × (gh * (p * (gw * (p * 3))) ≤ length (now out)) × Spots (now t) (spotted w (entry (now t))) ⌝ }
-    ensures { λ _. ⌜ now (out .exit) ≡ put (now (out .entry)) 0 (bytesBy (spotted w (entry (now (t .entry)))) p gh gw (now (patches .entry))) ⌝ }
+    requires { ⌜ Rows p gw tall wide at stride (length (now patches)) (length (now out)) × Spots (now t) (spotted w (entry (now t))) ⌝ }
+    ensures { λ _. ⌜ now (out .exit) ≡ putRows (now (out .entry)) tall (λ y. at + y * stride) (λ y. rowBy (spotted w (entry (now (t .entry)))) p gw wide (now (patches .entry)) y) ⌝ }
 {
-    let m = gw * (3 * (p * p));
-    let n = p * (gw * (p * 3));
-    let mut a = 0usize;
-    let mut o = 0usize;
-    let mut k = 0usize;
-    while a < gh {
-        restore_band(patches, p, gw, k, o, out, t, w);
-        o += n;
-        k += m;
-        a += 1;
+    let mut y = 0usize;
+    while y < tall {
+        restore_row(patches, p, gw, y, wide, at + y * stride, out, t, w);
+        y += 1;
     }
 }
 
@@ -242,7 +250,18 @@ fn restore_shaped(
     if !all_known(patches, p, tokens, t, w) {
         return Restored::Refused(Refusal::Sample);
     }
-    restore_bands(patches, p, grid_h, grid_w, out, t, w);
+    restore_rows(
+        patches,
+        p,
+        grid_w,
+        grid_h * p,
+        grid_w * p,
+        0,
+        grid_w * p * 3,
+        out,
+        t,
+        w,
+    );
     Restored::Picture {
         height: grid_h * p,
         width: grid_w * p,

@@ -1,6 +1,6 @@
 -- `picture_restore::restore_run` meets its contract. The invariant: the pixels passed are written. Assumes nothing.
 use mathlib.Core.Path.{_≡_, ap, _∙_}
-use Prim.Native.Nat.{ℕ, _+_, _*_, _-_, _≤_}
+use Prim.Native.Nat.{ℕ, _+_, _*_, _-_, _≤_, _<_}
 use native.Mathlib.Omega.{arith}
 use borrow.Author.Needs.{needs}
 use lib.ListN.{length}
@@ -15,24 +15,28 @@ use Rattle.picture_restore.proofs.restore_run.Statement.{statement}
 use Rattle.picture_restore.proofs.restore_run.Tie as tie
 
 abbrev Inv-loop : tie.InvT-loop
-Inv-loop patches p from at out₀ t w n j₀ o₀ out j o =
-    (j ≤ p) × (o ≡ at + j * 3) × (length out ≡ length out₀) × (out ≡ put out₀ at (rows j (λ i. pixelBy (spotted w (entry t)) (p * p) patches (from + i))))
+Inv-loop patches p n from at out₀ t w m j₀ o₀ out j o =
+    (j ≤ n) × (o ≡ at + j * 3) × (length out ≡ length out₀) × (out ≡ put out₀ at (rows j (λ i. pixelBy (spotted w (entry t)) (p * p) patches (from + i))))
 
 abbrev μ-loop : tie.MeasureT-loop
-μ-loop patches p from at out₀ t w n j₀ o₀ out j o = p - j
+μ-loop patches p n from at out₀ t w m j₀ o₀ out j o = n - j
 
-mul-n : tie.Need-mul-n Inv-loop μ-loop
-mul-n c = let s = c .before .before in omega (arith, square (s .args .p) (s .pre .0))
+-- the samples of pixel j lie inside the patches
+inside : (c : tie.In-loop Inv-loop μ-loop) → let a = c .before .before .before .before .args in a .from + c .before .loop .j + 2 * (a .p * a .p) < length (a .patches .now)
+inside c = c .before .before .before .before .pre .1 (c .before .loop .j) (c .loop-test .taken)
+
+mul-m : tie.Need-mul-m Inv-loop μ-loop
+mul-m c = let s = c .before .before in omega (arith, square (s .args .p) (s .pre .0))
 
 loop-holds : tie.Need-loop-holds Inv-loop μ-loop
 unfolding put rows
 loop-holds c = search needs
 
 add-restore-pixel : tie.Need-add-restore-pixel Inv-loop μ-loop
-add-restore-pixel c = search needs
+add-restore-pixel c = omega (arith, inside c)
 
 restore-pixel-requires : tie.Need-restore-pixel-requires Inv-loop μ-loop
-restore-pixel-requires c κs = let s = c .before .before .before .before .before in (omega arith, omega arith, s .pre .3)
+restore-pixel-requires c κs = let s = c .before .before .before .before .before in (inside (c .before), omega arith, s .pre .3)
 
 add-o : tie.Need-add-o Inv-loop μ-loop
 add-o c = search needs
@@ -47,11 +51,11 @@ loop-again : tie.Need-loop-again Inv-loop μ-loop
 loop-again c =
     let a = c .before .before .before .before .before .before .before .before .args in
     let l = c .before .before .before .before .before .loop in
-    let n = a .p * a .p in (
+    let m = a .p * a .p in (
       omega arith,
       omega arith,
       c .before .before .restore-pixel .kept .1 .1 .1 .1 .0 ∙ l .inv .2,
-      rows-step _ 3 (λ i. length-pixelBy (spotted (a .w) (entry (a .t .now))) n (a .patches .now) (a .from + i)) (a .out .now) (l .out) _ (a .at) (l .o) (l .j) (l .inv .3) (l .inv .1)
+      rows-step _ 3 (λ i. length-pixelBy (spotted (a .w) (entry (a .t .now))) m (a .patches .now) (a .from + i)) (a .out .now) (l .out) _ (a .at) (l .o) (l .j) (l .inv .3) (l .inv .1)
           (c .before .before .restore-pixel .ensures),
     )
 
@@ -61,7 +65,7 @@ same-length c = c .before .loop .inv .2
 returns : tie.Need-returns Inv-loop μ-loop
 returns c =
     let a = c .before .before .before .before .args in
-    let e : c .before .loop .j ≡ a .p = omega arith in
+    let e : c .before .loop .j ≡ a .n = omega arith in
     c .before .loop .inv .3 ∙ ap (λ (n : ℕ). put (a .out .now) (a .at) (rows n (λ i. pixelBy (spotted (a .w) (entry (a .t .now))) (a .p * a .p) (a .patches .now) (a .from + i)))) e
 
 pub restore-run-spec : {M : Type 1} → statement M
@@ -70,7 +74,7 @@ restore-run-spec =
     (tie.spec
     Inv-loop
     μ-loop
-    mul-n
+    mul-m
     loop-holds
     add-restore-pixel
     restore-pixel-requires

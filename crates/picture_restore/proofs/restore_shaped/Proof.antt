@@ -1,14 +1,17 @@
 -- `picture_restore::restore_shaped` meets its contract: with shape and channels accepted, the room and then the samples decide. Assumes nothing.
-use mathlib.Core.Path.{_≡_, sym, ap, _∙_}
+use mathlib.Core.Path.{_≡_, refl, sym, ap, _∙_}
+use mathlib.Core.List.{List}
 use Prim.Native.Nat.{ℕ, _*_, _≤_}
-use native.Mathlib.Nat.{mul-assoc}
+use native.Mathlib.Nat.{mul-assoc, le-refl}
 use native.Mathlib.Omega.{arith}
 use borrow.Author.Needs.{needs}
 use borrow.Author.Tests.{not-true, not-false, le-leb, lt-leb}
 use lib.Dec.{leb}
 use lib.ListN.{length}
 use Rattle.buffers.specs.Region.{put}
+use Rattle.buffers.proofs.Lists.{fit}
 use Rattle.buffers.proofs.Regions.{put-over}
+use Rattle.buffers.proofs.Puts.{puts-joined}
 use Rattle.picture_restore.specs.declared.Restored.the-variants.{Picture, Refused}
 use Rattle.picture_limits.specs.declared.Refusal.the-variants.{Output, Sample}
 use Rattle.picture_samples.specs.Samples.{channelsAllowed, value, entry, valueOf, patternOf}
@@ -21,8 +24,9 @@ use Rattle.picture_samples.proofs.Channels.{entry-of, allowed-of}
 use Rattle.picture_samples.proofs.Finds.{Same}
 use Rattle.picture_restore.proofs.Known.{known-same, known-cut}
 use Rattle.picture_restore.proofs.Ladder.{agreed}
-use Rattle.picture_restore.specs.inner.Spot.{spotted}
-use Rattle.picture_restore.proofs.Spots.{spotted-bytes}
+use Rattle.picture_restore.specs.inner.Spot.{spotted, rowBy}
+use Rattle.picture_restore.proofs.Spots.{length-rowBy, spotted-bytes}
+use Rattle.picture_restore.proofs.Views.{rows-fit}
 use Rattle.picture_restore.proofs.restore_shaped.Statement.{statement}
 use Rattle.picture_restore.proofs.restore_shaped.Tie as tie
 
@@ -55,9 +59,6 @@ answer c =
     ∙ sym (known-cut (entry (a .t .now)) p (a .tokens) (a .patches .now) (k .samples ∙ ap (λ (n : ℕ). n * patchFloats p) (sym (k .tokens))))
     ∙ known-same (entry (a .t .now)) (patternOf (a .s)) (same s) p (a .patches .now)
 
-bytes : (gh gw p : ℕ) → gh * p * (gw * p) * 3 ≡ gh * (p * (gw * (p * 3)))
-bytes gh gw p = simp mul-assoc
-
 mul-if1 : tie.Need-mul-if1
 mul-if1 c = let k = accepted (c .before .before) in omega arith
 
@@ -89,26 +90,39 @@ returns-2 c =
     let k = sym (answer (c .before)) ∙ not-true _ (c .if2 .taken) in
     (rw (d, e, k), rw (d, e, k))
 
-restore-bands-requires : tie.Need-restore-bands-requires
-restore-bands-requires c κs =
-    let a = c .before .before .before .before .before .before .before .before .before .args in
+mul-restore-rows : tie.Need-mul-restore-rows
+mul-restore-rows c = let k = accepted (c .before .before .before .before .before .before .before .before) in omega (arith, k .grids)
+
+mul-restore-rows-2 : tie.Need-mul-restore-rows-2
+mul-restore-rows-2 c = let k = accepted (c .before .before .before .before .before .before .before .before) in omega (arith, k .grids)
+
+mul-restore-rows-3 : tie.Need-mul-restore-rows-3
+mul-restore-rows-3 c = let k = accepted (c .before .before .before .before .before .before .before .before) in omega (arith, k .grids)
+
+mul-restore-rows-4 : tie.Need-mul-restore-rows-4
+mul-restore-rows-4 c = let k = accepted (c .before .before .before .before .before .before .before .before) in omega (arith, k .grids)
+
+restore-rows-requires : tie.Need-restore-rows-requires
+restore-rows-requires c κs =
+    let s = c .before .before .before .before .before .before .before .before .before in
+    let a = s .args in
     let p = a .s .«patch_size» in
-    let k = accepted (c .before .before .before .before .before .before .before .before .before) in (
-      k .grids .settings .patch-high,
-      omega (arith, k .grids .wide .few, k .grids .settings .image-high),
-      omega (arith, k .samples, mul-assoc (a .grid-h) (a .grid-w) (patchFloats p)),
-      omega (arith, c .before .before .before .before .before .before .if1 .left, bytes (a .grid-h) (a .grid-w) p),
+    let k = accepted s in
+    let n = a .grid-w * p in (
+      rows-fit p (a .grid-h) (a .grid-w) (a .grid-h * p) n 0 (n * 3) (length (a .patches .now)) (length (a .out .now)) (k .grids .settings .patch-low) (k .grids .settings .patch-high)
+          (omega (arith, k .grids .wide .few, k .grids .settings .image-high)) (le-refl (a .grid-h * p)) (le-refl n) (k .samples)
+          (λ y h. omega (arith, fit (n * 3) h, c .before .before .before .before .before .before .if1 .left, mul-assoc (a .grid-h * p) n 3)),
       c .before .before .before .way-of .ensures,
     )
 
-mul-t12 : tie.Need-mul-t12
-mul-t12 c = let k = accepted (c .before .before .before .before .before .before .before .before .before .before .before .before) in omega (arith, k .grids)
+mul-t16 : tie.Need-mul-t16
+mul-t16 c = let k = accepted (c .before .before .before .before .before .before .before .before .before .before .before .before) in omega (arith, k .grids)
 
-mul-t13 : tie.Need-mul-t13
-mul-t13 c = let k = accepted (c .before .before .before .before .before .before .before .before .before .before .before .before) in omega (arith, k .grids)
+mul-t15 : tie.Need-mul-t15
+mul-t15 c = let k = accepted (c .before .before .before .before .before .before .before .before .before .before .before .before) in omega (arith, k .grids)
 
 same-length : tie.Need-same-length
-same-length c = c .before .before .restore-bands .kept .1 .1 .1 .1 .0
+same-length c = c .before .before .restore-rows .kept .1 .1 .1 .1 .1 .1 .1 .0
 
 returns-3 : tie.Need-returns-3
 returns-3 c =
@@ -120,11 +134,22 @@ returns-3 c =
     let f = c .before .before .before .before .before .before .before .before .before .if1 .left in
     let e = le-leb _ _ f in
     let g = sym (answer (c .before .before .before .before .before)) ∙ not-false _ (c .before .before .before .before .if2 .left) in
-    let ys = bytesFrom (patternOf (a .s)) p (a .patches .now) (a .grid-h) (a .grid-w) in
+    let l = a .patches .now in
+    let way = c .before .before .before .before .before .before .way-of in
+    let b = spotted (way .result) (entry (a .t .now)) in
+    let n = a .grid-w * p in
+    let row : ℕ → List ℕ = rowBy b p (a .grid-w) n l in
+    let ys = bytesFrom (patternOf (a .s)) p l (a .grid-h) (a .grid-w) in
     let ok = c .before .before .before .before .before .before .before .before .before .before .before .shared-slice-known .given in
-    let w = spotted-bytes (a .t .now) (spotted (c .before .before .before .before .before .before .way-of .result) (entry (a .t .now))) (patternOf (a .s)) p (a .grid-h) (a .grid-w) (a .patches .now) (c .before .before .before .before .before .before .way-of .ensures) (same s) (k .grids .settings .patch-low) g (k .samples) (λ i _. ok i) in
-    let l : length ys ≤ length (a .out .now) = rw (length-picture (a .grid-h * p) (a .grid-w * p) _) (omega (arith, f, mul-assoc (a .grid-h * p) (a .grid-w * p) 3)) in
-    (rw (d, e, g), rw (d, e, g) (c .before .before .restore-bands .ensures ∙ ap (put (a .out .now) 0) w ∙ put-over (a .out .now) ys l))
+    let w = spotted-bytes (a .t .now) b (patternOf (a .s)) p (a .grid-h) (a .grid-w) l (way .ensures) (same s) (k .grids .settings .patch-low) g (k .samples) (λ i _. ok i) in
+    let m : length ys ≤ length (a .out .now) = rw (length-picture (a .grid-h * p) (a .grid-w * p) _) (omega (arith, f, mul-assoc (a .grid-h * p) (a .grid-w * p) 3)) in (
+      rw (d, e, g),
+      rw (d, e, g)
+          (c .before .before .restore-rows .ensures
+          ∙ puts-joined (a .out .now) _ row (n * 3) 0 (a .grid-h * p) (λ y. length-rowBy b p l (a .grid-w) n y) (λ y _. refl)
+          ∙ ap (put (a .out .now) 0) w
+          ∙ put-over (a .out .now) ys m),
+    )
 
 pub restore-shaped-spec : {M : Type 1} → statement M
 restore-shaped-spec =
@@ -138,8 +163,12 @@ restore-shaped-spec =
     way-of-requires
     all-known-requires
     returns-2
-    restore-bands-requires
-    mul-t12
-    mul-t13
+    mul-restore-rows
+    mul-restore-rows-2
+    mul-restore-rows-3
+    mul-restore-rows-4
+    restore-rows-requires
+    mul-t16
+    mul-t15
     same-length
     returns-3)

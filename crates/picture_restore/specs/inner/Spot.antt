@@ -2,13 +2,13 @@
 use mathlib.Core.Path.{_≡_}
 use mathlib.Core.Bool.{Bool, true, cond}
 use mathlib.Core.List.{List}
-use Prim.Native.Nat.{ℕ, suc, _+_, _*_, _/_, _%_, _<_}
+use Prim.Native.Nat.{ℕ, suc, _+_, _*_, _/_, _%_, _≤_, _<_}
 use lib.Dec.{eqb}
 use lib.ListN.{getD}
 use lib.Ieee.{Float, nan, binary32, add, mul, lt, ofBits, toBits}
 use Rattle.buffers.specs.Rows.{tab, rows, all, first}
 use Rattle.picture_samples.specs.Samples.{channelsAllowed, value, entry}
-use Rattle.picture_limits.specs.Places.{patchFloats}
+use Rattle.picture_limits.specs.Places.{patchFloats, samplePlace}
 use Rattle.picture_restore.specs.declared.byte.Way.{Way}
 
 -- v times the slope, plus the shift, plus 2 ^ 23, whose low bits are then the whole part
@@ -39,19 +39,26 @@ pub record Spots (t : List ℕ) (g : ℕ → Float → ℕ) : Type 0 where
   pub low : (c : ℕ) (v : Float) → g c v < 256
   pub right : (c b : ℕ) → c < 3 → b < 256 → g c (value (entry t) c b) ≡ b
 
--- ---- what is written by g: a pixel, whose samples lie n apart; a row of a patch; of patches side by side; of a line of
--- patches; of all
+-- ---- what is written by g: a pixel, whose samples lie n apart; the first n pixels of a row of a patch; row i of patches side
+-- by side; and the first n pixels of row y of the picture
 abbrev pub pixelBy : (ℕ → Float → ℕ) → ℕ → List Float → ℕ → List ℕ
 pixelBy g n l from = tab 3 (λ c. g c (getD l (from + c * n) nan))
 
-abbrev pub runBy : (ℕ → Float → ℕ) → ℕ → List Float → ℕ → List ℕ
-runBy g p l from = rows p (λ j. pixelBy g (p * p) l (from + j))
+abbrev pub runBy : (ℕ → Float → ℕ) → ℕ → ℕ → List Float → ℕ → List ℕ
+runBy g p n l from = rows n (λ j. pixelBy g (p * p) l (from + j))
 
 abbrev pub lineBy : (ℕ → Float → ℕ) → ℕ → ℕ → List Float → ℕ → ℕ → List ℕ
-lineBy g p gw l from i = rows gw (λ b. runBy g p l (from + b * patchFloats p + i * p))
+lineBy g p gw l from i = rows gw (λ b. runBy g p p l (from + b * patchFloats p + i * p))
 
-abbrev pub bandBy : (ℕ → Float → ℕ) → ℕ → ℕ → List Float → ℕ → List ℕ
-bandBy g p gw l from = rows p (λ i. lineBy g p gw l from i)
+abbrev pub rowBy : (ℕ → Float → ℕ) → ℕ → ℕ → ℕ → List Float → ℕ → List ℕ
+rowBy g p gw n l y = rows n (λ x. tab 3 (λ c. g c (getD l (samplePlace p gw y x c) nan)))
 
-abbrev pub bytesBy : (ℕ → Float → ℕ) → ℕ → ℕ → ℕ → List Float → List ℕ
-bytesBy g p gh gw l = rows gh (λ a. bandBy g p gw l (a * (gw * patchFloats p)))
+-- where `tall` rows of `wide` pixels can be written, of patches of side p, gw of them side by side: their samples are there,
+-- and room for each row
+pub record Rows (p gw tall wide at stride len room : ℕ) : Type 0 where
+  pub patch-low : 0 < p
+  pub patch-high : p ≤ 32
+  pub grid-high : gw ≤ 2048
+  pub columns : wide ≤ gw * p
+  pub samples : (y : ℕ) → y < tall → y / p * (gw * patchFloats p) + gw * patchFloats p ≤ len
+  pub space : (y : ℕ) → y < tall → at + y * stride + wide * 3 ≤ room
