@@ -1,13 +1,13 @@
 -- Laws of `putRows`: what was written, and what was kept. Assumes nothing.
 use mathlib.Core.Path.{_≡_, refl, sym, ap, _∙_}
 use mathlib.Core.List.{List}
-use Prim.Native.Nat.{ℕ, zero, suc, _+_, _*_, _-_, _≤_, _<_}
+use Prim.Native.Nat.{ℕ, zero, suc, _+_, _*_, _≤_, _<_}
 use native.Mathlib.Omega.{arith}
 use native.Mathlib.Numerals.{add-one}
 use native.Mathlib.Decide.{decLt}
 use lib.ListN.{length, getD}
 use Rattle.buffers.specs.Region.{put, putRows}
-use Rattle.buffers.specs.inner.Apart.{Apart, before, after}
+use Rattle.buffers.specs.inner.Apart.{Apart, before}
 use Rattle.buffers.proofs.Regions.{length-put, getD-put, getD-put-same}
 use Rattle.buffers.specs.Rows.{rows}
 use Rattle.buffers.proofs.Lists.{put-rows}

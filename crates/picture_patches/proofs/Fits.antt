@@ -8,7 +8,7 @@ use lib.Dec.{leb, eqb}
 use lib.ListN.{length}
 use lib.Ieee.{Float}
 use Rattle.buffers.specs.Region.{over}
-use Rattle.buffers.proofs.Lists.{and-both, and-left, and-right}
+use Rattle.buffers.proofs.Lists.{and-left, and-right}
 use Rattle.picture_limits.specs.Settings.{within, sided}
 use Rattle.picture_limits.specs.Places.{patchFloats}
 use Rattle.picture_limits.proofs.Sides.{within-says}

@@ -1,6 +1,6 @@
 -- The frame of patches that fit, and what is seen through that of a whole picture: the picture resized. Assumes nothing.
 use mathlib.Core.Path.{_≡_, refl, ap}
-use mathlib.Core.Bool.{Bool, true, false, _&&_, cond}
+use mathlib.Core.Bool.{Bool, true, false, _&&_}
 use mathlib.Core.List.{List}
 use Prim.Native.Nat.{ℕ, _+_, _/_, _≤_, _<_}
 use native.Mathlib.Nat.{div-mul-le-self}
@@ -13,7 +13,7 @@ use Rattle.picture_limits.proofs.Sides.{sided-says, spans}
 use Rattle.picture_samples.specs.Samples.{value}
 use Rattle.picture_resize.specs.Resize.{resizedAt}
 use Rattle.picture_patches.specs.declared.rows.Frame.{Frame}
-use Rattle.picture_patches.specs.inner.Frame.{Framed, mixed, viewed, seen}
+use Rattle.picture_patches.specs.inner.Frame.{Framed, seen}
 use Rattle.picture_patches.proofs.Fits.{Fits}
 use Rattle.picture_patches.proofs.Views.{full, full-same}
 

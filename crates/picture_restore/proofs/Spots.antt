@@ -13,9 +13,9 @@ use lib.Dec.{T, eqb}
 use lib.ListN.{length, getD}
 use lib.Ieee.{Float, nan, inf, fin, binary32, add, mul, lt, ne, isNan, fits, ofBits, toBits, nanBits}
 use lib.Ieee.Compare.{nan-differs}
-use lib.Ieee.Bits.{ofBits-toBits, is-true, is-false}
+use lib.Ieee.Bits.{ofBits-toBits, is-true}
 use Rattle.number_floats.proofs.Order.{lt-self, lt-trans}
-use Rattle.buffers.specs.Rows.{tab, rows, all, first}
+use Rattle.buffers.specs.Rows.{tab, rows, first}
 use Rattle.buffers.proofs.Lists.{length-tab, length-rows, rows-ext, rows-add, rows-mul, tab-ext, all-at, first-at, first-none, first-le}
 use Rattle.picture_samples.specs.Samples.{rising, falling, channelAllowed, channelsAllowed, value, byteOf, entry}
 use Rattle.picture_samples.specs.inner.Clean.{Clean}
@@ -24,8 +24,8 @@ use Rattle.picture_restore.specs.inner.Spot.{guessed, guesses, beyond, h
 use Rattle.picture_limits.specs.Places.{patchFloats, samplePlace}
 use Rattle.picture_restore.specs.Restore.{known, bytesFrom}
 use Rattle.picture_limits.proofs.Places.{quotient, remainder, patch-in, place-in-patch, at-in}
-use Rattle.picture_samples.proofs.Channels.{rises, falls, ordered, channel-of, distinct-of, clean-of}
-use Rattle.picture_samples.proofs.Finds.{Distinct, Same, byte-same, found, missed, pattern-back}
+use Rattle.picture_samples.proofs.Channels.{rises, falls, ordered, channel-of, distinct-of}
+use Rattle.picture_samples.proofs.Finds.{Same, byte-same, found, missed, pattern-back}
 use Rattle.picture_restore.proofs.Known.{known-at}
 
 -- ---- the guess

@@ -6,7 +6,6 @@ use native.Mathlib.Nat.{suc-mul, mul-assoc, mul-le-mul-right, div-add-mod', mod-
 use native.Mathlib.Omega.{arith}
 use native.Mathlib.Decide.{decLt}
 use borrow.Author.Needs.{needs}
-use lib.ListN.{length}
 use Rattle.buffers.specs.Region.{put}
 use Rattle.buffers.proofs.Lists.{fit}
 use Rattle.buffers.proofs.Regions.{put-append}

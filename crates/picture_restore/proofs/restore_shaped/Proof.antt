@@ -4,7 +4,6 @@ use mathlib.Core.List.{List}
 use Prim.Native.Nat.{ℕ, _*_, _≤_}
 use native.Mathlib.Nat.{mul-assoc, le-refl}
 use native.Mathlib.Omega.{arith}
-use borrow.Author.Needs.{needs}
 use borrow.Author.Tests.{not-true, not-false, le-leb, lt-leb}
 use lib.Dec.{leb}
 use lib.ListN.{length}
@@ -14,7 +13,7 @@ use Rattle.buffers.proofs.Regions.{put-over}
 use Rattle.buffers.proofs.Puts.{puts-joined}
 use Rattle.picture_restore.specs.declared.Restored.the-variants.{Picture, Refused}
 use Rattle.picture_limits.specs.declared.Refusal.the-variants.{Output, Sample}
-use Rattle.picture_samples.specs.Samples.{channelsAllowed, value, entry, valueOf, patternOf}
+use Rattle.picture_samples.specs.Samples.{entry, patternOf}
 use Rattle.picture_limits.specs.Places.{patchFloats}
 use Rattle.picture_limits.specs.Refusal.{unless}
 use Rattle.picture_restore.specs.Restore.{known, restored, bytesFrom}

@@ -1,9 +1,8 @@
 -- `picture_patches::view::view_row` meets its contract. Assumes nothing.
-use mathlib.Core.Path.{_≡_, ap, _∙_}
-use Prim.Native.Nat.{ℕ, _+_, _*_, _-_, _≤_, _<_}
+use mathlib.Core.Path.{ap, _∙_}
+use Prim.Native.Nat.{ℕ, _+_, _*_, _-_, _≤_}
 use native.Mathlib.Omega.{arith}
 use borrow.Author.Needs.{needs}
-use lib.ListN.{length}
 use Rattle.buffers.specs.Rows.{tab}
 use Rattle.buffers.specs.Region.{put}
 use Rattle.picture_samples.specs.Samples.{value, entry}

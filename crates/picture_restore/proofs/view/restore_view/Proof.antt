@@ -1,20 +1,18 @@
 -- `picture_restore::view::restore_view` meets its contract. Assumes nothing.
-use mathlib.Core.Path.{_≡_, refl, sym, ap, _∙_}
+use mathlib.Core.Path.{_≡_, refl, sym, _∙_}
 use mathlib.Core.Bool.{true, _&&_}
-use mathlib.Core.List.{List}
-use Prim.Native.Nat.{ℕ, _+_, _*_, _≤_, _<_}
+use Prim.Native.Nat.{ℕ, _*_, _≤_, _<_}
 use native.Mathlib.Omega.{arith}
 use borrow.Author.Needs.{needs}
 use borrow.Author.Tests.{not-true, not-false}
 use lib.ListN.{length}
 use Rattle.buffers.proofs.Lists.{and-left, and-right}
 use Rattle.buffers.proofs.Puts.{puts-ext}
-use Rattle.picture_limits.specs.Places.{patchFloats}
 use Rattle.picture_limits.proofs.Places.{times}
 use Rattle.picture_samples.specs.Samples.{channelsAllowed, value, entry}
 use Rattle.picture_restore.specs.Restore.{known}
 use Rattle.picture_restore.specs.View.{viewRow, viewPlace, viewFits, viewBack}
-use Rattle.picture_restore.specs.inner.Spot.{spotted, rowBy}
+use Rattle.picture_restore.specs.inner.Spot.{spotted}
 use Rattle.picture_restore.proofs.Known.{known-cut}
 use Rattle.picture_restore.proofs.Spots.{spotted-row}
 use Rattle.picture_restore.proofs.Views.{Fits, fits-says, place-at, view-rows}

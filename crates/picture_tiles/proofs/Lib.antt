@@ -1,0 +1,9 @@
+pub mod Pieces
+pub mod Cuts
+pub mod Joins
+pub mod Backs
+pub mod Bounds
+pub mod Paddings
+pub mod Answers
+pub mod Undo
+pub mod Unique

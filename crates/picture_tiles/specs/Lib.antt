@@ -1,0 +1,6 @@
+pub mod Cut
+pub mod Tile
+pub mod Join
+pub mod Answer
+pub mod Undo
+pub mod inner
