@@ -1,12 +1,12 @@
 -- What the calls on a tile answer and leave where they are accepted, from what their leaves write. Assumes nothing.
 use mathlib.Core.Path.{_≡_, refl, sym, ap, _∙_}
-use mathlib.Core.Bool.{Bool, true, false, _&&_, _||_, cond}
+use mathlib.Core.Bool.{Bool, true, false, _||_, cond}
 use mathlib.Core.List.{List}
 use Prim.Native.Nat.{ℕ, _+_, _*_, _/_, _%_, _≤_, _<_}
 use native.Mathlib.Nat.{mul-assoc, mul-div-cancel}
 use native.Mathlib.Omega.{arith}
 use borrow.Author.Tests.{le-leb, eq-eqb, lt-ltb}
-use lib.Dec.{eqb, leb, ltb}
+use lib.Dec.{eqb}
 use lib.ListN.{length, getD}
 use lib.Seq.{ext-getD}
 use lib.Ieee.{Float, nan, binary32, ofBits, toBits}
@@ -19,32 +19,32 @@ use Rattle.buffers.proofs.Puts.{puts-ext}
 use Rattle.picture_limits.specs.declared.PictureSettings.{PictureSettings}
 use Rattle.picture_limits.specs.declared.Refusal.the-variants.{Sample}
 use Rattle.picture_limits.specs.declared.View.{View}
-use Rattle.picture_limits.specs.View.{inside, has}
-use Rattle.picture_limits.specs.Settings.{allowed, sided, align}
-use Rattle.picture_limits.specs.Places.{patchFloats, picture, samplePlace}
+use Rattle.picture_limits.specs.View.{has}
+use Rattle.picture_limits.specs.Settings.{sided}
+use Rattle.picture_limits.specs.Places.{picture, samplePlace}
 use Rattle.picture_limits.proofs.Places.{length-picture, picture-at}
 use Rattle.picture_limits.proofs.Sides.{allowed-says}
 use Rattle.picture_limits.proofs.Views.{inside-where}
-use Rattle.picture_samples.specs.Samples.{channelsAllowed, value, byteOf, entry, sampleTable, valueOf, patternOf}
+use Rattle.picture_samples.specs.Samples.{channelsAllowed, value, entry, sampleTable, valueOf, patternOf}
 use Rattle.picture_samples.proofs.Channels.{entry-of, allowed-of}
 use Rattle.picture_samples.proofs.Finds.{byte-same}
 use Rattle.picture_patches.specs.Patches.{patches}
 use Rattle.picture_patches.specs.Resized.{fits}
-use Rattle.picture_patches.specs.Viewed.{viewPatches, viewOver}
+use Rattle.picture_patches.specs.Viewed.{viewOver}
 use Rattle.picture_patches.proofs.Patches.{patches-ext}
 use Rattle.picture_patches.proofs.Fits.{fits-where, view-written}
 use Rattle.picture_restore.specs.Restore.{known, bytesOf}
 use Rattle.picture_restore.specs.View.{viewRow, viewPlace, viewFits, viewBack, viewOut}
 use Rattle.picture_restore.proofs.Known.{known-same}
 use Rattle.picture_tiles.specs.declared.Tiled as D
-use Rattle.picture_tiles.specs.Cut.{Ready, tiles, inCut, ownHeight, ownWidth, tileHeight, tileWidth, gridH, gridW}
-use Rattle.picture_tiles.specs.Tile.{tileView, tileAt, tilePatches, found, padded, tileKnown}
+use Rattle.picture_tiles.specs.Cut.{Ready, tiles, ownHeight, ownWidth, tileHeight, tileWidth, gridH, gridW}
+use Rattle.picture_tiles.specs.Tile.{tileView, tileAt, found, padded, tileKnown}
 use Rattle.picture_tiles.specs.Join.{rowPlace, ownRow, putTile}
 use Rattle.picture_tiles.specs.inner.Padding.{zeroRows}
 use Rattle.picture_tiles.specs.Answer.{tileFloats, tileOf, tiled, patchesOut, untiled, bytesOut}
 use Rattle.picture_tiles.specs.Undo.{Given}
 use Rattle.picture_tiles.proofs.Cuts as C
-use Rattle.picture_tiles.proofs.Bounds.{Inside, inside-of}
+use Rattle.picture_tiles.proofs.Bounds.{inside-of}
 use Rattle.picture_tiles.proofs.Backs.{tile-below}
 
 -- ---- a tile's preprocess: where no number applies

@@ -1,20 +1,19 @@
 -- The undo of a tile: restore gives back the padded tile, and joining the restored tiles the sweep; and which patches are
 -- those of a tile. Patches and bytes are first taken over any table of patterns that is distinct in each channel. Assumes nothing.
 use mathlib.Core.Path.{_≡_, refl, sym, ap, _∙_, subst}
-use mathlib.Core.Bool.{Bool, true, false, _&&_, _||_, cond, true≢false}
+use mathlib.Core.Bool.{Bool, true, false, _||_, cond, true≢false}
 use mathlib.Core.List.{List}
-use Prim.Native.Nat.{ℕ, zero, suc, _+_, _*_, _-_, _/_, _%_, _≤_, _<_, min}
+use Prim.Native.Nat.{ℕ, zero, _+_, _*_, _-_, _/_, _%_, _≤_, _<_}
 use native.Mathlib.Nat.{mul-assoc, add-assoc, add-sub-cancel-left, div-lt-iff-lt-mul, div-add-mod', mod-lt}
 use native.Mathlib.Omega.{arith}
-use borrow.Author.Tests.{le-leb, eq-eqb, lt-ltb, eqb-true, ltb-true}
-use lib.Dec.{T, leb, eqb, ltb}
+use borrow.Author.Tests.{eq-eqb, lt-ltb, eqb-true, ltb-true}
+use lib.Dec.{T, eqb, ltb}
 use lib.ListN.{length, getD}
 use lib.Ieee.{Float, nan, binary32, fits, toBits, ofBits}
 use lib.Ieee.Bits.{ofBits-toBits}
-use Rattle.buffers.specs.Rows.{tab, rows, all}
+use Rattle.buffers.specs.Rows.{rows, all}
 use Rattle.buffers.proofs.Lists.{fit, and-both, and-left, and-right, all-of, all-at, rows-ext, tab-ext}
 use Rattle.picture_limits.specs.declared.PictureSettings.{PictureSettings}
-use Rattle.picture_limits.specs.declared.Refusal.{Refusal}
 use Rattle.picture_restore.specs.declared.Restored.{Restored}
 use Rattle.picture_limits.specs.Shape.{gridAllowed}
 use Rattle.picture_limits.specs.Places.{patchFloats, picture, samplePlace}
@@ -22,7 +21,7 @@ use Rattle.picture_limits.proofs.Places.{patch-in, place-in-patch, place-of, pi
 use Rattle.picture_limits.proofs.Sides.{allowed-says}
 use Rattle.picture_samples.specs.Samples.{channelsAllowed, value, byteOf, valueOf, patternOf}
 use Rattle.picture_samples.proofs.Channels.{value-is}
-use Rattle.picture_samples.proofs.Finds.{Distinct, byte-back, pattern-back}
+use Rattle.picture_samples.proofs.Finds.{byte-back, pattern-back}
 use Rattle.picture_resize.specs.Resize.{pixel}
 use Rattle.buffers.specs.Lent.{Bytes}
 use Rattle.buffers.proofs.Bytes.{bytes-tab, bytes-rows}
@@ -36,12 +35,12 @@ use Rattle.picture.proofs.Places.{sample-at, patches-self}
 use Rattle.picture.specs.Undo.{Asked}
 use Rattle.picture.proofs.Given.{Table, samples, bytes-of}
 use Rattle.picture.proofs.Undo.{decides}
-use Rattle.picture_tiles.specs.Cut.{Ready, tileSide, tiles, top, left, ownHeight, ownWidth, tileHeight, tileWidth, gridH, gridW}
+use Rattle.picture_tiles.specs.Cut.{Ready, tiles, top, left, ownHeight, ownWidth, tileHeight, tileWidth, gridH, gridW}
 use Rattle.picture_tiles.specs.Tile.{owns, tileAt, tileBytes, tilePatches, foundAt, padded, tileKnown}
 use Rattle.picture_tiles.specs.Join.{putTiles, Has}
 use Rattle.picture_tiles.specs.Undo.{Source}
-use Rattle.picture_tiles.proofs.Cuts.{factor, Along, Tiled, tiled}
-use Rattle.picture_tiles.proofs.Joins.{length-tile, joined}
+use Rattle.picture_tiles.proofs.Cuts.{factor, tiled}
+use Rattle.picture_tiles.proofs.Joins.{joined}
 
 -- ---- the bytes of a tile are bytes, and 0 where they are not the sweep's
 pub tile-below : (s : PictureSettings) (rgb : List ℕ) (h w i : ℕ) → Bytes rgb → (y x c : ℕ) → tileAt s rgb h w i y x c < 256

@@ -1,8 +1,8 @@
 -- Laws of the cut: the sides of a tile and its grid, and that every place of the sweep lies in exactly one tile, at one
 -- place in it. Assumes nothing.
-use mathlib.Core.Path.{_≡_, refl, sym, ap, _∙_}
+use mathlib.Core.Path.{_≡_, sym, ap, _∙_}
 use mathlib.Core.Bool.{true}
-use Prim.Native.Nat.{ℕ, zero, suc, _+_, _*_, _-_, _/_, _%_, _≤_, _<_, min}
+use Prim.Native.Nat.{ℕ, zero, suc, _+_, _*_, _-_, _/_, _%_, _≤_, _<_}
 use native.Mathlib.Nat.{mul-comm, mul-assoc, mul-pos, mul-zero, mul-le-mul-right, mul-div-cancel, mul-mod-left, le-div-iff-mul-le, div-lt-iff-lt-mul, div-mul-le-self, div-add-mod', mod-lt}
 use native.Mathlib.Omega.{arith}
 use borrow.Author.Tests.{le-leb, eq-eqb}
@@ -13,9 +13,9 @@ use Rattle.picture_limits.specs.Settings.{allowed, align}
 use Rattle.picture_limits.specs.Shape.{most, gridAllowed}
 use Rattle.picture_limits.proofs.Places.{times, quotient, remainder}
 use Rattle.picture_limits.proofs.Sides.{allowed-says}
-use Rattle.picture_tiles.specs.Cut.{Ready, pieces, own, up, tileSide, down, across, tiles, top, left, ownHeight, ownWidth, tileHeight, tileWidth, gridH, gridW}
+use Rattle.picture_tiles.specs.Cut.{Ready, pieces, own, up, tileSide, down, across, tiles}
 use Rattle.picture_tiles.specs.Undo.{Lies}
-use Rattle.picture_tiles.proofs.Pieces.{own-low, own-high, own-ends, own-none, covered, once, up-covers, up-low, up-high}
+use Rattle.picture_tiles.proofs.Pieces.{own-low, own-high, own-ends, covered, once, up-covers, up-low, up-high}
 
 pub align-low : (s : PictureSettings) → allowed s ≡ true → 1 ≤ align s
 align-low s a = let o = allowed-says s a in mul-pos (o .patch-low) (o .merge-low)

@@ -1,9 +1,9 @@
 -- Joining: what one tile writes, and that the sweep's own tiles, joined in any order and however often, give the sweep.
 -- Assumes nothing.
 use mathlib.Core.Path.{_≡_, refl, sym, ap, _∙_, subst}
-use mathlib.Core.Bool.{Bool, true, false, _&&_, cond}
+use mathlib.Core.Bool.{Bool, true, false}
 use mathlib.Core.List.{List, [], _∷_}
-use Prim.Native.Nat.{ℕ, zero, suc, _+_, _*_, _-_, _/_, _%_, _≤_, _<_, min}
+use Prim.Native.Nat.{ℕ, _+_, _*_, _-_, _/_, _%_, _≤_, _<_}
 use native.Mathlib.Nat.{mul-assoc, div-add-mod', mod-lt, div-lt-iff-lt-mul, le-div-iff-mul-le}
 use native.Mathlib.Omega.{arith}
 use native.Mathlib.Decide.{decLt}
@@ -11,17 +11,16 @@ use borrow.Author.Tests.{eqb-true, eqb-false, lt-ltb}
 use lib.Dec.{eqb}
 use lib.ListN.{length, getD}
 use lib.Seq.{ext-getD}
-use Rattle.buffers.specs.Region.{region}
 use Rattle.buffers.specs.inner.Apart.{Apart, before, after}
 use Rattle.buffers.proofs.Regions.{length-region, getD-region}
 use Rattle.buffers.proofs.Lists.{fit}
 use Rattle.buffers.proofs.Puts.{length-puts, puts-keep, puts-at}
 use Rattle.picture_limits.specs.declared.PictureSettings.{PictureSettings}
 use Rattle.picture_limits.proofs.Places.{length-picture, picture-at}
-use Rattle.picture_tiles.specs.Cut.{Ready, tileSide, down, across, tiles, top, left, ownHeight, ownWidth, tileHeight, tileWidth}
+use Rattle.picture_tiles.specs.Cut.{Ready, tileSide, across, tiles, top, left, ownHeight, ownWidth, tileHeight, tileWidth}
 use Rattle.picture_resize.specs.Resize.{pixel}
 use Rattle.picture_patches.specs.Viewed.{viewAt}
-use Rattle.picture_tiles.specs.Tile.{owns, tileAt, tileBytes}
+use Rattle.picture_tiles.specs.Tile.{tileAt, tileBytes}
 use Rattle.picture_tiles.specs.Join.{rowPlace, ownRow, putTile, putTiles, Has, here, there}
 use Rattle.picture_tiles.proofs.Pieces.{is-piece, own-none}
 use Rattle.picture_tiles.specs.Undo.{Lies}

@@ -1,47 +1,43 @@
 -- The five statements of specs/Undo.antt, and that no pixel is seen. Assumes nothing.
 use mathlib.Core.Path.{_≡_, refl, sym, ap, _∙_}
-use mathlib.Core.Bool.{Bool, true, false, _&&_, cond, true≢false}
+use mathlib.Core.Bool.{Bool, true, false}
 use mathlib.Core.List.{List, [], _∷_}
-use Prim.Native.Nat.{ℕ, _+_, _*_, _/_, _%_, _≤_, _<_}
-use native.Mathlib.Nat.{mul-assoc, le-div-iff-mul-le}
+use Prim.Native.Nat.{ℕ, _*_, _/_, _%_, _≤_, _<_}
+use native.Mathlib.Nat.{le-div-iff-mul-le}
 use native.Mathlib.Omega.{arith}
 use native.Mathlib.Decide.{decLt}
 use borrow.Author.Tests.{leb-true, eqb-true, ltb-true, le-leb, le-ltb, eq-eqb}
-use lib.Dec.{leb, eqb, ltb}
-use lib.ListN.{length, getD, take}
+use lib.Dec.{leb, eqb}
+use lib.ListN.{length}
 use lib.Seq.{take-at}
 use lib.Ieee.{Float, nan}
-use Rattle.buffers.specs.Region.{over, putRows}
-use Rattle.buffers.specs.Lent.{Bytes, Floats}
-use Rattle.buffers.proofs.Lists.{and-both}
+use Rattle.buffers.specs.Region.{putRows}
+use Rattle.buffers.specs.Lent.{Bytes}
 use Rattle.buffers.proofs.Puts.{length-puts}
 use Rattle.picture_limits.specs.declared.PictureSettings.{PictureSettings}
 use Rattle.picture_limits.specs.declared.Refusal.{Refusal}
 use Rattle.picture_limits.specs.declared.Refusal.the-variants.{Setting, Side, RgbLength, ImageSize, Output, Sample, Channel, Tile}
-use Rattle.picture_limits.specs.Refusal.{unless}
 use Rattle.picture_limits.specs.Settings.{allowed, sided, align}
-use Rattle.picture_limits.specs.Shape.{gridAllowed, shaped}
-use Rattle.picture_limits.specs.Places.{patchFloats, samplePlace}
+use Rattle.picture_limits.specs.Shape.{shaped}
 use Rattle.picture_limits.proofs.Sides.{allowed-says, sided-says}
 use Rattle.picture_limits.proofs.Refusals.{passed}
 use Rattle.picture_samples.specs.Samples.{channelsAllowed, value, valueOf, patternOf}
 use Rattle.picture_samples.proofs.Channels.{value-is}
 use Rattle.picture_resize.specs.Resize.{pixel}
-use Rattle.picture_patches.specs.Viewed.{viewAt}
 use Rattle.picture_restore.specs.Restore.{bytesOf}
 use Rattle.picture.proofs.Places.{sample-at}
 use Rattle.picture.proofs.Given.{samples}
 use Rattle.picture_tiles.specs.declared.Tiled as D
-use Rattle.picture_tiles.specs.Cut.{Ready, tileSide, down, across, tiles, inCut, ownHeight, ownWidth, tileHeight, tileWidth, gridH, gridW}
-use Rattle.picture_tiles.specs.Tile.{owns, tileAt, tileBytes, tilePatches, tileKnown}
+use Rattle.picture_tiles.specs.Cut.{Ready, tileSide, down, across, tiles, inCut, ownHeight, gridH, gridW}
+use Rattle.picture_tiles.specs.Tile.{tileAt, tilePatches, tileKnown}
 use Rattle.picture_tiles.specs.Join.{rowPlace, ownRow, putTile, putTiles}
-use Rattle.picture_tiles.specs.Answer.{tileFloats, tileOf, tiled, patchesOut, untiled, bytesOut}
-use Rattle.picture_tiles.specs.Undo.{Once, patchesAt, Undo, restoredAll, Join, Given, Source, Eight, Forwarded}
+use Rattle.picture_tiles.specs.Answer.{tileFloats, tileOf, tiled, untiled, bytesOut}
+use Rattle.picture_tiles.specs.Undo.{Once, patchesAt, Undo, restoredAll, Join, Given, Eight, Forwarded}
 use Rattle.picture_tiles.proofs.Pieces.{own-none}
 use Rattle.picture_tiles.proofs.Cuts as C
 use Rattle.picture_tiles.proofs.Joins.{tile-own}
 use Rattle.picture_tiles.proofs.Backs.{length-tile-patches, tile-back, tile-seen, exact, restores, joined-restored}
-use Rattle.picture_tiles.proofs.Answers.{Taken, taken, given}
+use Rattle.picture_tiles.proofs.Answers.{Taken, given}
 
 -- ---- 1
 pub once : Once

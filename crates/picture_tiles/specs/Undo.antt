@@ -1,7 +1,7 @@
 -- Nothing of a sweep is lost in its tiles: every sample lies in one of them, and the tiles give the sweep back. Five statements;
 -- proofs/Undo.antt proves them. Assumes nothing.
 use mathlib.Core.Path.{_≡_}
-use mathlib.Core.Bool.{Bool, true}
+use mathlib.Core.Bool.{true}
 use mathlib.Core.List.{List, [], _∷_}
 use Prim.Native.Nat.{ℕ, _+_, _*_, _≤_, _<_}
 use lib.ListN.{length, getD, take}

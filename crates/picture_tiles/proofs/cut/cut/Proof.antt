@@ -1,14 +1,12 @@
 -- `picture_tiles::cut::cut` meets its contract. Assumes nothing.
 use mathlib.Core.Path.{_≡_, sym, _∙_}
 use mathlib.Core.Bool.{true}
-use Prim.Native.Nat.{ℕ, _+_, _*_, _/_, _≤_, _<_}
 use native.Mathlib.Omega.{arith}
 use borrow.Author.Needs.{needs}
 use borrow.Author.Tests.{not-true, not-false, le-leb, lt-leb}
-use Rattle.picture_limits.specs.declared.PictureSettings.{PictureSettings}
-use Rattle.picture_limits.specs.Settings.{allowed, sided, align}
+use Rattle.picture_limits.specs.Settings.{allowed, sided}
 use Rattle.picture_limits.proofs.Places.{times}
-use Rattle.picture_limits.proofs.Sides.{allowed-says, sided-says}
+use Rattle.picture_limits.proofs.Sides.{allowed-says}
 use Rattle.picture_samples.specs.Samples.{channelsAllowed, valueOf}
 use Rattle.picture_samples.proofs.Channels.{allowed-of}
 use Rattle.picture_tiles.specs.Cut.{Ready}

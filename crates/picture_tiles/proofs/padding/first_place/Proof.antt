@@ -1,6 +1,6 @@
 -- `picture_tiles::padding::first_place` meets its contract. Assumes nothing.
 use Prim.Native.Nat.{ℕ, _+_, _*_, _/_, _%_, _≤_, _<_}
-use native.Mathlib.Nat.{div-mul-le-self, mul-le-mul-left, mod-lt}
+use native.Mathlib.Nat.{div-mul-le-self, mul-le-mul-left}
 use native.Mathlib.Omega.{arith}
 use borrow.Author.Needs.{needs}
 use Rattle.picture_limits.proofs.Places.{times, square, place-in-patch}

@@ -1,16 +1,16 @@
 -- `picture_tiles::padding::zero_row` meets its contract. The invariant: the pixels passed behind the view's are byte 0's. Assumes nothing.
 use mathlib.Core.Path.{_≡_, sym, ap, _∙_}
 use mathlib.Core.Bool.{true}
-use Prim.Native.Nat.{ℕ, _+_, _*_, _-_, _/_, _≤_, _<_}
+use Prim.Native.Nat.{ℕ, _+_, _*_, _-_, _≤_, _<_}
 use native.Mathlib.Omega.{arith}
 use native.Mathlib.Decide.{decLt}
 use borrow.Author.Needs.{needs}
 use borrow.Author.Tests.{not-true, not-false}
 use lib.ListN.{length}
-use Rattle.picture_limits.specs.Places.{patchFloats, samplePlace}
+use Rattle.picture_limits.specs.Places.{samplePlace}
 use Rattle.picture_limits.proofs.Places.{square, times}
 use Rattle.picture_samples.specs.Samples.{entry}
-use Rattle.picture_tiles.specs.inner.Padding.{ownColumns, zeroPixel}
+use Rattle.picture_tiles.specs.inner.Padding.{zeroPixel}
 use Rattle.picture_tiles.proofs.Paddings.{pixel-in, zero-is, own-le, row-passes, row-fails}
 use Rattle.picture_tiles.proofs.padding.zero_row.Statement.{statement}
 use Rattle.picture_tiles.proofs.padding.zero_row.Tie as tie

@@ -1,12 +1,11 @@
 -- `picture_tiles::padding::zero_rows` meets its contract. The invariant: the rows passed have the padding asked for. Assumes nothing.
 use mathlib.Core.Path.{_≡_, sym, ap, _∙_}
 use mathlib.Core.Bool.{true}
-use Prim.Native.Nat.{ℕ, _+_, _*_, _-_, _/_, _≤_, _<_}
+use Prim.Native.Nat.{ℕ, _*_, _-_, _/_, _≤_, _<_}
 use native.Mathlib.Nat.{div-lt-iff-lt-mul, mul-le-mul-right}
 use native.Mathlib.Omega.{arith}
 use borrow.Author.Needs.{needs}
 use borrow.Author.Tests.{not-true, not-false}
-use lib.ListN.{length}
 use Rattle.buffers.specs.Rows.{all}
 use Rattle.buffers.proofs.Lists.{fit, all-step, all-fails}
 use Rattle.picture_limits.specs.Places.{patchFloats}

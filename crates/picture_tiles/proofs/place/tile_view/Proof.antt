@@ -1,8 +1,8 @@
 -- `picture_tiles::place::tile_view` meets its contract. Assumes nothing.
-use Prim.Native.Nat.{ℕ, _+_, _*_, _-_, _/_, _%_, _≤_, _<_}
+use Prim.Native.Nat.{_<_}
 use native.Mathlib.Omega.{arith}
 use borrow.Author.Needs.{needs}
-use Rattle.picture_tiles.specs.Cut.{tileSide, across, top, left, ownHeight, ownWidth}
+use Rattle.picture_tiles.specs.Cut.{across}
 use Rattle.picture_tiles.proofs.Cuts.{factor}
 use Rattle.picture_tiles.proofs.Bounds.{Bounds, bounds, Inside, inside-of}
 use Rattle.picture_tiles.proofs.place.tile_view.Statement.{statement}

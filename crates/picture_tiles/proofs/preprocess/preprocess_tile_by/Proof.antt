@@ -1,7 +1,7 @@
 -- `picture_tiles::preprocess::preprocess_tile_by` meets its contract. Assumes nothing.
 use mathlib.Core.Path.{_≡_, refl, sym, ap, _∙_}
 use mathlib.Core.Bool.{true, false}
-use Prim.Native.Nat.{ℕ, _+_, _*_, _/_, _≤_, _<_}
+use Prim.Native.Nat.{_*_, _/_, _≤_}
 use native.Mathlib.Omega.{arith}
 use borrow.Author.Needs.{needs}
 use borrow.Author.Tests.{not-true, not-false, eq-eqb, ne-eqb, le-leb, lt-leb, ltb-true}
@@ -14,7 +14,6 @@ use Rattle.picture_limits.proofs.Sides.{allowed-says, sided-says}
 use Rattle.picture_samples.specs.Samples.{channelsAllowed, valueOf}
 use Rattle.picture_samples.proofs.Channels.{allowed-of}
 use Rattle.picture_tiles.specs.Cut.{Ready, up, inCut, gridH, gridW}
-use Rattle.picture_tiles.specs.Tile.{tileView}
 use Rattle.picture_tiles.specs.Answer.{tileFloats, tiled}
 use Rattle.picture_tiles.proofs.Bounds.{Inside, inside-of}
 use Rattle.picture_tiles.proofs.Answers.{Taken, taken, tile-wrote}

@@ -1,7 +1,7 @@
 -- `picture_tiles::restore::restore_tile_by` meets its contract. Assumes nothing.
 use mathlib.Core.Path.{_≡_, refl, sym, ap, _∙_}
 use mathlib.Core.Bool.{Bool, true, false, _&&_, cond}
-use Prim.Native.Nat.{ℕ, _+_, _*_, _/_, _≤_, _<_}
+use Prim.Native.Nat.{_*_, _/_, _≤_}
 use native.Mathlib.Omega.{arith}
 use borrow.Author.Needs.{needs}
 use borrow.Author.Tests.{not-true, not-false, eq-eqb, ne-eqb, le-leb, lt-leb, ltb-true}
@@ -14,10 +14,9 @@ use Rattle.picture_limits.proofs.Sides.{allowed-says, sided-says}
 use Rattle.picture_samples.specs.Samples.{channelsAllowed, valueOf, patternOf, entry}
 use Rattle.picture_samples.proofs.Channels.{allowed-of}
 use Rattle.picture_restore.specs.Restore.{known}
-use Rattle.picture_restore.specs.View.{viewBack, viewOut}
+use Rattle.picture_restore.specs.View.{viewOut}
 use Rattle.picture_tiles.specs.Cut.{Ready, up, inCut, gridH, gridW}
-use Rattle.picture_tiles.specs.Tile.{tileView, padded, tileKnown}
-use Rattle.picture_tiles.specs.inner.Padding.{zeroRows}
+use Rattle.picture_tiles.specs.Tile.{padded, tileKnown}
 use Rattle.picture_limits.specs.declared.Refusal.the-variants.{Sample}
 use Rattle.picture_tiles.specs.declared.Tiled as D
 use Rattle.picture_tiles.specs.Answer.{tileFloats, tileOf, untiled, bytesOut}
