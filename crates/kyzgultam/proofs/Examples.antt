@@ -18,6 +18,12 @@ use Rattle.picture_samples.proofs.Table.{own-allowed}
 use Rattle.picture_limits.specs.Sides.{kept, side, thOf, twOf}
 use Rattle.picture_resize.specs.Resize.{whole, near, blend, toByte, mix}
 use Rattle.picture.specs.Preprocess.{preprocessed, resizedBytes}
+use Rattle.picture_limits.specs.declared.Refusal.{Refusal}
+use Rattle.picture_patches.specs.Viewed.{viewAt}
+use Rattle.picture_tiles.specs.declared.Cutting.{Cutting}
+use Rattle.picture_tiles.specs.declared.Tiled.{Tiled}
+use Rattle.picture_tiles.specs.Tile.{tileBytes}
+use Rattle.picture_tiles.specs.Answer.{cutOf, tiled}
 use Rattle.encoder_stages.specs.Merge.{mergeOf}
 
 -- ---- bf16, half, E, root
@@ -119,6 +125,71 @@ pub narrower : resizedBytes (vision 1 2 2) (10 ∷ 10 ∷ 10 ∷ 20 ∷ 20 ∷ 2
     ≡ rows 2 (λ y. 10 ∷ 10 ∷ 10 ∷ 30 ∷ 30 ∷ 30 ∷ [])
 unfolding rows tab kept side near mix toByte blend whole add sub mul div lt ofInt ofBits toUnsigned
 narrower = refl
+
+-- ---- tiles: side, tiles down and across; a tile's grid, floats, first row and column, own rows and columns
+
+-- 1540 × 1540, exactly s: one tile, all of it its own
+pub exact-cut : cutOf (vision 14 2 1540) 1540 1540 ≡ Cutting.Tiles 1540 1 1
+unfolding cutOf allowed
+exact-cut = rw own-allowed refl
+
+pub exact-tile : tiled (vision 14 2 1540) (1540 * 1540 * 3) 1540 1540 0 7114800 ≡ Tiled.Tile 110 110 7114800 0 0 1540 1540
+unfolding tiled allowed
+exact-tile = rw own-allowed refl
+
+-- 1541 × 1540, s + 1: a second tile, of one row padded to 28
+pub one-more-cut : cutOf (vision 14 2 1540) 1541 1540 ≡ Cutting.Tiles 1540 2 1
+unfolding cutOf allowed
+one-more-cut = rw own-allowed refl
+
+pub one-more-tile : tiled (vision 14 2 1540) (1541 * 1540 * 3) 1541 1540 1 129360 ≡ Tiled.Tile 2 110 129360 1540 0 1 1540
+unfolding tiled allowed
+one-more-tile = rw own-allowed refl
+
+-- 1 × 1: one tile, padded to 28 × 28
+pub one-pixel-tile : tiled (vision 14 2 1540) 3 1 1 0 2352 ≡ Tiled.Tile 2 2 2352 0 0 1 1
+unfolding tiled allowed
+one-pixel-tile = rw own-allowed refl
+
+-- 8192 × 8192 with the largest image size: s is 2044; the last of 25 tiles has 16 × 16; one more is 20, before 5
+pub largest-cut : cutOf (vision 14 2 2048) 8192 8192 ≡ Cutting.Tiles 2044 5 5
+unfolding cutOf allowed
+largest-cut = rw own-allowed refl
+
+pub largest-last : tiled (vision 14 2 2048) (8192 * 8192 * 3) 8192 8192 24 2352 ≡ Tiled.Tile 2 2 2352 8176 8176 16 16
+unfolding tiled allowed
+largest-last = rw own-allowed refl
+
+pub largest-past : tiled (vision 14 2 2048) (8192 * 8192 * 3) 8192 8192 25 0 ≡ Tiled.Refused Refusal.Tile
+unfolding tiled allowed
+largest-past = rw own-allowed refl
+
+-- and with the smallest, 28: 293 × 293 tiles; of 1, with patch 1 and merge 1, a tile for each pixel
+pub smallest-cut : cutOf (vision 14 2 28) 8192 8192 ≡ Cutting.Tiles 28 293 293
+unfolding cutOf allowed
+smallest-cut = rw own-allowed refl
+
+pub smallest-last : tiled (vision 14 2 28) (8192 * 8192 * 3) 8192 8192 85848 2352 ≡ Tiled.Tile 2 2 2352 8176 8176 16 16
+unfolding tiled allowed
+smallest-last = rw own-allowed refl
+
+pub pixel-last : tiled (vision 1 1 1) (8192 * 8192 * 3) 8192 8192 67108863 3 ≡ Tiled.Tile 1 1 3 8191 8191 1 1
+unfolding tiled allowed
+pixel-last = rw own-allowed refl
+
+pub pixel-past : tiled (vision 1 1 1) (8192 * 8192 * 3) 8192 8192 67108864 3 ≡ Tiled.Refused Refusal.Tile
+unfolding tiled allowed
+pixel-past = rw own-allowed refl
+
+-- image 27 is below patch × merge
+pub no-tile : cutOf (vision 14 2 27) 1 1 ≡ Cutting.Refused Refusal.ImageSize
+unfolding cutOf allowed
+no-tile = rw own-allowed refl
+
+-- one row 10, 20, 30, patch 1, merge 2, image 2: the second tile is padded right and below
+pub second-tile : tileBytes (vision 1 2 2) (10 ∷ 10 ∷ 10 ∷ 20 ∷ 20 ∷ 20 ∷ 30 ∷ 30 ∷ 30 ∷ []) 1 3 1 ≡ 30 ∷ 30 ∷ 30 ∷ 0 ∷ 0 ∷ 0 ∷ 0 ∷ 0 ∷ 0 ∷ 0 ∷ 0 ∷ 0 ∷ []
+unfolding viewAt rows tab
+second-tile = refl
 
 -- ---- the spatial merge
 

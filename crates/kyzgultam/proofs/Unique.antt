@@ -6,7 +6,8 @@ use lib.ListN.{length}
 use lib.Ieee.{Float}
 use Rattle.picture.specs.Preprocess.{preprocessed, patchesOut}
 use Rattle.picture_restore.specs.Restore.{restored, bytesOut}
-use Rattle.kyzgultam.specs.Face.{inner, innerEncoder, preprocessReport, restoreReport, forwardReport, lengthsReport, placeOf}
+use Rattle.picture_tiles.specs.Answer as Tile
+use Rattle.kyzgultam.specs.Face.{inner, innerEncoder, preprocessReport, restoreReport, cutReport, tileReport, forwardReport, lengthsReport, placeOf}
 use Rattle.encoder_settings.specs.Lengths.{neededOf}
 use Rattle.encoder.specs.Forward.{encodedOf, outOf, scratchOf}
 use Rattle.kyzgultam.specs.declared.EncoderSettings.{EncoderSettings}
@@ -16,6 +17,8 @@ use Rattle.kyzgultam.specs.declared.PatchPlace.{PatchPlace}
 use Rattle.kyzgultam.specs.declared.PictureSettings.{PictureSettings}
 use Rattle.kyzgultam.specs.declared.PreprocessReport.{PreprocessReport}
 use Rattle.kyzgultam.specs.declared.RestoreReport.{RestoreReport}
+use Rattle.kyzgultam.specs.declared.tiles.CutReport.{CutReport}
+use Rattle.kyzgultam.specs.declared.tiles.TileReport.{TileReport}
 use Rattle.number_floats.proofs.Unique.{one}
 
 abbrev pub Preprocesses : PictureSettings → List ℕ → ℕ → ℕ → List Float → PreprocessReport → List Float → Type 0
@@ -35,6 +38,27 @@ Restores s patches gh gw out r out′ =
 pub kz-restore-unique : (s : PictureSettings) (patches : List Float) (gh gw : ℕ) (out : List ℕ) (r r′ : RestoreReport) (out′ out″ : List ℕ)
     → Restores s patches gh gw out r out′ → Restores s patches gh gw out r′ out″ → (r ≡ r′) × (out′ ≡ out″)
 kz-restore-unique s patches gh gw out r r′ out′ out″ a b = (one _ (a .0) (b .0), one _ (a .1) (b .1))
+
+pub kz-cut-unique : (s : PictureSettings) (height width : ℕ) (r r′ : CutReport) → r ≡ cutReport (Tile.cutOf (inner s) height width) → r′ ≡ cutReport (Tile.cutOf (inner s) height width) → r ≡ r′
+kz-cut-unique s height width r r′ = one _
+
+abbrev pub PreprocessesTile : PictureSettings → List ℕ → ℕ → ℕ → ℕ → List Float → TileReport → List Float → Type 0
+PreprocessesTile s rgb height width index out r out′ =
+    (r ≡ tileReport (Tile.tiled (inner s) (length rgb) height width index (length out)))
+    × (out′ ≡ Tile.patchesOut (inner s) rgb height width index out)
+
+pub kz-preprocess-tile-unique : (s : PictureSettings) (rgb : List ℕ) (height width index : ℕ) (out : List Float) (r r′ : TileReport) (out′ out″ : List Float)
+    → PreprocessesTile s rgb height width index out r out′ → PreprocessesTile s rgb height width index out r′ out″ → (r ≡ r′) × (out′ ≡ out″)
+kz-preprocess-tile-unique s rgb height width index out r r′ out′ out″ a b = (one _ (a .0) (b .0), one _ (a .1) (b .1))
+
+abbrev pub RestoresTile : PictureSettings → List Float → ℕ → ℕ → ℕ → List ℕ → TileReport → List ℕ → Type 0
+RestoresTile s patches height width index out r out′ =
+    (r ≡ tileReport (Tile.untiled (inner s) patches height width index (length out)))
+    × (out′ ≡ Tile.bytesOut (inner s) patches height width index out)
+
+pub kz-restore-tile-unique : (s : PictureSettings) (patches : List Float) (height width index : ℕ) (out : List ℕ) (r r′ : TileReport) (out′ out″ : List ℕ)
+    → RestoresTile s patches height width index out r out′ → RestoresTile s patches height width index out r′ out″ → (r ≡ r′) × (out′ ≡ out″)
+kz-restore-tile-unique s patches height width index out r r′ out′ out″ a b = (one _ (a .0) (b .0), one _ (a .1) (b .1))
 
 pub kz-patch-unique : (patches : List Float) (p i : ℕ) (r r′ : PatchPlace) → r ≡ placeOf (length patches) p i → r′ ≡ placeOf (length patches) p i → r ≡ r′
 kz-patch-unique patches p i r r′ = one _

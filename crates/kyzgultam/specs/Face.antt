@@ -18,6 +18,11 @@ use Rattle.kyzgultam.specs.declared.PictureSettings as K
 use Rattle.kyzgultam.specs.declared.PreprocessReport.{PreprocessReport}
 use Rattle.kyzgultam.specs.declared.RestoreReport.{RestoreReport}
 use Rattle.kyzgultam.specs.declared.PatchPlace.{PatchPlace}
+use Rattle.picture_tiles.specs.declared.Cutting.{Cutting}
+use Rattle.picture_tiles.specs.declared.Tiled.{Tiled}
+use Rattle.picture_limits.specs.Refusal as R
+use Rattle.kyzgultam.specs.declared.tiles.CutReport.{CutReport}
+use Rattle.kyzgultam.specs.declared.tiles.TileReport.{TileReport}
 use Rattle.kyzgultam.specs.declared.EncoderSettings as KE
 use Rattle.kyzgultam.specs.declared.ForwardReport.{ForwardReport}
 use Rattle.kyzgultam.specs.declared.LengthsReport.{LengthsReport}
@@ -52,6 +57,14 @@ preprocessReport a = record { number = Pre.number a; «grid_h» = Pre.gridH a; �
 
 abbrev pub restoreReport : Restored → RestoreReport
 restoreReport a = record { number = Res.number a; height = Res.height a; width = Res.width a }
+
+abbrev pub cutReport : Cutting → CutReport
+cutReport (Cutting.Tiles t r c) = record { number = 0; side = t; rows = r; columns = c }
+cutReport (Cutting.Refused r) = record { number = R.number r; side = 0; rows = 0; columns = 0 }
+
+abbrev pub tileReport : Tiled → TileReport
+tileReport (Tiled.Tile gh gw n t l h w) = record { number = 0; «grid_h» = gh; «grid_w» = gw; floats = n; top = t; left = l; height = h; width = w }
+tileReport (Tiled.Refused r) = record { number = R.number r; «grid_h» = 0; «grid_w» = 0; floats = 0; top = 0; left = 0; height = 0; width = 0 }
 
 abbrev pub forwardReport : Encoded → ForwardReport
 forwardReport a = record { number = Fwd.number a; tokens = Fwd.tokens a }

@@ -1,5 +1,7 @@
-// The C face: thin functions over `picture` and `encoder`, with structs of their own, so that what users linked stays
+// The C face: thin functions over `picture`, `picture_tiles` and `encoder`, with structs of their own, so that what users linked stays
 // as it is when the settings inside grow.
+pub mod tiles;
+
 use encoder::Encoded;
 use encoder_settings::Needed;
 use picture::Preprocessed;
@@ -73,7 +75,7 @@ pub struct LengthsReport {
     pub out: usize,
 }
 
-fn settings(s: PictureSettings) -> picture_limits::PictureSettings
+pub(crate) fn settings(s: PictureSettings) -> picture_limits::PictureSettings
     ensures { λ r. ⌜ r ≡ inner s ⌝ }
 {
     let mean = s.mean;
