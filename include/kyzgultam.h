@@ -33,7 +33,8 @@ enum kz_number {
     KZ_TABLE_LENGTH = 10,  /* a rotary table's length is not P^2 * head_dim, P = image size / patch */
     KZ_SCRATCH = 11,       /* the scratch is shorter than kz_forward needs */
     KZ_NOT_FINITE = 12,    /* a value is not finite, in the inputs or at a stage */
-    KZ_CHANNEL = 19        /* a channel's mean and deviation are not allowed: what is stands with the fields */
+    KZ_CHANNEL = 19,       /* a channel's mean and deviation are not allowed: what is stands with the fields */
+    KZ_TILE = 20           /* a tile's index is outside the cut */
 };
 
 /*
@@ -92,6 +93,48 @@ struct kz_restore_report kz_restore(struct kz_picture_settings settings, const f
 
 /* Where patch i lies in the patches. */
 struct kz_patch_place kz_patch(const float *patches, size_t patches_len, size_t patch_size, size_t i);
+
+struct kz_cut_report {
+    uint32_t number;
+    size_t side;          /* of a whole tile, in pixels */
+    size_t rows, columns; /* how many tiles, down and across */
+};
+
+struct kz_tile_report {
+    uint32_t number;
+    size_t grid_h, grid_w;
+    size_t floats;                   /* in the tile's patches */
+    size_t top, left, height, width; /* where the tile's own pixels lie in the sweep; its padding is not among them */
+};
+
+/*
+ * How a sweep larger than the image size is cut into tiles, so that nothing of it is resized away. With A = patch *
+ * merge, the side s of a tile is the largest multiple of A not above the image size. The sweep is cut by row, the last
+ * tiles of a row and of a column smaller: height / s rows and width / s columns of tiles, both rounded up. Tile `index`
+ * stands in row index / columns and column index % columns. The resize rule has to be 1 or 2, and is not used.
+ * Refused with 1, 19, 2, 4.
+ */
+struct kz_cut_report kz_cut(struct kz_picture_settings settings, size_t height, size_t width);
+
+/*
+ * The patches of one tile: rgb, height and width are the whole sweep's. The tile is padded on the right and below with
+ * bytes of 0 to multiples of A, and not resized. Its patches are in the order of kz_preprocess, with the same samples,
+ * those of the padding too: grid_h * grid_w * 3 * patch^2 floats, which kz_forward takes. An output that is longer
+ * keeps its tail. Refused with 1, 19, 2, 3, 4, 20, 5.
+ */
+struct kz_tile_report kz_preprocess_tile(struct kz_picture_settings settings, const uint8_t *rgb, size_t rgb_len,
+                                         size_t height, size_t width, size_t index, float *out, size_t out_len);
+
+/*
+ * The tile's own bytes, back in their places of the sweep: height, width and out are the whole sweep's. Row y of the
+ * tile goes to ((top + y) * width + left) * 3, and every other byte of the output is as it was: all tiles, in any
+ * order, join to the sweep. The settings are to be those that the patches were made with; the resize rule may be the
+ * other. Refused with 1, 19, 2, 4, 20, 7, 5, 8: with 7 where the length is not that of the tile's floats, with 5 where
+ * the output is shorter than height * width * 3, with 8 exactly where no sweep of these sides gives these patches at
+ * this index, so also where a sample of the padding is not that of byte 0.
+ */
+struct kz_tile_report kz_restore_tile(struct kz_picture_settings settings, const float *patches, size_t patches_len,
+                                      size_t height, size_t width, size_t index, uint8_t *out, size_t out_len);
 
 struct kz_encoder_settings {
     struct kz_picture_settings picture;

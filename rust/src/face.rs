@@ -24,6 +24,26 @@ pub struct PatchPlace {
 }
 
 #[repr(C)]
+pub struct CutReport {
+    pub number: u32,
+    pub side: usize,
+    pub rows: usize,
+    pub columns: usize,
+}
+
+#[repr(C)]
+pub struct TileReport {
+    pub number: u32,
+    pub grid_h: usize,
+    pub grid_w: usize,
+    pub floats: usize,
+    pub top: usize,
+    pub left: usize,
+    pub height: usize,
+    pub width: usize,
+}
+
+#[repr(C)]
 pub struct ForwardReport {
     pub number: u32,
     pub tokens: usize,
@@ -61,6 +81,30 @@ extern "C" {
     ) -> RestoreReport;
 
     pub fn kz_patch(patches: *const f32, patches_len: usize, patch_size: usize, i: usize) -> PatchPlace;
+
+    pub fn kz_cut(settings: PictureSettings, height: usize, width: usize) -> CutReport;
+
+    pub fn kz_preprocess_tile(
+        settings: PictureSettings,
+        rgb: *const u8,
+        rgb_len: usize,
+        height: usize,
+        width: usize,
+        index: usize,
+        out: *mut f32,
+        out_len: usize,
+    ) -> TileReport;
+
+    pub fn kz_restore_tile(
+        settings: PictureSettings,
+        patches: *const f32,
+        patches_len: usize,
+        height: usize,
+        width: usize,
+        index: usize,
+        out: *mut u8,
+        out_len: usize,
+    ) -> TileReport;
 
     pub fn kz_forward(
         settings: EncoderSettings,

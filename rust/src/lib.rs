@@ -7,6 +7,9 @@
 //! that Rust takes for granted: rounding to nearest, and no flushing of subnormals. A C program that was linked with
 //! `-ffast-math` has another, in the Rust that it calls too.
 //!
+//! A picture larger than the image size is resized, or, where nothing may be lost, taken tile by tile: [`cut`],
+//! [`preprocess_tile`] and [`restore_tile`].
+//!
 //! ```
 //! use kyzgultam::{forward, pixtral_preprocess, restore, EncoderSettings, PictureSettings};
 //!
@@ -52,8 +55,10 @@ mod face;
 mod number;
 mod refusal;
 mod settings;
+mod tiles;
 
 pub use calls::{forward, patch, pixtral_preprocess, restore, Patches, Picture, PixtralEncoder};
 pub use number::{bf16, exp, half_to_f32, root, tanh};
 pub use refusal::Refusal;
 pub use settings::{EncoderSettings, Lengths, PictureSettings};
+pub use tiles::{cut, preprocess_tile, restore_tile, Cut, Tile};

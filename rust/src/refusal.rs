@@ -44,11 +44,13 @@ pub enum Refusal {
     /// 19: by its mean and deviation a channel's 256 samples are not all finite, or neither strictly rise nor strictly
     /// fall.
     Channel = 19,
+    /// 20: a tile's index is outside the cut.
+    Tile = 20,
 }
 
 impl Refusal {
     /// Every refusal, by number.
-    pub const ALL: [Refusal; 13] = [
+    pub const ALL: [Refusal; 14] = [
         Refusal::Setting,
         Refusal::Side,
         Refusal::RgbLength,
@@ -62,9 +64,10 @@ impl Refusal {
         Refusal::Scratch,
         Refusal::NotFinite,
         Refusal::Channel,
+        Refusal::Tile,
     ];
 
-    /// The number, the same as in C and in the documents: 1 to 12, and 19.
+    /// The number, the same as in C and in the documents: 1 to 12, 19 and 20.
     pub fn number(self) -> u32 {
         self as u32
     }
@@ -100,6 +103,7 @@ impl fmt::Display for Refusal {
             Refusal::Scratch => "the scratch is too short",
             Refusal::NotFinite => "a value is not finite, in the inputs or at a stage",
             Refusal::Channel => "a channel's samples are not all finite, or neither strictly rise nor strictly fall",
+            Refusal::Tile => "the tile's index is outside the cut of the sweep",
         })
     }
 }

@@ -1,4 +1,4 @@
-use crate::{face, Refusal};
+use crate::{face, Refusal, Tile};
 
 /// How a picture is resized and cut, and what its bytes become. The default is a Pixtral's: 14, 2 and 1540, with resize
 /// rule 1 and means and deviations that are the Rust's.
@@ -6,8 +6,8 @@ use crate::{face, Refusal};
 /// The sample of byte b in channel c (red, green, blue) is (b / 255 − `mean[c]`) / `deviation[c]` in f32, each
 /// operation rounded. A channel is allowed when its 256 samples are finite and strictly rise or strictly fall with b,
 /// compared as numbers: then no two bytes are alike. Where one is not,
-/// [`pixtral_preprocess`](crate::pixtral_preprocess) and [`restore`](crate::restore) are refused with 19; no other
-/// call, and no method here, reads the six numbers.
+/// [`pixtral_preprocess`](crate::pixtral_preprocess) and [`restore`](crate::restore) are refused with 19, and so are
+/// [`cut`](crate::cut) and the two calls of a tile; no other call, and no method here, reads the six numbers.
 ///
 /// ```
 /// # fn main() -> Result<(), kyzgultam::Refusal> {
@@ -43,7 +43,7 @@ pub struct PictureSettings {
     /// 1..2048.
     pub image_size: usize,
     /// 1 or 2: 1 cuts each side by itself, 2 keeps the shape of a long picture.
-    /// [`pixtral_preprocess`](crate::pixtral_preprocess) says how.
+    /// [`pixtral_preprocess`](crate::pixtral_preprocess) says how. Tiles are never resized.
     pub resize_rule: usize,
     /// By channel; allowed together with its deviation.
     pub mean: [f32; 3],
@@ -169,6 +169,41 @@ impl PictureSettings {
     pub fn patches_len(&self, height: usize, width: usize) -> Result<usize, Refusal> {
         let (grid_h, grid_w) = self.grid(height, width)?;
         self.restored_len(grid_h, grid_w)
+    }
+
+    /// A tile of a sweep of these sides, as [`preprocess_tile`](crate::preprocess_tile) and
+    /// [`restore_tile`](crate::restore_tile) report it. Refused with 1, 2, 4 or 20 and, as [`grid`](Self::grid), never
+    /// with 19.
+    ///
+    /// ```
+    /// # fn main() -> Result<(), kyzgultam::Refusal> {
+    /// let settings = kyzgultam::PictureSettings::new(14, 2, 1540);
+    /// let last = settings.tile(3000, 2000, 3)?;
+    /// assert_eq!((last.top, last.left, last.height, last.width), (1540, 1540, 1460, 460));
+    /// assert_eq!((last.grid_h, last.grid_w), (106, 34)); // padded to 1484 × 476
+    /// assert_eq!(settings.tile(3000, 2000, 4), Err(kyzgultam::Refusal::Tile));
+    /// # Ok(())
+    /// # }
+    /// ```
+    pub fn tile(&self, height: usize, width: usize, index: usize) -> Result<Tile, Refusal> {
+        // A sweep is cut alike with all means and deviations, so any that are allowed serve.
+        let PictureSettings { mean, deviation, .. } = PictureSettings::default();
+        let cut = crate::cut(height, width, &PictureSettings { mean, deviation, ..*self })?;
+        let (row, column) = (index / cut.columns, index % cut.columns);
+        if row >= cut.rows {
+            return Err(Refusal::Tile);
+        }
+        let (top, left) = (row * cut.side, column * cut.side);
+        let (height, width) = (cut.side.min(height - top), cut.side.min(width - left));
+        let patches = |side: usize| side.div_ceil(self.patch_size * self.spatial_merge_size) * self.spatial_merge_size;
+        let (grid_h, grid_w) = (patches(height), patches(width));
+        Ok(Tile { grid_h, grid_w, floats: self.restored_len(grid_h, grid_w)?, top, left, height, width })
+    }
+
+    /// How many floats [`preprocess_tile`](crate::preprocess_tile) writes for a tile of a sweep of these sides. Refused
+    /// with 1, 2, 4 or 20, as [`tile`](Self::tile) is.
+    pub fn tile_len(&self, height: usize, width: usize, index: usize) -> Result<usize, Refusal> {
+        Ok(self.tile(height, width, index)?.floats)
     }
 
     /// How many bytes [`restore`](crate::restore) writes for this grid, as many as there are floats in its patches.
