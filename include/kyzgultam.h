@@ -25,10 +25,10 @@ enum kz_number {
     KZ_SIDE = 2,           /* height or width is not in 1..8192 */
     KZ_RGB_LENGTH = 3,     /* the RGB length is not height * width * 3 */
     KZ_IMAGE_SIZE = 4,     /* the image size is below patch * merge */
-    KZ_OUTPUT = 5,         /* the output is shorter than the result */
+    KZ_OUTPUT = 5,         /* the output is shorter than the result; of kz_restore_tile, than the sweep */
     KZ_GRID = 6,           /* a grid side is 0, above image size / patch, or not divisible by merge */
     KZ_PATCHES_LENGTH = 7, /* the patches' length is not grid_h * grid_w * 3 * patch^2 */
-    KZ_SAMPLE = 8,         /* a sample has bits that no byte has in its channel */
+    KZ_SAMPLE = 8,         /* a sample has bits that no byte has in its channel; in a tile's padding, not byte 0's */
     KZ_WEIGHTS_LENGTH = 9, /* the weights' length is not that of the settings */
     KZ_TABLE_LENGTH = 10,  /* a rotary table's length is not P^2 * head_dim, P = image size / patch */
     KZ_SCRATCH = 11,       /* the scratch is shorter than kz_forward needs */

@@ -25,13 +25,13 @@ pub enum Refusal {
     RgbLength = 3,
     /// 4: the image size is below patch × merge.
     ImageSize = 4,
-    /// 5: the output is shorter than the result.
+    /// 5: the output is shorter than the result; of [`restore_tile`](crate::restore_tile), than the sweep.
     Output = 5,
     /// 6: a grid side is 0, above image size / patch, or not divisible by merge.
     Grid = 6,
-    /// 7: the patches' length does not fit the grid.
+    /// 7: the patches' length does not fit the grid, which of a tile is its own.
     PatchesLength = 7,
-    /// 8: a sample has bits that no byte has in its channel.
+    /// 8: a sample has bits that no byte has in its channel; in a tile's padding, not byte 0's.
     Sample = 8,
     /// 9: the weights' length is not that of the settings.
     WeightsLength = 9,
@@ -97,7 +97,7 @@ impl fmt::Display for Refusal {
             Refusal::Output => "the output is shorter than the result",
             Refusal::Grid => "a side of the grid is 0, above image size / patch, or not divisible by merge",
             Refusal::PatchesLength => "the patches' length is not grid_h × grid_w × 3 × patch²",
-            Refusal::Sample => "a sample has bits that no byte has in its channel",
+            Refusal::Sample => "a sample has bits that no byte has in its channel, or in a tile's padding not byte 0's",
             Refusal::WeightsLength => "the weights' length is not that of the settings",
             Refusal::TableLength => "a rotary table's length is not that of the settings",
             Refusal::Scratch => "the scratch is too short",
