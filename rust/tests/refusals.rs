@@ -4,7 +4,8 @@ mod common;
 
 use common::{allowed, same, Random};
 use kyzgultam::{
-    forward, pixtral_preprocess, restore, EncoderSettings, Patches, PictureSettings, PixtralEncoder, Refusal,
+    cut, forward, pixtral_preprocess, preprocess_tile, restore, restore_tile, EncoderSettings, Patches,
+    PictureSettings, PixtralEncoder, Refusal,
 };
 
 const PICTURE: PictureSettings = PictureSettings::new(2, 2, 8);
@@ -174,6 +175,125 @@ fn restore_refuses() {
     }
 }
 
+/// A call of a tile: `input` is the RGB or the patches, `out` the output's length.
+#[derive(Clone)]
+struct OfTile<T> {
+    settings: PictureSettings,
+    input: Vec<T>,
+    height: usize,
+    width: usize,
+    index: usize,
+    out: usize,
+}
+
+fn run_preprocess_tile(c: &OfTile<u8>) -> Result<(), Refusal> {
+    let marks = Random(7).floats(c.out, 1e9);
+    let mut out = marks.clone();
+    let found = preprocess_tile(&c.input, c.height, c.width, c.index, &c.settings, &mut out);
+    let floats = found.map_or(0, |tile| tile.floats);
+    assert!(same(&out[floats..], &marks[floats..]));
+    assert!(out[..floats].iter().all(|x| x.abs() < 3.0));
+    found.map(drop)
+}
+
+fn run_restore_tile(c: &OfTile<f32>) -> Result<(), Refusal> {
+    let marks = Random(7).bytes(c.out);
+    let mut out = marks.clone();
+    let found = restore_tile(&c.input, c.height, c.width, c.index, &c.settings, &mut out);
+    assert!(found.is_ok() || out == marks);
+    found.map(drop)
+}
+
+/// A sweep of 10 × 13 is cut into four tiles of at most 8 × 8. The last has 2 × 5 pixels, padded to 4 × 8.
+const LAST: usize = 4 * 8 * 3;
+
+fn good_preprocess_tile() -> OfTile<u8> {
+    let input = Random(3).bytes(10 * 13 * 3);
+    OfTile { settings: PICTURE, input, height: 10, width: 13, index: 3, out: LAST + 7 }
+}
+
+fn good_restore_tile() -> OfTile<f32> {
+    let OfTile { input: rgb, settings, height, width, index, .. } = good_preprocess_tile();
+    let mut input = vec![0.0; LAST];
+    preprocess_tile(&rgb, height, width, index, &settings, &mut input).unwrap();
+    OfTile { settings, input, height, width, index, out: rgb.len() + 5 }
+}
+
+#[test]
+fn tiles_refuse() {
+    let good = good_preprocess_tile();
+    let spoils: Spoils<OfTile<u8>> = vec![
+        (1, |c| c.settings.spatial_merge_size = 5),
+        (1, |c| c.settings.resize_rule = 3),
+        (19, |c| c.settings.deviation[0] = 0.0),
+        (2, |c| c.height = 8193),
+        (3, |c| c.input.push(0)),
+        (4, |c| c.settings.image_size = 3),
+        (20, |c| c.index = 4),
+        (5, |c| c.out = LAST - 1),
+    ];
+    each(&good, spoils, run_preprocess_tile);
+    let spoils: Spoils<OfTile<u8>> = vec![
+        (1, |c| c.settings.patch_size = 0),
+        (1, |c| c.settings.resize_rule = 0),
+        (19, |c| c.settings.mean[1] = f32::NAN),
+        (2, |c| c.width = 0),
+        (4, |c| c.settings.image_size = 3),
+    ];
+    each(&good, spoils, |c| cut(c.height, c.width, &c.settings).map(drop));
+    let back = good_restore_tile();
+    let spoils: Spoils<OfTile<f32>> = vec![
+        (1, |c| c.settings.patch_size = 33),
+        (1, |c| c.settings.resize_rule = 0),
+        (19, |c| c.settings.mean[2] = f32::INFINITY),
+        (2, |c| c.width = 8193),
+        (4, |c| c.settings.image_size = 3),
+        (20, |c| c.index = 4),
+        (7, |c| c.input.push(0.0)),
+        (5, |c| c.out = 10 * 13 * 3 - 1),
+        // The last sample is the padding's: blue of a byte that is not 0.
+        (8, |c| c.input[LAST - 1] = common::sample(1, c.settings.mean[2], c.settings.deviation[2])),
+    ];
+    each(&back, spoils, run_restore_tile);
+
+    for side in [0, 8193, usize::MAX] {
+        for (height, width) in [(side, 13), (10, side), (side, side)] {
+            assert_eq!(cut(height, width, &PICTURE), Err(Refusal::Side));
+            assert_eq!(PICTURE.tile(height, width, 0), Err(Refusal::Side));
+            assert_eq!(run_preprocess_tile(&OfTile { height, width, ..good.clone() }), Err(Refusal::Side));
+            assert_eq!(run_restore_tile(&OfTile { height, width, ..back.clone() }), Err(Refusal::Side));
+        }
+    }
+    for index in [4, 5, usize::MAX / 2, usize::MAX - 3, usize::MAX] {
+        assert_eq!(PICTURE.tile(10, 13, index), Err(Refusal::Tile));
+        assert_eq!(PICTURE.tile_len(10, 13, index), Err(Refusal::Tile));
+        assert_eq!(run_preprocess_tile(&OfTile { index, ..good.clone() }), Err(Refusal::Tile));
+        assert_eq!(run_restore_tile(&OfTile { index, ..back.clone() }), Err(Refusal::Tile));
+    }
+    for len in [0, 10 * 13 * 3 - 1, 10 * 13 * 3 + 1, 8 * 8 * 3] {
+        assert_eq!(run_preprocess_tile(&OfTile { input: vec![9; len], ..good.clone() }), Err(Refusal::RgbLength));
+    }
+    // The length of the tile's own pixels, that of a whole tile, and none.
+    for len in [0, LAST - 1, LAST + 1, 2 * 5 * 3, 8 * 8 * 3] {
+        let input = vec![back.input[0]; len];
+        assert_eq!(run_restore_tile(&OfTile { input, ..back.clone() }), Err(Refusal::PatchesLength), "{len}");
+    }
+    for out in [0, LAST - 1] {
+        assert_eq!(run_preprocess_tile(&OfTile { out, ..good.clone() }), Err(Refusal::Output));
+    }
+    // The output is the sweep's, though the tile's own bytes are 30.
+    for out in [0, 30, LAST, 10 * 13 * 3 - 1] {
+        assert_eq!(run_restore_tile(&OfTile { out, ..back.clone() }), Err(Refusal::Output));
+    }
+    for sample in [f32::NAN, f32::INFINITY, -0.0, back.input[0] + 1e-6] {
+        for place in [0, LAST - 1] {
+            let mut bad = back.clone();
+            bad.input[place] = sample;
+            assert_eq!(run_restore_tile(&bad), Err(Refusal::Sample), "{sample}");
+        }
+    }
+}
+
 /// Means and deviations by which a sample is not finite, or two bytes are alike.
 const REFUSED: [(f32, f32); 22] = [
     (f32::NAN, 0.25),
@@ -213,16 +333,28 @@ fn channels_are_refused() {
             for c in spoiled {
                 (settings.mean[*c], settings.deviation[*c]) = (mean, deviation);
             }
-            let (cut, back) = (Preprocess { settings, ..good_preprocess() }, Restore { settings, ..good_restore() });
-            assert_eq!(preprocess(&cut), Err(Refusal::Channel), "{settings:?}");
+            let (made, back) = (Preprocess { settings, ..good_preprocess() }, Restore { settings, ..good_restore() });
+            assert_eq!(preprocess(&made), Err(Refusal::Channel), "{settings:?}");
             assert_eq!(run_restore(&back), Err(Refusal::Channel), "{settings:?}");
             // 1 comes before, and what comes after does not count.
             let merged = PictureSettings { spatial_merge_size: 5, ..settings };
-            assert_eq!(preprocess(&Preprocess { settings: merged, ..cut.clone() }), Err(Refusal::Setting));
+            assert_eq!(preprocess(&Preprocess { settings: merged, ..made.clone() }), Err(Refusal::Setting));
             assert_eq!(run_restore(&Restore { settings: merged, ..back.clone() }), Err(Refusal::Setting));
-            assert_eq!(preprocess(&Preprocess { height: 0, rgb: vec![], out: 0, ..cut }), Err(Refusal::Channel));
+            assert_eq!(preprocess(&Preprocess { height: 0, rgb: vec![], out: 0, ..made }), Err(Refusal::Channel));
             let nothing = Restore { patches: vec![], grid: (0, usize::MAX), out: 0, ..back };
             assert_eq!(run_restore(&nothing), Err(Refusal::Channel));
+            // The same of a cut and of tiles; a tile's length hangs on neither.
+            for (height, width) in [(10, 13), (0, usize::MAX)] {
+                assert_eq!(cut(height, width, &settings), Err(Refusal::Channel), "{settings:?}");
+                assert_eq!(cut(height, width, &merged), Err(Refusal::Setting), "{settings:?}");
+                let there = OfTile { settings, height, width, ..good_preprocess_tile() };
+                let back = OfTile { settings, height, width, ..good_restore_tile() };
+                assert_eq!(run_preprocess_tile(&there), Err(Refusal::Channel), "{settings:?}");
+                assert_eq!(run_restore_tile(&back), Err(Refusal::Channel), "{settings:?}");
+                assert_eq!(run_preprocess_tile(&OfTile { settings: merged, ..there }), Err(Refusal::Setting));
+                assert_eq!(run_restore_tile(&OfTile { settings: merged, ..back }), Err(Refusal::Setting));
+                assert_eq!(settings.tile(height, width, 3), PICTURE.tile(height, width, 3));
+            }
         }
     }
 }
@@ -242,6 +374,11 @@ fn channels_are_allowed_as_defined() {
         let found = pixtral_preprocess(&[9; 4 * 8 * 3], 4, 8, &settings, &mut out);
         assert_eq!(found.err(), refused, "{settings:?}");
         let back = restore(&out, 2, 4, &settings, &mut [0; 4 * 8 * 3]);
+        assert_eq!(back.err(), refused, "{settings:?}");
+        assert_eq!(cut(4, 8, &settings).err(), refused, "{settings:?}");
+        let tile = preprocess_tile(&[9; 4 * 8 * 3], 4, 8, 0, &settings, &mut out);
+        assert_eq!(tile.err(), refused, "{settings:?}");
+        let back = restore_tile(&out, 4, 8, 0, &settings, &mut [0; 4 * 8 * 3]);
         assert_eq!(back.err(), refused, "{settings:?}");
         seen[usize::from(right)] += 1;
     }
@@ -353,6 +490,10 @@ fn settings_at_their_ends() {
             *field(&mut settings) = value;
             assert_eq!(preprocess(&Preprocess { settings, ..good_preprocess() }), Err(Refusal::Setting));
             assert_eq!(run_restore(&Restore { settings, ..good_restore() }), Err(Refusal::Setting));
+            assert_eq!(run_preprocess_tile(&OfTile { settings, ..good_preprocess_tile() }), Err(Refusal::Setting));
+            assert_eq!(run_restore_tile(&OfTile { settings, ..good_restore_tile() }), Err(Refusal::Setting));
+            assert_eq!(cut(1, 1, &settings), Err(Refusal::Setting));
+            assert_eq!(settings.tile(1, 1, 0), Err(Refusal::Setting));
             assert_eq!(settings.grid(1, 1), Err(Refusal::Setting));
             assert_eq!(settings.patches_len(1, 1), Err(Refusal::Setting));
             assert_eq!(settings.restored_len(2, 2), Err(Refusal::Setting));
