@@ -1,26 +1,29 @@
 //! `kz encode` and `kz patches`: sweeps to files of floats.
 
-use crate::fail::Fail;
+use crate::fail::{numbered, Fail};
 use crate::given::Given;
 use crate::model::{allowed, refused_settings, Lent, Model};
+use crate::netpbm::Picture;
 use crate::progress::Progress;
 use crate::shown::shown;
 use crate::source::Source;
-use crate::{files, netpbm, npy, room};
-use kyzgultam::{pixtral_preprocess, PictureSettings, Refusal};
+use crate::{files, netpbm, npy, room, tiles};
+use kyzgultam::{pixtral_preprocess, preprocess_tile, PictureSettings, Refusal, Tile};
 use std::collections::BTreeMap;
+use std::ffi::OsStr;
 use std::path::{Path, PathBuf};
 
 pub const ENCODE: &str = "\
-kz encode SWEEP.ppm .. -o DIR [--weights FILE] [--tables FILE]
+kz encode SWEEP.ppm .. -o DIR [--tiles] [--weights FILE] [--tables FILE]
           [--settings LIST] [--force | --skip-existing]
 
 Writes the token vectors of each SWEEP (P5 or P6) to DIR/SWEEP.tokens.npy,
-an array of NumPy: rows x columns x text. FILEs are plain floats: f32, little-
-endian, in the order of include/kyzgultam.h; a tables file has all cosines,
-then all sines. Without --weights they come from a seed; without --tables
-they are those that the Rust makes for theta 10000. A list that was cut off
-goes on with --skip-existing, which takes files that are there for done.
+an array of NumPy: rows x columns x text; with --tiles those of each tile, not
+resized (`kz patches --help`). FILEs are plain floats: f32, little-endian, in
+the order of include/kyzgultam.h; a tables file has all cosines, then all
+sines. Without --weights they come from a seed; without --tables they are
+those that the Rust makes for theta 10000. A list that was cut off goes on
+with --skip-existing, which takes files that are there for done.
 
 --settings is a list as patch=14,image=560; what it leaves out is built in:
   patch 14 (1..32)   hidden 64 (4..2048)  layers 2 (0..48)
@@ -38,7 +41,8 @@ rule. The file has neither the rule nor means and deviations, so go on with
 ";
 
 pub const PATCHES: &str = "\
-kz patches SWEEP.ppm .. -o DIR [--settings LIST] [--force | --skip-existing]
+kz patches SWEEP.ppm .. -o DIR [--tiles] [--settings LIST]
+           [--force | --skip-existing]
 
 Writes the patches of each SWEEP (P5 or P6) to DIR/SWEEP.patches.npy, an array
 of NumPy: grid rows x grid columns x 3 patch^2, a patch's samples by channel,
@@ -49,6 +53,13 @@ are used. Where a side of a sweep is above image, what is said of its file
 names the rule. The file has neither the rule nor means and deviations: go on
 by those that the list was begun with, and note them beside the files, since
 restore needs the same means and deviations.
+
+With --tiles nothing is resized: each sweep is cut by row into square tiles,
+whose side is the largest multiple of patch x merge not above image. The last
+ones are smaller, and padded on the right and below with bytes of 0 to such a
+multiple. A tile's file says in its name the sweep's sides and the tile's row
+and column, from 0: DIR/SWEEP.3000x2000.r00c01.patches.npy. Nothing else says
+them, so keep the names. `kz restore --tiles` joins the tiles to the sweep.
 ";
 
 /// Patches of one picture after another, in one buffer.
@@ -58,86 +69,137 @@ pub struct Cutter {
 }
 
 /// A grid, and, where a side was above the image size, the rule that resized the picture: elsewhere they are alike.
-type Cut = ((usize, usize), Option<usize>);
+type Resized = ((usize, usize), Option<usize>);
 
 pub fn by_rule(rule: Option<usize>) -> String {
     rule.map_or(String::new(), |rule| format!("; resized by rule {rule}"))
 }
 
+/// What is said of a picture that is not cut.
+fn refused(file: &Path, refusal: Refusal) -> Fail {
+    match refusal {
+        Refusal::Setting | Refusal::Channel => refused_settings(refusal),
+        Refusal::ImageSize => Fail::call(file, refusal, "give a larger image= in --settings"),
+        _ => Fail::call(file, refusal, "cut or shrink the picture"),
+    }
+}
+
 impl Cutter {
     /// Reads a picture and cuts it: the patches are in the buffer.
-    pub fn cut(&mut self, file: &Path, settings: &PictureSettings) -> Result<Cut, Fail> {
+    pub fn cut(&mut self, file: &Path, settings: &PictureSettings) -> Result<Resized, Fail> {
         let picture = netpbm::read(file)?;
         let (height, width) = (picture.height, picture.width);
-        let refused = |refusal| match refusal {
-            Refusal::Setting | Refusal::Channel => refused_settings(refusal),
-            Refusal::ImageSize => Fail::call(file, refusal, "give a larger image= in --settings"),
-            _ => Fail::call(file, refusal, "cut or shrink the picture"),
-        };
+        let refused = |refusal| refused(file, refusal);
         let floats = settings.patches_len(height, width).map_err(refused)?;
-        let what = format!("its patches (image={})", settings.image_size);
-        let room = room::fit(&mut self.patches, floats, &what, "give a smaller image= in --settings");
-        room.map_err(|words| Fail::file(file, words))?;
+        self.fit(file, settings, "its patches", floats)?;
         let cut = pixtral_preprocess(&picture.rgb, height, width, settings, &mut self.patches).map_err(refused)?;
         let long = height.max(width) > settings.image_size;
         Ok(((cut.grid_h, cut.grid_w), long.then_some(settings.resize_rule)))
     }
+
+    /// Cuts a tile out of a sweep: its patches are in the buffer.
+    fn tile(&mut self, sweep: &Sweep, index: usize, settings: &PictureSettings) -> Result<Tile, Fail> {
+        let Picture { height, width, ref rgb } = sweep.picture;
+        let refused = |refusal| refused(sweep.file, refusal);
+        let floats = settings.tile_len(height, width, index).map_err(refused)?;
+        self.fit(sweep.file, settings, "the patches of a tile", floats)?;
+        preprocess_tile(rgb, height, width, index, settings, &mut self.patches).map_err(refused)
+    }
+
+    fn fit(&mut self, file: &Path, settings: &PictureSettings, what: &str, floats: usize) -> Result<(), Fail> {
+        let what = format!("{what} (image={})", settings.image_size);
+        let room = room::fit(&mut self.patches, floats, &what, "give a smaller image= in --settings");
+        room.map_err(|words| Fail::file(file, words))
+    }
+}
+
+/// What is made of patches and written, by row and column of a grid of vectors.
+trait Vectors {
+    /// What they are called.
+    const NAME: &'static str;
+
+    /// How many there are for a grid of patches, down and across, and the floats of each.
+    fn shape(&self, grid: (usize, usize)) -> npy::Shape;
+
+    /// Those of patches; words where there are none.
+    fn of<'a>(&'a mut self, patches: &'a [f32], grid: (usize, usize)) -> Result<&'a [f32], String>;
+}
+
+/// The patches themselves, of so many floats.
+struct Patches(usize);
+
+impl Vectors for Patches {
+    const NAME: &'static str = "patches";
+
+    fn shape(&self, grid: (usize, usize)) -> npy::Shape {
+        [grid.0, grid.1, self.0]
+    }
+
+    fn of<'a>(&'a mut self, patches: &'a [f32], _: (usize, usize)) -> Result<&'a [f32], String> {
+        Ok(patches)
+    }
+}
+
+/// The token vectors that a model gives for them.
+struct Tokens {
+    model: Model,
+    lent: Lent,
+}
+
+impl Vectors for Tokens {
+    const NAME: &'static str = "tokens";
+
+    fn shape(&self, grid: (usize, usize)) -> npy::Shape {
+        let merge = self.model.settings.picture.spatial_merge_size;
+        [grid.0 / merge, grid.1 / merge, self.model.settings.text_hidden_size]
+    }
+
+    fn of<'a>(&'a mut self, patches: &'a [f32], grid: (usize, usize)) -> Result<&'a [f32], String> {
+        self.model.lend(grid, &mut self.lent)?;
+        let done = self.model.forward(patches, grid, &mut self.lent);
+        done.map_err(|refusal| numbered(refusal, self.model.advice(refusal)))?;
+        Ok(&self.lent.tokens)
+    }
 }
 
 pub fn encode(given: &Given) -> Result<(), Fail> {
-    let list = List::read(given, ".tokens.npy")?;
+    let list = List::read(given)?;
     let model = Model::read(given)?;
-    let (merge, text) = (model.settings.picture.spatial_merge_size, model.settings.text_hidden_size);
-    let (mut cutter, mut lent) = (Cutter::default(), Lent::default());
-    list.each(text, |file, out| {
-        let (grid, rule) = cutter.cut(file, &model.settings.picture)?;
-        model.lend(grid, &mut lent).map_err(|words| Fail::file(file, words))?;
-        let done = model.forward(&cutter.patches, grid, &mut lent);
-        done.map_err(|refusal| Fail::call(file, refusal, model.advice(refusal)))?;
-        let shape = [grid.0 / merge, grid.1 / merge, text];
-        write(out, given.force, shape, &lent.tokens)?;
-        let rule = by_rule(rule);
-        Ok(format!("{}: {}x{} tokens of {text} floats{rule}", shown(out), shape[0], shape[1]))
-    })
+    let settings = model.settings.picture;
+    list.write(&settings, Tokens { model, lent: Lent::default() })
 }
 
 pub fn patches(given: &Given) -> Result<(), Fail> {
-    let list = List::read(given, ".patches.npy")?;
+    let list = List::read(given)?;
     let settings = given.settings()?.picture;
     allowed(&settings)?;
-    let floats = 3 * settings.patch_size.pow(2);
-    let mut cutter = Cutter::default();
-    list.each(floats, |file, out| {
-        let (grid, rule) = cutter.cut(file, &settings)?;
-        write(out, given.force, [grid.0, grid.1, floats], &cutter.patches)?;
-        let rule = by_rule(rule);
-        Ok(format!("{}: {}x{} patches of {floats} floats{rule}", shown(out), grid.0, grid.1))
-    })
+    list.write(&settings, Patches(3 * settings.patch_size.pow(2)))
 }
 
-fn write(out: &Path, force: bool, shape: npy::Shape, floats: &[f32]) -> Result<(), Fail> {
-    files::write(out, force, |to| {
-        npy::head(to, shape)?;
-        files::put(to, floats)
-    })
-}
-
-/// Sweeps, and where what becomes of each is written.
+/// Sweeps, and the folder to which what becomes of each is written.
 struct List<'a> {
     given: &'a Given,
     folder: PathBuf,
-    outs: Vec<PathBuf>,
+    /// What the files of each are named after.
+    stems: Vec<&'a OsStr>,
+}
+
+/// A sweep that was read.
+struct Sweep<'a> {
+    file: &'a Path,
+    stem: &'a OsStr,
+    picture: Picture,
 }
 
 impl List<'_> {
     /// A file is named after its sweep, without folder and ending. Two alike would be written to one file.
-    fn read<'a>(given: &'a Given, ending: &str) -> Result<List<'a>, Fail> {
+    fn read(given: &Given) -> Result<List<'_>, Fail> {
         let folder = given.needed("-o", "DIR")?;
         if given.files.is_empty() {
             return Err(Fail::usage("no SWEEP.ppm is given"));
         }
         let mut seen = BTreeMap::new();
-        let mut outs = Vec::new();
+        let mut stems = Vec::new();
         for sweep in &given.files {
             let stem = sweep.file_stem();
             let stem = stem.ok_or_else(|| Fail::usage(format!("{}: is no name of a file", shown(sweep))))?;
@@ -145,32 +207,128 @@ impl List<'_> {
                 let (a, b) = (shown(other), shown(sweep));
                 return Err(Fail::usage(format!("{a} and {b} would be written to the same file; give them apart")));
             }
-            let mut name = stem.to_os_string();
-            name.push(ending);
-            outs.push(folder.join(name));
+            stems.push(stem);
         }
-        Ok(List { given, folder, outs })
+        Ok(List { given, folder, stems })
     }
 
-    /// Does the work for each sweep whose file is not there. One that is refused is named, and the others are still
-    /// done, unless nothing can be written any more. The files have vectors of so many floats.
-    fn each(&self, floats: usize, mut work: impl FnMut(&Path, &Path) -> Result<String, Fail>) -> Result<(), Fail> {
+    /// Writes what is made of each sweep, or of its tiles.
+    fn write<V: Vectors>(&self, settings: &PictureSettings, mut vectors: V) -> Result<(), Fail> {
+        let mut cutter = Cutter::default();
+        self.each(|file, stem, progress| {
+            if self.given.tiles {
+                let sweep = Sweep { file, stem, picture: netpbm::read(file)? };
+                self.tiles(&sweep, settings, &mut cutter, &mut vectors, progress)
+            } else {
+                progress.say(&self.whole(file, stem, settings, &mut cutter, &mut vectors)?);
+                Ok(())
+            }
+        })
+    }
+
+    fn whole<V: Vectors>(
+        &self,
+        file: &Path,
+        stem: &OsStr,
+        settings: &PictureSettings,
+        cutter: &mut Cutter,
+        vectors: &mut V,
+    ) -> Result<String, Fail> {
+        let out = self.out::<V>(stem);
+        let [.., floats] = vectors.shape((0, 0));
+        self.unless_done(&out, None, floats, || {
+            let (grid, rule) = cutter.cut(file, settings)?;
+            let words = self.put(&out, vectors, &cutter.patches, grid, |words| Fail::file(file, words))?;
+            Ok(format!("{words}{}", by_rule(rule)))
+        })
+    }
+
+    /// Each tile has a file of its own. Where one is there and is not to be skipped, none is written.
+    fn tiles<V: Vectors>(
+        &self,
+        sweep: &Sweep,
+        settings: &PictureSettings,
+        cutter: &mut Cutter,
+        vectors: &mut V,
+        progress: &Progress,
+    ) -> Result<(), Fail> {
+        let Picture { height, width, .. } = sweep.picture;
+        let refused = |refusal| refused(sweep.file, refusal);
+        let cut = kyzgultam::cut(height, width, settings).map_err(refused)?;
+        let label = |index: usize| tiles::label(&cut, tiles::place(&cut, index));
+        let out = |index: usize| self.out::<V>(&tiles::name(sweep.stem, (height, width), &label(index)));
+        let count = cut.rows * cut.columns;
+        if !self.given.skip {
+            (0..count).try_for_each(|index| files::vacant(&out(index), self.given.force))?;
+        }
+        for index in 0..count {
+            progress.part(sweep.stem, index, count);
+            let tile = settings.tile(height, width, index).map_err(refused)?;
+            let [h, w, floats] = vectors.shape((tile.grid_h, tile.grid_w));
+            let out = out(index);
+            let words = self.unless_done(&out, Some((h, w)), floats, || {
+                let Tile { grid_h, grid_w, top, left, height, width, .. } = cutter.tile(sweep, index, settings)?;
+                let fail = |words| Fail::file(sweep.file, format!("tile {}: {words}", label(index)));
+                let words = self.put(&out, vectors, &cutter.patches, (grid_h, grid_w), fail)?;
+                Ok(format!("{words}; {height}x{width} pixels from row {top}, column {left}"))
+            })?;
+            progress.say(&words);
+        }
+        Ok(())
+    }
+
+    fn out<V: Vectors>(&self, name: &OsStr) -> PathBuf {
+        let mut name = name.to_os_string();
+        name.push(format!(".{}.npy", V::NAME));
+        self.folder.join(name)
+    }
+
+    /// Does the work that writes a file, unless that is there and is taken for done.
+    fn unless_done(
+        &self,
+        out: &Path,
+        grid: Option<(usize, usize)>,
+        floats: usize,
+        work: impl FnOnce() -> Result<String, Fail>,
+    ) -> Result<String, Fail> {
+        match files::vacant(out, self.given.force).and_then(|()| work()) {
+            Err(Fail::Taken(_)) if self.given.skip => finished(out, grid, floats),
+            done => done,
+        }
+    }
+
+    /// Writes the vectors of patches: what is said of the file.
+    fn put<V: Vectors>(
+        &self,
+        out: &Path,
+        vectors: &mut V,
+        patches: &[f32],
+        grid: (usize, usize),
+        fail: impl FnOnce(String) -> Fail,
+    ) -> Result<String, Fail> {
+        let [h, w, len] = vectors.shape(grid);
+        let floats = vectors.of(patches, grid).map_err(fail)?;
+        files::write(out, self.given.force, |to| {
+            npy::head(to, [h, w, len])?;
+            files::put(to, floats)
+        })?;
+        Ok(format!("{}: {h}x{w} {} of {len} floats", shown(out), V::NAME))
+    }
+
+    /// Does the work for each sweep. One that is refused is named, and the others are still done, unless nothing can be
+    /// written any more.
+    fn each(&self, mut work: impl FnMut(&Path, &OsStr, &Progress) -> Result<(), Fail>) -> Result<(), Fail> {
         files::folder(&self.folder)?;
-        let total = self.outs.len();
-        let mut progress = Progress::new(total);
+        let total = self.stems.len();
+        let mut progress = Progress::new(total, self.given.tiles);
         for part in files::parts(&self.folder) {
             progress.warn(&format!("{}: {LEFT}", shown(&part)));
         }
         let (mut refused, mut there) = (0, 0);
-        for (i, (file, out)) in self.given.files.iter().zip(&self.outs).enumerate() {
-            progress.at(file.file_stem().unwrap_or_default());
-            let done = files::vacant(out, self.given.force).and_then(|()| work(file, out));
-            let done = match done {
-                Err(Fail::Taken(_)) if self.given.skip => finished(out, floats),
-                done => done,
-            };
-            match done {
-                Ok(words) => progress.say(&words),
+        for (i, (file, stem)) in self.given.files.iter().zip(&self.stems).enumerate() {
+            progress.at(stem);
+            match work(file, stem, &progress) {
+                Ok(()) => {}
                 Err(Fail::Refused(words)) if total > 1 => {
                     refused += 1;
                     progress.warn(&words);
@@ -206,13 +364,18 @@ const LEFT: &str = "was begun by a run that is at work now, or was killed; if no
 const AGAIN: &str = "make room, or give another -o, and go on with --skip-existing";
 const SKIP: &str = "--skip-existing takes such files for done";
 
-/// What is said of a file that is there and is skipped: one of another form is not taken for done.
-fn finished(out: &Path, floats: usize) -> Result<String, Fail> {
-    let [.., found] =
-        npy::shape(&mut Source::open(out)?).map_err(|why| Fail::file(out, format!("was not skipped: it {why}")))?;
+/// What is said of a file that is there and is skipped: one of another form is not taken for done. Of a tile the grid
+/// is known too.
+fn finished(out: &Path, grid: Option<(usize, usize)>, floats: usize) -> Result<String, Fail> {
+    let unlike = |words: String| Fail::file(out, format!("was not skipped: it {words}"));
+    let [h, w, found] = npy::shape(&mut Source::open(out)?).map_err(unlike)?;
     if found != floats {
-        let words = format!("was not skipped: it has vectors of {found} floats, and these --settings give {floats}");
-        return Err(Fail::file(out, format!("{words}; give another -o")));
+        let words = format!("has vectors of {found} floats, and these --settings give {floats}");
+        return Err(unlike(format!("{words}; give another -o")));
+    }
+    if let Some((right_h, right_w)) = grid.filter(|grid| *grid != (h, w)) {
+        let words = format!("has {h}x{w} vectors, and these --settings give its tile {right_h}x{right_w}");
+        return Err(unlike(format!("{words}; give another -o")));
     }
     Ok(format!("{}: is there already, skipped", shown(out)))
 }

@@ -8,7 +8,7 @@ use std::os::unix::ffi::OsStrExt;
 use std::path::PathBuf;
 
 /// The options without a value.
-const BARE: [&str; 3] = ["--force", "--quick", "--skip-existing"];
+const BARE: [&str; 4] = ["--force", "--quick", "--skip-existing", "--tiles"];
 
 /// Whether a word is an option, known or not. A single - is a name.
 fn dashed(word: &OsStr) -> bool {
@@ -46,12 +46,13 @@ pub struct Given {
     pub force: bool,
     pub quick: bool,
     pub skip: bool,
+    pub tiles: bool,
     options: Vec<(&'static str, OsString)>,
 }
 
 impl Given {
     pub fn read(words: &[OsString], known: &[&'static str]) -> Result<Given, Fail> {
-        let mut given = Given { files: vec![], force: false, quick: false, skip: false, options: vec![] };
+        let mut given = Given { files: vec![], force: false, quick: false, skip: false, tiles: false, options: vec![] };
         let mut words = words.iter();
         while let Some(word) = words.next() {
             if word == "--" {
@@ -62,6 +63,7 @@ impl Given {
                 given.force |= word == "--force";
                 given.quick |= word == "--quick";
                 given.skip |= word == "--skip-existing";
+                given.tiles |= word == "--tiles";
             } else {
                 let (name, joined) = parted(word);
                 let name = if name == "--out" { OsStr::new("-o") } else { name };
@@ -153,7 +155,7 @@ pub const SMALL: EncoderSettings = EncoderSettings {
     scaling: 0.25,
 };
 
-fn decimal(text: &str) -> Option<usize> {
+pub fn decimal(text: &str) -> Option<usize> {
     (!text.is_empty() && text.bytes().all(|b| b.is_ascii_digit())).then(|| text.parse().ok()).flatten()
 }
 
@@ -168,7 +170,7 @@ fn channels(text: &str) -> Option<[f32; 3]> {
 }
 
 /// `2x4` as 2 and 4.
-fn sides(text: &str) -> Option<(usize, usize)> {
+pub fn sides(text: &str) -> Option<(usize, usize)> {
     let (height, width) = text.split_once('x')?;
     Some((decimal(height)?, decimal(width)?))
 }

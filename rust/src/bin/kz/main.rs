@@ -7,6 +7,7 @@ mod encode;
 mod fail;
 mod files;
 mod given;
+mod join;
 mod model;
 mod netpbm;
 mod npy;
@@ -18,6 +19,7 @@ mod room;
 mod shown;
 mod source;
 mod sweep;
+mod tiles;
 
 use fail::Fail;
 use given::Given;
@@ -43,6 +45,8 @@ endian, in the order of include/kyzgultam.h. Sizes are HEIGHTxWIDTH.
   --settings LIST   as rule=2,mean=0.2,deviation=0.25 (`kz encode --help`)
   --weights FILE    for encode and bench; a small seeded model without it
   --tables FILE     for encode and bench; the Rust's without it
+  --tiles           for encode, patches and restore: a sweep above the image
+                    size is not resized, but cut into tiles, a file for each
   --grid HxW        for restore of plain floats, which do not say it
   --force           write over plain files that are there already
   --skip-existing   for encode and patches: take such files for done
@@ -58,11 +62,11 @@ const COMMANDS: [Command; 6] = [
     (
         "encode",
         encode::ENCODE,
-        &["-o", "--weights", "--tables", "--settings", "--force", "--skip-existing"],
+        &["-o", "--tiles", "--weights", "--tables", "--settings", "--force", "--skip-existing"],
         encode::encode,
     ),
-    ("patches", encode::PATCHES, &["-o", "--settings", "--force", "--skip-existing"], encode::patches),
-    ("restore", restore::HELP, &["-o", "--grid", "--settings", "--force"], restore::run),
+    ("patches", encode::PATCHES, &["-o", "--tiles", "--settings", "--force", "--skip-existing"], encode::patches),
+    ("restore", restore::HELP, &["-o", "--tiles", "--grid", "--settings", "--force"], restore::run),
     ("compare", compare::HELP, &["-o", "--settings", "--force"], compare::run),
     ("bench", bench::HELP, &["--quick", "--size", "--weights", "--tables", "--settings"], bench::run),
 ];

@@ -8,33 +8,42 @@ use std::time::Instant;
 
 pub struct Progress {
     total: usize,
-    done: usize,
+    begun: usize,
     start: Instant,
     shown: bool,
 }
 
 impl Progress {
-    pub fn new(total: usize) -> Progress {
-        let shown = total > 1 && stderr().is_terminal();
-        Progress { total, done: 0, start: Instant::now(), shown }
+    /// So many pieces of work, which may have parts.
+    pub fn new(total: usize, parts: bool) -> Progress {
+        let shown = (total > 1 || parts) && stderr().is_terminal();
+        Progress { total, begun: 0, start: Instant::now(), shown }
     }
 
     /// The next piece of work begins.
     pub fn at(&mut self, name: &OsStr) {
+        self.begun += 1;
+        self.show(name, 0, 1);
+    }
+
+    /// Of this piece of work a part begins, counted from 0, of so many.
+    pub fn part(&self, name: &OsStr, part: usize, parts: usize) {
+        self.show(name, part, parts);
+    }
+
+    fn show(&self, name: &OsStr, part: usize, parts: usize) {
         if self.shown {
-            let left = match self.done {
-                0 => String::new(),
-                done => {
-                    let seconds = self.start.elapsed().as_secs_f64() / done as f64 * (self.total - done) as f64;
-                    format!(", about {} left", time(seconds))
-                }
+            let share = ((self.begun - 1) as f64 + part as f64 / parts as f64) / self.total as f64;
+            let left = match share > 0.0 {
+                true => format!(", about {} left", time(self.start.elapsed().as_secs_f64() / share * (1.0 - share))),
+                false => String::new(),
             };
-            let percent = 100 * self.done / self.total;
+            let tile = if parts > 1 { format!(", tile {}/{parts}", part + 1) } else { String::new() };
+            let percent = (100.0 * share) as usize;
             let name: String = shown(name).to_string().chars().take(30).collect();
-            let _ = write!(stderr(), "\r\x1b[K{}/{} ({percent}%) {name}{left}", self.done + 1, self.total);
+            let _ = write!(stderr(), "\r\x1b[K{}/{}{tile} ({percent}%) {name}{left}", self.begun, self.total);
             let _ = stderr().flush();
         }
-        self.done += 1;
     }
 
     pub fn clear(&self) {

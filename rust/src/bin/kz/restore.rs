@@ -6,7 +6,7 @@ use crate::model::allowed;
 use crate::netpbm::{ppm, Picture};
 use crate::shown::shown;
 use crate::source::{unread, Source};
-use crate::{files, npy, room, say};
+use crate::{files, join, npy, room, say};
 use kyzgultam::Refusal;
 use std::fs::File;
 use std::path::Path;
@@ -14,20 +14,31 @@ use std::path::Path;
 pub const HELP: &str = "\
 kz restore FILE.patches.npy -o OUT.ppm [--grid HxW] [--settings LIST]
            [--force]
+kz restore --tiles SWEEP.HxW.rRcC.patches.npy .. -o OUT.ppm
+           [--settings LIST] [--force]
 
-Writes the picture that gave the patches, as it was resized before it was
-cut. A .npy file, as `kz patches` writes it, says its grid itself: its shape
-is grid rows x grid columns x 3 patch^2, and another is refused. A file of
-plain floats (f32, little-endian) needs --grid. --settings are to be those
-that the patches were cut with: patch, merge, image, mean and deviation
-(`kz encode --help`). The file does not hold the last two: with others than
-its own most files are refused with 8. The resize rule may be left out: the
-grid says which sides it gave.
+The first form writes the picture that gave the patches, as it was resized
+before it was cut. A .npy file, as `kz patches` writes it, says its grid
+itself: its shape is grid rows x grid columns x 3 patch^2, and another is
+refused. A file of plain floats (f32, little-endian) needs --grid. --settings
+are to be those that the patches were cut with: patch, merge, image, mean and
+deviation (`kz encode --help`). The file does not hold the last two: with
+others than its own most files are refused with 8. The resize rule may be left
+out: the grid says which sides it gave.
+
+The second form joins the tiles that `kz patches --tiles` wrote to the sweep,
+byte for byte, as in kz restore --tiles out/a.*.patches.npy -o a.ppm. It needs
+all of one sweep, in any order; the names say the sweep's sides and where each
+tile belongs. One that is missing, given twice or of another sweep is named,
+and nothing is written.
 ";
 
 pub fn run(given: &Given) -> Result<(), Fail> {
+    if given.tiles {
+        return join::run(given);
+    }
     let [file] = &given.files[..] else {
-        return Err(Fail::usage("restore takes one FILE.patches.npy"));
+        return Err(Fail::usage("restore takes one FILE.patches.npy, or --tiles and all tiles of a sweep"));
     };
     let out = given.needed("-o", "OUT.ppm")?;
     let settings = given.settings()?.picture;
@@ -57,10 +68,11 @@ pub fn run(given: &Given) -> Result<(), Fail> {
     Ok(())
 }
 
-const DAMAGED: &str = "the file is damaged, or was cut with another mean= or deviation= than these --settings have, \
+pub const DAMAGED: &str =
+    "the file is damaged, or was cut with another mean= or deviation= than these --settings have, \
                        or was not written by `kz patches`";
 const OWN: &str = "give the --settings, and of plain floats the --grid, that it was written with";
-const ELSEWHERE: &str = "restore it where there is more";
+pub const ELSEWHERE: &str = "restore it where there is more";
 
 /// Grid and floats a patch: of a .npy file its shape, of plain floats what is asked for.
 fn grid(
@@ -86,7 +98,7 @@ fn grid(
 }
 
 /// A count of floats, which is all that is left of the file; None where it is not. Its length is tested first.
-fn floats(file: &Path, mut source: Source<File>, len: usize, of: &str) -> Result<Option<Vec<f32>>, Fail> {
+pub fn floats(file: &Path, mut source: Source<File>, len: usize, of: &str) -> Result<Option<Vec<f32>>, Fail> {
     if source.left().is_some_and(|left| left != 4 * len as u64) {
         return Ok(None);
     }
