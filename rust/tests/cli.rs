@@ -496,6 +496,21 @@ fn bench_times_every_call() {
     let said = folder.done(&format!("bench --size 8x8 {LIST},mean=0.2,deviation=0.1/0.25/1e38"));
     assert!(said.contains("\nmean 0.2/0.2/0.2, deviation 0.1/0.25/1e38\n"), "{said}");
     by_choices(&said, "8x8");
+    a_tile(&said);
+}
+
+/// The lines of a tile: two calls, each with two times and their ratio.
+fn a_tile(said: &str) {
+    let lines: Vec<&str> = said.lines().skip_while(|line| !line.starts_with("tile 0 of 3000x2000, ms ")).collect();
+    let [_, cut, back, ..] = &lines[..] else { panic!("{said}") };
+    for (line, call) in [(cut, "preprocess"), (back, "restore")] {
+        let words: Vec<&str> = line.split_whitespace().collect();
+        let [name, size, tile, picture, ratio, "times", "as", "long"] = words[..] else { panic!("{line}") };
+        assert_eq!((name, size), (call, "1540x1540"));
+        let [tile, picture, ratio] = [tile, picture, ratio].map(|number| number.parse::<f64>().unwrap());
+        // Of rounded times: half of a hundredth each, and half of a thousandth.
+        assert!((tile / picture - ratio).abs() < 0.01 * (1.0 + ratio) / picture.max(0.1) + 0.001, "{line}");
+    }
 }
 
 /// The last lines of the port's times: restore by three choices of means and deviations.
@@ -537,6 +552,7 @@ fn bench_beside_the_rust() {
         for part in parts.into_iter().chain(["stages of 8x8", "share", "growth", "every answer has the Rust's bits"]) {
             assert!(said.contains(part), "{part:?} is not in {said}");
         }
+        a_tile(&said);
     }
     // Without the source the port is timed alone.
     let (status, said, errors) = bench_with(&folder, Some(&folder.path("none")));
@@ -544,6 +560,7 @@ fn bench_beside_the_rust() {
     assert!(errors.contains(skipped), "{errors}");
     assert!(said.starts_with("hidden 64, ") && said.contains("1540x1540   110x110   restore"), "{said}");
     by_choices(&said, "1540x1540");
+    a_tile(&said);
     // With a source that is another, oracle/run fails, and kz says so.
     fs::create_dir_all(folder.path("empty/crates/vision/src")).unwrap();
     for name in ["pixtral.rs", "image_process.rs"] {

@@ -21,15 +21,18 @@ each stage's share, and how the time grows from 64 to 1024 tokens; one bit
 that differs ends it with status 1. That takes some five minutes; --quick has
 small grids alone and takes one. It is oracle/run of the repository where kz
 was built, with the archives that kz was linked with. The Rust's source is
-../shared/docs/src from the repository's root, or KZ_RUST_SRC.
+../shared/docs/src from the repository's root, or KZ_RUST_SRC. Behind restore
+a tile is timed, the first of a sweep of 3000x2000, in turn with a picture of
+the same 1540x1540 pixels, which needs no resizing.
 
 The second form, and the first where the source or rustc is missing, times
 the port alone on noise, on one core: the best of the runs that fit into half
 a second, at least one. `share` is the part of a sweep's time. Without --size
 three sizes are timed, the largest without forward. The model is as for
-`kz encode`. Last, restore of the largest is timed by three choices of mean
-and deviation, whatever --settings say: the Rust's, 0.2 and 0.25 as for grey
-ultrasound, and 0.2 and 1e38, by which a byte has to be found by halving.
+`kz encode`. Then the tile is timed as above and, last, restore of the largest
+by three choices of mean and deviation, both whatever --settings say: the
+Rust's, 0.2 and 0.25 as for grey ultrasound, and 0.2 and 1e38, by which a byte
+has to be found by halving.
 ";
 
 const ORACLE: &str = concat!(env!("CARGO_MANIFEST_DIR"), "/../oracle/run");
@@ -63,6 +66,7 @@ fn beside_the_rust(quick: bool) -> Result<bool, Fail> {
     let encoder: &[&str] = if quick { &["encoder", "--bench", "--quick"] } else { &["encoder", "--bench"] };
     for words in [&["picture", "--bench"], encoder] {
         if words == encoder {
+            tiles()?;
             say(format_args!(""));
         }
         let status = Command::new(&oracle).arg(ARCHIVES).args(words).status();
@@ -106,6 +110,8 @@ fn alone(given: &Given) -> Result<(), Fail> {
     for (height, width) in &sizes {
         sweep(&model, *height, *width, asked.is_some())?;
     }
+    say(format_args!(""));
+    tiles()?;
     let (height, width) = sizes[sizes.len() - 1];
     choices(&s.picture, height, width)
 }
@@ -129,6 +135,68 @@ impl Buffers {
         rgb.extend((0..height * width * 3).map(|_| (random.float() * 127.0 + 128.0) as u8));
         Ok(Buffers { rgb, patches, back })
     }
+}
+
+/// Sides of a sweep whose first tile is as large as the default settings have them.
+const OVERSIZE: (usize, usize) = (3000, 2000);
+
+/// Times a tile, and in turn a picture of the same pixels, which is not resized either.
+fn tiles() -> Result<(), Fail> {
+    let (settings, (height, width)) = (PictureSettings::default(), OVERSIZE);
+    let side = kyzgultam::cut(height, width, &settings).map_err(refused_settings)?.side;
+    let advice = "try it again where there is more";
+    let Buffers { rgb, .. } = Buffers::new(&settings, height, width)?;
+    let floats = settings.tile_len(height, width, 0).map_err(refused_settings)?;
+    let mut tile = room::zeros(floats, "the patches of a tile", advice).map_err(Fail::Refused)?;
+    let mut joined = room::zeros(rgb.len(), "the joined sweep", advice).map_err(Fail::Refused)?;
+    let Buffers { rgb: mut own, mut patches, mut back } = Buffers::new(&settings, side, side)?;
+    for (y, row) in own.chunks_exact_mut(3 * side).enumerate() {
+        row.copy_from_slice(&rgb[3 * y * width..][..3 * side]);
+    }
+    let cut = in_turn(
+        || kyzgultam::preprocess_tile(&rgb, height, width, 0, &settings, &mut tile).map(drop),
+        || kyzgultam::pixtral_preprocess(&own, side, side, &settings, &mut patches).map(drop),
+    );
+    let (grid_h, grid_w) = settings.grid(side, side).map_err(refused_settings)?;
+    let restored = in_turn(
+        || kyzgultam::restore_tile(&tile, height, width, 0, &settings, &mut joined).map(drop),
+        || kyzgultam::restore(&patches, grid_h, grid_w, &settings, &mut back).map(drop),
+    );
+    say(format_args!("{:<24}{:>10}{:>10}", format!("tile 0 of {height}x{width}, ms"), "tile", "picture"));
+    for (call, times) in [("preprocess", cut), ("restore", restored)] {
+        let [tile, picture] = times.map_err(refused_settings)?.map(|time| time.as_secs_f64() * 1e3);
+        let name = format!("{call} {side}x{side}");
+        say(format_args!("{name:<24}{tile:>10.2}{picture:>10.2}   {:.3} times as long", tile / picture));
+    }
+    let same = tile.iter().zip(&patches).all(|(a, b)| a.to_bits() == b.to_bits());
+    let mut rows = joined.chunks_exact(3 * width).zip(rgb.chunks_exact(3 * width)).take(side);
+    if !same || back != own || rows.any(|(a, b)| a[..3 * side] != b[..3 * side]) {
+        return Err(Fail::Refused("the tile is not as the picture of its pixels: this is a fault, report it".into()));
+    }
+    Ok(())
+}
+
+/// The shortest run of each of two within a second. They take turns, and in being first too.
+fn in_turn<E>(
+    mut one: impl FnMut() -> Result<(), E>,
+    mut two: impl FnMut() -> Result<(), E>,
+) -> Result<[Duration; 2], E> {
+    let start = Instant::now();
+    let mut best = [Duration::MAX; 2];
+    let mut turn = 0;
+    while turn < 2 || start.elapsed() < Duration::from_secs(1) {
+        for which in [turn % 2, 1 - turn % 2] {
+            let began = Instant::now();
+            if which == 0 {
+                one()?;
+            } else {
+                two()?;
+            }
+            best[which] = best[which].min(began.elapsed());
+        }
+        turn += 1;
+    }
+    Ok(best)
 }
 
 /// Times restore by the Rust's means and deviations, and by two choices that are the same in all channels.
