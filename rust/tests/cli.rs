@@ -585,8 +585,8 @@ fn demo() {
     let folder = Folder::new("demo");
     let said = folder.done("demo -o d");
     assert!(said.contains("1728 patches: identical to resized.png"), "{said}");
-    let names = ["overview.png", "panorama.ppm", "resized.png", "restored.png", "rules.png", "similarity.png"];
-    assert_eq!(folder.names("d"), [&names[..], &["sweep.png", "sweep.ppm"]].concat());
+    let names = ["oversize.ppm", "overview.png", "panorama.ppm", "resized.png", "restored.png", "rules.png"];
+    assert_eq!(folder.names("d"), [&names[..], &["similarity.png", "sweep.png", "sweep.ppm", "tiles.png"]].concat());
     assert_eq!(png_head(&folder.get("d/sweep.png")), (490, 650, 0));
     assert_eq!(png_head(&folder.get("d/resized.png")), (504, 672, 0));
     assert_eq!(folder.get("d/restored.png"), folder.get("d/resized.png"));
@@ -596,9 +596,17 @@ fn demo() {
     assert!(said.contains("by rule 1 420x560, squashed; by rule 2 140x560, in its shape"), "{said}");
     let label = 26;
     assert_eq!(png_head(&folder.get("d/rules.png")), (label + 420 + label + 140, 560, 0));
+    // A sweep cut into tiles, with its padding, and joined again, which is narrower by the padding.
+    assert!(said.contains("2x4 tiles of at most 168x168, joined again: identical to oversize.ppm"), "{said}");
+    assert_eq!(png_head(&folder.get("d/tiles.png")), (label + 308 + label + 286, 560, 2));
     // Its sweeps are some for the other commands.
     folder.done("patches d/sweep.ppm -o d");
     assert!(Path::new(&folder.path("d/sweep.patches.npy")).exists());
     let said = folder.done("patches d/panorama.ppm -o d --settings image=560,rule=2");
     assert!(said.ends_with(": 10x40 patches of 588 floats; resized by rule 2\n"), "{said}");
+    let said = folder.done("patches --tiles d/oversize.ppm -o d/tiles --settings image=170");
+    let files: Vec<&str> = said.lines().map(|line| line.split(": ").next().unwrap()).collect();
+    assert_eq!(files.len(), 8);
+    folder.done(&format!("restore --tiles {} -o d/joined.ppm --settings image=170", files.join(" ")));
+    assert_eq!(folder.get("d/joined.ppm"), folder.get("d/oversize.ppm"));
 }

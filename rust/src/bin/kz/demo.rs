@@ -7,7 +7,7 @@ use crate::netpbm::{ppm, Picture};
 use crate::png::png;
 use crate::shown::shown;
 use crate::{files, paint, room, say, sweep};
-use kyzgultam::PictureSettings;
+use kyzgultam::{Cut, PictureSettings, Tile};
 use std::path::PathBuf;
 use std::time::Instant;
 
@@ -26,6 +26,9 @@ Writes to DIR (kz-demo, if -o is not given):
   rules.png       a panoramic sweep as each resize rule has it: squashed by
                   rule 1, and below in its shape by rule 2
   panorama.ppm    that sweep, to try --settings image=560,rule=2 on
+  tiles.png       a sweep above the image size, cut into tiles, their padding
+                  hatched, and below joined again: identical, and checked
+  oversize.ppm    that sweep, to try --tiles --settings image=170 on
 
 The model's weights come from a seed and were never trained: what is alike
 here is brightness and texture.
@@ -35,7 +38,11 @@ here is brightness and texture.
 const PANORAMA: (usize, usize) = (420, 1680);
 const THIRD: usize = 560;
 
-const NAMES: [&str; 8] = [
+/// Sides of the sweep that is cut into tiles, and an image size below both.
+const OVERSIZE: (usize, usize) = (286, 538);
+const TILED: usize = 170;
+
+const NAMES: [&str; 10] = [
     "sweep.png",
     "sweep.ppm",
     "resized.png",
@@ -44,6 +51,8 @@ const NAMES: [&str; 8] = [
     "overview.png",
     "panorama.ppm",
     "rules.png",
+    "oversize.ppm",
+    "tiles.png",
 ];
 
 const AGAIN: &str = "try it again where there is more";
@@ -115,6 +124,17 @@ pub fn run(given: &Given) -> Result<(), Fail> {
     let rules = paint::stack(&[("rule 1 squashes", &squashed), ("rule 2 keeps the shape", &kept)]);
     write("rules.png", &rules, words)?;
 
+    let oversize = sweep::panorama(OVERSIZE.0, OVERSIZE.1, 20);
+    let words = format!("{}, above image={TILED}, made from a seed", sides(&oversize));
+    write("oversize.ppm", &oversize, words)?;
+    let tiled = PictureSettings { image_size: TILED, ..settings };
+    let (cut, tiles, joined) = joined_again(&oversize, &tiled)?;
+    let same = if joined.rgb == oversize.rgb { "identical to oversize.ppm" } else { "NOT as oversize.ppm" };
+    let (rows, columns, side) = (cut.rows, cut.columns, cut.side);
+    let words = format!("for image={TILED}: {rows}x{columns} tiles of at most {side}x{side}, joined again: {same}");
+    let cut = paint::tiles(&oversize, &tiles, settings.patch_size);
+    write("tiles.png", &paint::stack(&[("cut into tiles", &cut), ("joined again", &joined)]), words)?;
+
     let ms = |t: std::time::Duration| t.as_secs_f64() * 1e3;
     say(format_args!(
         "preprocess {:.1} ms, forward {:.0} ms, restore {:.1} ms, on one core",
@@ -128,6 +148,9 @@ pub fn run(given: &Given) -> Result<(), Fail> {
     if [squashed, kept].iter().any(|by| by.rgb != resize(&panorama, by.height, by.width).rgb) {
         return Err(Fail::file(&folder.join("rules.png"), "is not as plain Rust resizes: this is a fault, report it"));
     }
+    if joined.rgb != oversize.rgb {
+        return Err(Fail::file(&folder.join("tiles.png"), "is not joined to its sweep: this is a fault, report it"));
+    }
     Ok(())
 }
 
@@ -140,6 +163,22 @@ fn back_again(sweep: &Picture, settings: &PictureSettings) -> Result<Picture, Fa
     let cut = cut.map_err(refused_settings)?;
     let size = kyzgultam::restore(&patches, cut.grid_h, cut.grid_w, settings, &mut rgb).map_err(refused_settings)?;
     Ok(Picture { height: size.height, width: size.width, rgb })
+}
+
+/// A sweep cut into tiles, and what the patches of these bring back, tile by tile.
+fn joined_again(sweep: &Picture, settings: &PictureSettings) -> Result<(Cut, Vec<Tile>, Picture), Fail> {
+    let (height, width) = (sweep.height, sweep.width);
+    let cut = kyzgultam::cut(height, width, settings).map_err(refused_settings)?;
+    let mut rgb = room::zeros(sweep.rgb.len(), "the joined sweep", AGAIN).map_err(Fail::Refused)?;
+    let mut tiles = vec![];
+    for index in 0..cut.rows * cut.columns {
+        let floats = settings.tile_len(height, width, index).map_err(refused_settings)?;
+        let mut patches = room::zeros(floats, "the patches of a tile", AGAIN).map_err(Fail::Refused)?;
+        let tile = kyzgultam::preprocess_tile(&sweep.rgb, height, width, index, settings, &mut patches);
+        tiles.push(tile.map_err(refused_settings)?);
+        kyzgultam::restore_tile(&patches, height, width, index, settings, &mut rgb).map_err(refused_settings)?;
+    }
+    Ok((cut, tiles, Picture { height, width, rgb }))
 }
 
 /// The cosine of each token to one of them.

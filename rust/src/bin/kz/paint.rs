@@ -1,6 +1,7 @@
 //! Pictures of answers.
 
 use crate::netpbm::Picture;
+use kyzgultam::Tile;
 
 const MAP: [[f32; 3]; 7] = [
     [2.0, 2.0, 12.0],
@@ -85,14 +86,21 @@ pub fn strip(pictures: &[&Picture]) -> Picture {
 }
 
 /// The letters and digits of labels, five by seven: a number a row, its highest bit at the left.
-const SIGNS: [(char, [u8; 7]); 13] = [
+const SIGNS: [(char, [u8; 7]); 20] = [
     ('1', [0b00100, 0b01100, 0b00100, 0b00100, 0b00100, 0b00100, 0b01110]),
     ('2', [0b01110, 0b10001, 0b00001, 0b00110, 0b01000, 0b10000, 0b11111]),
     ('a', [0, 0, 0b01110, 0b00001, 0b01111, 0b10001, 0b01111]),
+    ('c', [0, 0, 0b01110, 0b10000, 0b10000, 0b10001, 0b01110]),
+    ('d', [0b00001, 0b00001, 0b01101, 0b10011, 0b10001, 0b10001, 0b01111]),
     ('e', [0, 0, 0b01110, 0b10001, 0b11111, 0b10000, 0b01110]),
+    ('g', [0, 0, 0b01111, 0b10001, 0b01111, 0b00001, 0b01110]),
     ('h', [0b10000, 0b10000, 0b10110, 0b11001, 0b10001, 0b10001, 0b10001]),
+    ('i', [0b00100, 0, 0b01100, 0b00100, 0b00100, 0b00100, 0b01110]),
+    ('j', [0b00010, 0, 0b00110, 0b00010, 0b00010, 0b10010, 0b01100]),
     ('k', [0b10000, 0b10000, 0b10010, 0b10100, 0b11000, 0b10100, 0b10010]),
     ('l', [0b01100, 0b00100, 0b00100, 0b00100, 0b00100, 0b00100, 0b01110]),
+    ('n', [0, 0, 0b10110, 0b11001, 0b10001, 0b10001, 0b10001]),
+    ('o', [0, 0, 0b01110, 0b10001, 0b10001, 0b10001, 0b01110]),
     ('p', [0, 0, 0b11110, 0b10001, 0b11110, 0b10000, 0b10000]),
     ('q', [0, 0, 0b01101, 0b10011, 0b01111, 0b00001, 0b00001]),
     ('r', [0, 0, 0b10110, 0b11001, 0b10000, 0b10000, 0b10000]),
@@ -101,10 +109,34 @@ const SIGNS: [(char, [u8; 7]); 13] = [
     ('u', [0, 0, 0b10001, 0b10001, 0b10001, 0b10011, 0b01101]),
 ];
 
-/// Pictures of one width under each other, each below its label, whose other signs stay blank.
+/// A sweep and its tiles, of patches of a side: a line around each, and the padding hatched.
+pub fn tiles(sweep: &Picture, tiles: &[Tile], patch: usize) -> Picture {
+    let end = |tile: &Tile| (tile.top + tile.grid_h * patch, tile.left + tile.grid_w * patch);
+    let (height, width) = tiles.iter().map(end).fold((0, 0), |a, b| (a.0.max(b.0), a.1.max(b.1)));
+    let mut rgb = vec![255; height * width * 3];
+    for tile in tiles {
+        let (bottom, right) = end(tile);
+        for (y, x) in (tile.top..bottom).flat_map(|y| (tile.left..right).map(move |x| (y, x))) {
+            let edge = (y - tile.top).min(bottom - 1 - y).min(x - tile.left).min(right - 1 - x);
+            let own = y < sweep.height && x < sweep.width;
+            let pixel = &mut rgb[(y * width + x) * 3..][..3];
+            match (edge, own) {
+                (0, _) => pixel.copy_from_slice(&LINE),
+                (_, true) => pixel.copy_from_slice(&sweep.rgb[(y * sweep.width + x) * 3..][..3]),
+                (_, false) => pixel.copy_from_slice(&HATCH[(y + x) / 3 % 2]),
+            }
+        }
+    }
+    Picture { height, width, rgb }
+}
+
+const LINE: [u8; 3] = [249, 188, 40];
+const HATCH: [[u8; 3]; 2] = [[0; 3], [203, 65, 73]];
+
+/// Pictures under each other, each below its label, whose other signs stay blank. What is narrower leaves a white rest.
 pub fn stack(pictures: &[(&str, &Picture)]) -> Picture {
     const BAND: usize = 26;
-    let width = pictures[0].1.width;
+    let width = pictures.iter().map(|(_, picture)| picture.width).max().unwrap_or(0);
     let mut rgb = vec![];
     for (label, picture) in pictures {
         let signs: Vec<_> = label.chars().map(|c| SIGNS.iter().find(|(sign, _)| *sign == c)).collect();
@@ -116,7 +148,10 @@ pub fn stack(pictures: &[(&str, &Picture)]) -> Picture {
         };
         let band = (0..BAND * width).map(|k| ink(k / width, k % width).unwrap_or(255));
         rgb.extend(band.flat_map(|grey| [grey; 3]));
-        rgb.extend(&picture.rgb);
+        for row in picture.rgb.chunks_exact(3 * picture.width) {
+            rgb.extend(row);
+            rgb.resize(rgb.len() + 3 * (width - picture.width), 255);
+        }
     }
     Picture { height: rgb.len() / 3 / width, width, rgb }
 }
