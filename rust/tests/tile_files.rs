@@ -10,6 +10,7 @@ use std::fs;
 use std::os::unix::ffi::OsStrExt;
 use std::os::unix::fs::MetadataExt;
 use std::process::Stdio;
+use std::slice::from_ref;
 
 /// The tiles of a sweep: label, report and patches of each.
 fn tiles(rgb: &[u8], height: usize, width: usize, settings: &PictureSettings) -> Vec<(String, Tile, Vec<f32>)> {
@@ -208,13 +209,13 @@ fn a_sweep_is_joined_from_all_of_its_tiles() {
     fs::create_dir(folder.path("copy")).unwrap();
     let copy = names[4].replace("out/", "copy/");
     fs::copy(folder.path(&names[4]), folder.path(&copy)).unwrap();
-    fails(&[&names[..], &[copy.clone()]].concat(), "", &[&both(&names[4], &copy)]);
+    fails(&[&names[..], from_ref(&copy)].concat(), "", &[&both(&names[4], &copy)]);
     // Twice and another missing: what is given is named first.
     fails(&[&names[1..], &[copy]].concat(), "", &["are both tile r01c01"]);
     // Of another sweep: by its name, and by its sides.
     for other in ["b.20x37.r00c00", "a.20x38.r00c00", "a.37x20.r00c00"] {
         let other = format!("out/{other}.patches.npy");
-        let files = [&names[1..], &[other.clone()]].concat();
+        let files = [&names[1..], from_ref(&other)].concat();
         let parts = [&format!("{other}: is no tile of a of 20x37")[..], &names[1], "the tiles of one sweep"];
         fails(&files, "", &parts);
     }
@@ -239,7 +240,7 @@ fn a_sweep_is_joined_from_all_of_its_tiles() {
     // Sides that no sweep has.
     for sides in ["0x37", "20x8193", "18446744073709551615x1"] {
         let file = format!("a.{sides}.r00c00.patches.npy");
-        fails(&[file.clone()], "", &[&format!("{file}: refused, number 2: "), &format!("a sweep of {sides}")]);
+        fails(from_ref(&file), "", &[&format!("{file}: refused, number 2: "), &format!("a sweep of {sides}")]);
     }
     fails(&["a.20x37.r18446744073709551615c0.patches.npy".into()], "", &["number 20"]);
     fails(&["a.20x37.r0c18446744073709551615.patches.npy".into()], "", &["number 20"]);

@@ -287,6 +287,195 @@ static void channels(void) {
     EXPECT(kz_restore(forgotten, patches, FLOATS, 2, 4, back, FLOATS).number == KZ_CHANNEL);
 }
 
+/*
+ * A sweep of 10 * 13 with tiles of at most 8 * 8, and each tile's report: the last row is padded from 2 to 4 pixels,
+ * the last column from 5 to 8.
+ */
+enum { SWEEP_H = 10, SWEEP_W = 13, SWEEP = SWEEP_H * SWEEP_W * 3, TILES = 4, WHOLE = 8 * 8 * 3, LAST = 4 * 8 * 3 };
+
+static const struct kz_tile_report tile_reports[TILES] = {
+    {KZ_ACCEPTED, 4, 4, WHOLE, 0, 0, 8, 8},
+    {KZ_ACCEPTED, 4, 4, WHOLE, 0, 8, 8, 5},
+    {KZ_ACCEPTED, 2, 4, LAST, 8, 0, 2, 8},
+    {KZ_ACCEPTED, 2, 4, LAST, 8, 8, 2, 5},
+};
+
+static uint8_t large_sweep[SWEEP];
+static float tile_patches[TILES][WHOLE];
+
+/* Whether two reports are alike; one with a number but 0 has no sizes. */
+static int reported(struct kz_tile_report r, struct kz_tile_report right) {
+    return r.number == right.number && r.grid_h == right.grid_h && r.grid_w == right.grid_w &&
+           r.floats == right.floats && r.top == right.top && r.left == right.left && r.height == right.height &&
+           r.width == right.width;
+}
+
+static int refused(struct kz_tile_report r, uint32_t number) {
+    struct kz_tile_report none = {0, 0, 0, 0, 0, 0, 0, 0};
+    none.number = number;
+    return reported(r, none);
+}
+
+static void cut(void) {
+    struct {
+        struct kz_picture_settings settings;
+        size_t height, width;
+        struct kz_cut_report right;
+    } calls[] = {
+        {KZ_PICTURE_SETTINGS(2, 2, 8), SWEEP_H, SWEEP_W, {KZ_ACCEPTED, 8, 2, 2}},
+        {KZ_PICTURE_SETTINGS(2, 2, 11), SWEEP_H, SWEEP_W, {KZ_ACCEPTED, 8, 2, 2}},
+        {KZ_PICTURE_SETTINGS(2, 2, 12), SWEEP_H, SWEEP_W, {KZ_ACCEPTED, 12, 1, 2}},
+        {ruled(2), SWEEP_H, SWEEP_W, {KZ_ACCEPTED, 8, 2, 2}},
+        {KZ_PICTURE_SETTINGS(14, 2, 1540), 3000, 2000, {KZ_ACCEPTED, 1540, 2, 2}},
+        {KZ_PICTURE_SETTINGS(14, 2, 1540), 1540, 1541, {KZ_ACCEPTED, 1540, 1, 2}},
+        {KZ_PICTURE_SETTINGS(1, 1, 1), 8192, 8192, {KZ_ACCEPTED, 1, 8192, 8192}},
+        {KZ_PICTURE_SETTINGS(31, 4, 2048), 8192, 1, {KZ_ACCEPTED, 1984, 5, 1}},
+        {KZ_PICTURE_SETTINGS(0, 2, 8), SWEEP_H, SWEEP_W, {KZ_SETTING, 0, 0, 0}},
+        {ruled(0), 0, 0, {KZ_SETTING, 0, 0, 0}},
+        {ruled(SIZE_MAX), SWEEP_H, SWEEP_W, {KZ_SETTING, 0, 0, 0}},
+        {with(1, 0.2f, 0), 0, SIZE_MAX, {KZ_CHANNEL, 0, 0, 0}},
+        {with(3, NAN, 0.25f), SWEEP_H, SWEEP_W, {KZ_CHANNEL, 0, 0, 0}},
+        {KZ_PICTURE_SETTINGS(2, 2, 3), 0, SWEEP_W, {KZ_SIDE, 0, 0, 0}},
+        {KZ_PICTURE_SETTINGS(2, 2, 8), SWEEP_H, 8193, {KZ_SIDE, 0, 0, 0}},
+        {KZ_PICTURE_SETTINGS(2, 2, 8), SIZE_MAX, SIZE_MAX, {KZ_SIDE, 0, 0, 0}},
+        {KZ_PICTURE_SETTINGS(2, 2, 3), SWEEP_H, SWEEP_W, {KZ_IMAGE_SIZE, 0, 0, 0}},
+    };
+    for (size_t i = 0; i < sizeof calls / sizeof *calls; i++) {
+        struct kz_cut_report r = kz_cut(calls[i].settings, calls[i].height, calls[i].width), right = calls[i].right;
+        EXPECT(r.number == right.number && r.side == right.side && r.rows == right.rows && r.columns == right.columns);
+    }
+}
+
+static void preprocess_tile(void) {
+    static float out[WHOLE + TAIL];
+    struct kz_tile_report r;
+
+    for (size_t i = 0; i < SWEEP; i++) large_sweep[i] = (uint8_t)(i * 89 + i / 7 + 1);
+    for (size_t index = 0; index < TILES; index++) {
+        struct kz_tile_report right = tile_reports[index];
+        mark_all(out, WHOLE + TAIL);
+        r = kz_preprocess_tile(picture, large_sweep, SWEEP, SWEEP_H, SWEEP_W, index, out, WHOLE + TAIL);
+        EXPECT(reported(r, right));
+        EXPECT(marked(out, right.floats, WHOLE + TAIL));
+        /* Each sample: that of the sweep's byte, or of byte 0 in the padding. */
+        for (size_t i = 0; i < right.floats; i++) {
+            size_t y = i / 12 / right.grid_w * 2 + i / 2 % 2, x = i / 12 % right.grid_w * 2 + i % 2, c = i / 4 % 3;
+            int own = y < right.height && x < right.width;
+            float of = sample(picture, c, own ? large_sweep[((right.top + y) * SWEEP_W + right.left + x) * 3 + c] : 0);
+            EXPECT(memcmp(out + i, &of, sizeof of) == 0);
+        }
+        memcpy(tile_patches[index], out, right.floats * sizeof *out);
+        /* The other rule changes nothing, and just this length will do. */
+        mark_all(out, WHOLE);
+        r = kz_preprocess_tile(ruled(2), large_sweep, SWEEP, SWEEP_H, SWEEP_W, index, out, right.floats);
+        EXPECT(reported(r, right) && memcmp(out, tile_patches[index], right.floats * sizeof *out) == 0);
+    }
+
+    struct {
+        uint32_t number;
+        struct kz_picture_settings settings;
+        size_t rgb_len, height, width, index, out_len;
+    } calls[] = {
+        {KZ_SETTING, KZ_PICTURE_SETTINGS(0, 2, 8), SWEEP, SWEEP_H, SWEEP_W, 3, LAST},
+        {KZ_SETTING, KZ_PICTURE_SETTINGS(2, 2, SIZE_MAX), SWEEP, SWEEP_H, SWEEP_W, 3, LAST},
+        {KZ_SETTING, ruled(3), 0, 0, 0, SIZE_MAX, 0},
+        {KZ_CHANNEL, with(1, 0.2f, 0), SWEEP, SWEEP_H, SWEEP_W, 3, LAST},
+        {KZ_CHANNEL, with(2, NAN, 0.25f), 0, 0, SWEEP_W, SIZE_MAX, 0},
+        {KZ_SIDE, KZ_PICTURE_SETTINGS(2, 2, 8), SWEEP, 0, SWEEP_W, 3, LAST},
+        {KZ_SIDE, KZ_PICTURE_SETTINGS(2, 2, 3), 0, SWEEP_H, 8193, SIZE_MAX, 0},
+        {KZ_SIDE, KZ_PICTURE_SETTINGS(2, 2, 8), 0, SIZE_MAX, SIZE_MAX, SIZE_MAX, 0},
+        {KZ_RGB_LENGTH, KZ_PICTURE_SETTINGS(2, 2, 8), SWEEP - 1, SWEEP_H, SWEEP_W, 3, LAST},
+        {KZ_RGB_LENGTH, KZ_PICTURE_SETTINGS(2, 2, 3), 0, SWEEP_H, SWEEP_W, SIZE_MAX, 0},
+        {KZ_IMAGE_SIZE, KZ_PICTURE_SETTINGS(2, 2, 3), SWEEP, SWEEP_H, SWEEP_W, SIZE_MAX, 0},
+        {KZ_TILE, KZ_PICTURE_SETTINGS(2, 2, 8), SWEEP, SWEEP_H, SWEEP_W, TILES, LAST},
+        {KZ_TILE, KZ_PICTURE_SETTINGS(2, 2, 8), SWEEP, SWEEP_H, SWEEP_W, SIZE_MAX, 0},
+        {KZ_OUTPUT, KZ_PICTURE_SETTINGS(2, 2, 8), SWEEP, SWEEP_H, SWEEP_W, 3, LAST - 1},
+        {KZ_OUTPUT, KZ_PICTURE_SETTINGS(2, 2, 8), SWEEP, SWEEP_H, SWEEP_W, 0, WHOLE - 1},
+        {KZ_OUTPUT, KZ_PICTURE_SETTINGS(2, 2, 8), SWEEP, SWEEP_H, SWEEP_W, 0, 0},
+    };
+    for (size_t i = 0; i < sizeof calls / sizeof *calls; i++) {
+        mark_all(out, WHOLE + TAIL);
+        r = kz_preprocess_tile(calls[i].settings, calls[i].rgb_len ? large_sweep : NULL, calls[i].rgb_len,
+                               calls[i].height, calls[i].width, calls[i].index, calls[i].out_len ? out : NULL,
+                               calls[i].out_len);
+        EXPECT(refused(r, calls[i].number));
+        EXPECT(marked(out, 0, WHOLE + TAIL));
+    }
+}
+
+static void restore_tile(void) {
+    static uint8_t out[SWEEP + TAIL], before[SWEEP + TAIL];
+    static float damaged[WHOLE];
+    struct kz_tile_report r;
+
+    /* The tiles, the last first, over a buffer of anything: each writes its own bytes and no other. */
+    for (size_t i = 0; i < SWEEP + TAIL; i++) out[i] = (uint8_t)(i * 31 + 5);
+    for (size_t index = TILES; index-- > 0;) {
+        struct kz_tile_report right = tile_reports[index];
+        memcpy(before, out, sizeof out);
+        r = kz_restore_tile(index % 2 ? picture : ruled(2), tile_patches[index], right.floats, SWEEP_H, SWEEP_W, index,
+                            out, index ? SWEEP + TAIL : SWEEP);
+        EXPECT(reported(r, right));
+        for (size_t i = 0; i < SWEEP + TAIL; i++) {
+            size_t y = i / 3 / SWEEP_W, x = i / 3 % SWEEP_W;
+            int own = i < SWEEP && y - right.top < right.height && x - right.left < right.width;
+            EXPECT(out[i] == (own ? large_sweep[i] : before[i]));
+        }
+    }
+    EXPECT(memcmp(out, large_sweep, SWEEP) == 0);
+    for (size_t i = SWEEP; i < SWEEP + TAIL; i++) EXPECT(out[i] == (uint8_t)(i * 31 + 5));
+
+    /* Each sample of the last tile with that of byte 1 in its place: in the padding it is no sweep's. */
+    memset(before, 0xA5, sizeof before);
+    for (size_t i = 0; i < LAST; i++) {
+        struct kz_tile_report right = tile_reports[3];
+        size_t y = i / 12 / right.grid_w * 2 + i / 2 % 2, x = i / 12 % right.grid_w * 2 + i % 2, c = i / 4 % 3;
+        int own = y < right.height && x < right.width;
+        memcpy(damaged, tile_patches[3], LAST * sizeof *damaged);
+        damaged[i] = sample(picture, c, 1);
+        memcpy(out, before, sizeof out);
+        r = kz_restore_tile(picture, damaged, LAST, SWEEP_H, SWEEP_W, 3, out, SWEEP);
+        EXPECT(own ? reported(r, right) : refused(r, KZ_SAMPLE));
+        EXPECT(own ? out[((8 + y) * SWEEP_W + 8 + x) * 3 + c] == 1 : memcmp(out, before, sizeof out) == 0);
+    }
+
+    struct {
+        uint32_t number;
+        struct kz_picture_settings settings;
+        size_t patches_len, height, width, index, out_len, place; /* 1 is added to the sample at a place */
+    } calls[] = {
+        {KZ_SETTING, KZ_PICTURE_SETTINGS(33, 2, 8), LAST, SWEEP_H, SWEEP_W, 3, SWEEP, WHOLE},
+        {KZ_SETTING, ruled(0), 0, 0, 0, SIZE_MAX, 0, 0},
+        {KZ_CHANNEL, with(0, 0.2f, 0), LAST, SWEEP_H, SWEEP_W, 3, SWEEP, WHOLE},
+        {KZ_CHANNEL, with(2, NAN, 0.25f), 0, 0, SIZE_MAX, SIZE_MAX, 0, 0},
+        {KZ_SIDE, KZ_PICTURE_SETTINGS(2, 2, 8), LAST, 0, SWEEP_W, 3, SWEEP, WHOLE},
+        {KZ_SIDE, KZ_PICTURE_SETTINGS(2, 2, 3), 0, SIZE_MAX, SIZE_MAX, SIZE_MAX, 0, 0},
+        {KZ_IMAGE_SIZE, KZ_PICTURE_SETTINGS(2, 2, 3), 0, SWEEP_H, SWEEP_W, SIZE_MAX, 0, 0},
+        {KZ_TILE, KZ_PICTURE_SETTINGS(2, 2, 8), LAST, SWEEP_H, SWEEP_W, TILES, SWEEP, WHOLE},
+        {KZ_TILE, KZ_PICTURE_SETTINGS(2, 2, 8), 0, SWEEP_H, SWEEP_W, SIZE_MAX, 0, 0},
+        {KZ_PATCHES_LENGTH, KZ_PICTURE_SETTINGS(2, 2, 8), LAST - 1, SWEEP_H, SWEEP_W, 3, 0, 0},
+        {KZ_PATCHES_LENGTH, KZ_PICTURE_SETTINGS(2, 2, 8), LAST + 1, SWEEP_H, SWEEP_W, 3, SWEEP, WHOLE},
+        {KZ_PATCHES_LENGTH, KZ_PICTURE_SETTINGS(2, 2, 8), LAST, SWEEP_H, SWEEP_W, 0, SWEEP, WHOLE},
+        {KZ_PATCHES_LENGTH, KZ_PICTURE_SETTINGS(2, 2, 8), 0, SWEEP_H, SWEEP_W, 3, SWEEP, WHOLE},
+        {KZ_OUTPUT, KZ_PICTURE_SETTINGS(2, 2, 8), LAST, SWEEP_H, SWEEP_W, 3, SWEEP - 1, 0},
+        {KZ_OUTPUT, KZ_PICTURE_SETTINGS(2, 2, 8), LAST, SWEEP_H, SWEEP_W, 3, LAST, LAST - 1},
+        {KZ_OUTPUT, KZ_PICTURE_SETTINGS(2, 2, 8), LAST, SWEEP_H, SWEEP_W, 3, 0, WHOLE},
+        {KZ_SAMPLE, KZ_PICTURE_SETTINGS(2, 2, 8), LAST, SWEEP_H, SWEEP_W, 3, SWEEP, 0},
+        {KZ_SAMPLE, KZ_PICTURE_SETTINGS(2, 2, 8), LAST, SWEEP_H, SWEEP_W, 3, SWEEP, LAST - 1},
+        {KZ_SAMPLE, with(3, 0.2f, 0.25f), LAST, SWEEP_H, SWEEP_W, 3, SWEEP, WHOLE},
+    };
+    for (size_t i = 0; i < sizeof calls / sizeof *calls; i++) {
+        memcpy(damaged, tile_patches[3], sizeof damaged);
+        if (calls[i].place < WHOLE) damaged[calls[i].place] += 1;
+        memcpy(out, before, sizeof out);
+        r = kz_restore_tile(calls[i].settings, calls[i].patches_len ? damaged : NULL, calls[i].patches_len,
+                            calls[i].height, calls[i].width, calls[i].index, calls[i].out_len ? out : NULL,
+                            calls[i].out_len);
+        EXPECT(refused(r, calls[i].number));
+        EXPECT(memcmp(out, before, sizeof out) == 0);
+    }
+}
+
 static void patch(void) {
     struct kz_patch_place p = kz_patch(patches, FLOATS, 2, 3);
     EXPECT(p.start == 36 && p.len == 12);
@@ -461,6 +650,9 @@ int main(void) {
     restore();
     rules();
     channels();
+    cut();
+    preprocess_tile();
+    restore_tile();
     patch();
     forward();
     lengths();
