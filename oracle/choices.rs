@@ -1,6 +1,8 @@
 //! Means and deviations other than 01's: those that are compared, and those of the sample.
 
-use super::{accepted, differ, odd_bits, of, picture, Asked, Choice, Comparison, Fill, Random};
+use super::edges::{byte, channel, choice, grey, odd_bits, own, several, sound, spread};
+use super::edges::{step, unsound, wide, Channel, TINY};
+use super::{accepted, differ, of, picture, Asked, Choice, Comparison, Fill, Random};
 use super::{Settings, Source, Table, MAX, OWN, RULES, USUAL};
 
 /// Random choices near 01's, of any bits, and where a choice begins to be refused.
@@ -10,195 +12,6 @@ const LIMITS: usize = 4_000;
 /// Random pictures, each with its own choice, and calls of which most are refused.
 const PICTURES: usize = 250;
 const MIXED: usize = 20_000;
-
-/// A channel's mean and deviation, by their bits.
-type Channel = [u32; 2];
-
-fn channel(mean: f32, deviation: f32) -> Channel {
-    [mean.to_bits(), deviation.to_bits()]
-}
-
-fn choice(channels: [Channel; 3]) -> Choice {
-    Choice {
-        mean: channels.map(|c| c[0]),
-        deviation: channels.map(|c| c[1]),
-    }
-}
-
-/// 01's channels.
-fn own() -> [Channel; 3] {
-    [0, 1, 2].map(|c| [OWN.mean[c], OWN.deviation[c]])
-}
-
-/// A channel in every place, and in each place beside two of 01's.
-fn spread(c: Channel) -> [Choice; 4] {
-    let beside = |at: usize| {
-        let mut channels = own();
-        channels[at] = c;
-        choice(channels)
-    };
-    [choice([c; 3]), beside(0), beside(1), beside(2)]
-}
-
-/// Grey ultrasound.
-pub fn grey() -> Choice {
-    choice([channel(0.2, 0.25); 3])
-}
-
-/// 255 times the deviation is above every f32.
-pub fn wide() -> Choice {
-    choice([channel(0.2, 1e38); 3])
-}
-
-fn byte(b: u8) -> f32 {
-    f32::from(b) / 255.0
-}
-
-/// The f32 whose bits are so many more.
-fn step(x: f32, more: i32) -> f32 {
-    f32::from_bits(x.to_bits().wrapping_add_signed(more))
-}
-
-/// 2^-128: a byte's value of 1 over it is infinite, and 254 / 255 over it is not.
-const TINY: f32 = 2.938_735_877e-39;
-const SMALLEST: f32 = 1e-45;
-
-/// Channels that are allowed.
-fn sound() -> Vec<Channel> {
-    let pairs = [
-        (0.2, 0.25),
-        (0.2, -0.25),
-        (0.5, 0.5),
-        (0.0, 1.0),
-        (-0.0, 1.0),
-        (0.0, -1.0),
-        (-3.0, 0.7),
-        (1e4, 1.0),
-        (-1e4, -0.3),
-        (2e4, 3.0),
-        (65536.0, 1.0),
-        (-65535.0, 1.0),
-        (0.4, 1e-30),
-        (0.2, 1e38),
-        (0.2, -1e38),
-        (1e4, 1e38),
-        (0.0, f32::MAX),
-        (0.2, f32::MIN_POSITIVE),
-        (0.2, -f32::MIN_POSITIVE),
-        // subnormal deviations, the last two as small as their means let them be
-        (0.2, 3e-39),
-        (1.0, -3e-39),
-        (0.5, TINY),
-        (0.2, -TINY),
-        (0.0, step(TINY, 1)),
-        (1.0, -step(TINY, 1)),
-        // a byte's sample is +0, or -0 where the deviation is below zero
-        (byte(128), 0.3),
-        (byte(128), -0.3),
-        (byte(255), 0.3),
-        (byte(1), -1e38),
-        // a sample is too small for an f32 and so -0, +0, +0, -0
-        (step(byte(128), 1), 3e38),
-        (step(byte(128), -1), 3e38),
-        (step(byte(128), 1), -3e38),
-        (SMALLEST, 4.0),
-    ];
-    pairs
-        .map(|(mean, deviation)| channel(mean, deviation))
-        .to_vec()
-}
-
-/// Channels that are not.
-fn unsound() -> Vec<Channel> {
-    let pairs = [
-        (0.2, 0.0),
-        (0.2, -0.0),
-        (0.0, 0.0),
-        // bytes fall together: a third of them, by the division alone, half of them, most, all
-        (65535.0, 3.0),
-        (1e5, 1.0),
-        (-1e5, -0.5),
-        (1e6, 1.0),
-        (1e7, 0.25),
-        (-1e7, 1e30),
-        (1e8, 1.0),
-        (-1e8, 1e38),
-        (f32::MAX, 1.0),
-        (f32::MIN, f32::MAX),
-        // only two: 1 and 2, 254 and 255
-        (65536.007_812_5, 1.0),
-        (-65535.003_906_25, 1.0),
-        (-65535.003_906_25, -1.0),
-        // the last value alone is infinite, the first, both; strictly rising or falling all the same
-        (0.0, TINY),
-        (0.0, -TINY),
-        (-0.0, TINY),
-        (1.0, TINY),
-        (1.0, -TINY),
-        (0.5, TINY / 2.0),
-        // some, half of them, all
-        (-3.0, 1e-38),
-        (0.2, TINY / 2.0),
-        (0.2, -1e-40),
-        (byte(128), SMALLEST),
-        (1e4, 1e-35),
-        (1e4, SMALLEST),
-    ];
-    let mut list = pairs
-        .map(|(mean, deviation)| channel(mean, deviation))
-        .to_vec();
-    // 0 and 1 alone fall together.
-    list.push([0xC760_6168, 0x3F80_6B4C]);
-    // NaNs and infinities, as the mean, as the deviation and as both.
-    let odd = [
-        0x7FC0_0000,
-        0xFFC0_0000,
-        0x7F80_0001,
-        0xFFFF_FFFF,
-        0x7F80_0000,
-        0xFF80_0000,
-    ];
-    for bits in odd {
-        let [mean, deviation] = channel(0.2, 0.25);
-        list.extend([[bits, deviation], [mean, bits], [bits, bits]]);
-    }
-    list
-}
-
-/// Choices whose channels differ, and those that are almost 01's: with one bit pattern a step away, with
-/// channels exchanged, and with means for deviations.
-fn several() -> Vec<Choice> {
-    let [red, green, blue] = own();
-    let mut list = vec![
-        choice([channel(0.1, 0.3), channel(0.2, 0.25), channel(0.3, 0.2)]),
-        choice([channel(0.1, 0.3), channel(0.2, -0.25), channel(0.3, 0.2)]),
-        choice([channel(0.1, -0.3), channel(0.2, 0.25), channel(0.3, -0.2)]),
-        choice([channel(0.2, 0.25), channel(0.2, 0.25), channel(0.2, 1e38)]),
-        choice([channel(0.2, -1e38), channel(0.2, 0.25), channel(-3.0, 3e38)]),
-        choice([
-            channel(0.2, 3e-39),
-            channel(1e4, 1.0),
-            channel(byte(7), -2.0),
-        ]),
-        choice([green, red, blue]),
-        choice([red, blue, green]),
-        choice([blue, red, green]),
-        choice([red; 3]),
-        choice(own().map(|[mean, deviation]| [deviation, mean])),
-        choice(own().map(|[mean, deviation]| [mean, deviation ^ 1 << 31])),
-    ];
-    for at in 0..3 {
-        for more in [1, -1] {
-            let mut six = OWN;
-            six.mean[at] = six.mean[at].wrapping_add_signed(more);
-            list.push(six);
-            let mut six = OWN;
-            six.deviation[at] = six.deviation[at].wrapping_add_signed(more);
-            list.push(six);
-        }
-    }
-    list
-}
 
 impl Random {
     /// From 0 to 1.
@@ -281,14 +94,15 @@ impl Comparison {
         for c in 0..3 {
             let found = [OWN.mean[c], OWN.deviation[c]].map(|bits| bits as usize);
             let right = channel(mean[c], deviation[c]).map(|bits| bits as usize);
-            self.note(differ(["mean", "deviation"], found, right), || {
-                format!("01's channel {c}")
-            });
+            self.wrong
+                .note(differ(["mean", "deviation"], found, right), || {
+                    format!("01's channel {c}")
+                });
         }
         for (list, right) in [(sound(), 1), (unsound(), 0)] {
             for c in list {
                 let found = usize::from(Table::new(choice([c; 3])).allowed);
-                self.note(differ(["allowed"], [found], [right]), || {
+                self.wrong.note(differ(["allowed"], [found], [right]), || {
                     format!("settled channel {c:08x?}")
                 });
             }

@@ -20,47 +20,25 @@ use std::time::Instant;
 
 #[path = "choices.rs"]
 mod choices;
+#[path = "edges.rs"]
+mod edges;
+#[path = "fills.rs"]
+mod fills;
+#[path = "lent.rs"]
+mod lent;
 #[path = "sample.rs"]
 mod sample;
-use sample::{hash, states, MARKS};
-
-/// The functions that were cut, and the types that they name; the settings hold the six numbers too.
-mod rust {
-    pub struct PixtralVisionConfig {
-        pub patch_size: usize,
-        pub spatial_merge_size: usize,
-        pub image_size: usize,
-        pub mean: [f32; 3],
-        pub deviation: [f32; 3],
-    }
-
-    #[derive(Debug)]
-    pub enum HerbertError {
-        Config(#[allow(dead_code)] String),
-    }
-
-    pub type Result<T> = std::result::Result<T, HerbertError>;
-
-    include!(env!("KZ_CUT"));
-}
-
-/// The means and the deviations of the channels, by their bits.
-#[repr(C)]
-#[derive(Clone, Copy, PartialEq)]
-struct Choice {
-    mean: [u32; 3],
-    deviation: [u32; 3],
-}
-
-#[repr(C)]
-#[derive(Clone, Copy, PartialEq)]
-struct Settings {
-    patch_size: usize,
-    spatial_merge_size: usize,
-    image_size: usize,
-    resize_rule: usize,
-    six: Choice,
-}
+#[path = "settings.rs"]
+mod settings;
+#[path = "words.rs"]
+mod words;
+use edges::{grey, odd_bits, pairs, wide};
+use fills::{Fill, Random, SEED};
+use lent::{differ, Differences, Lent};
+use sample::{hash, MARKS};
+use settings::{of, preprocess_in_rust, rust, Choice, Settings, Sides, Table};
+use settings::{MAX, NO_RULES, OWN, RULES, USUAL};
+use words::{shown, Set, Words};
 
 #[repr(C)]
 #[derive(Default)]
@@ -112,67 +90,12 @@ extern "C" {
 /// Random pictures, and random calls of which most are refused, in the default run.
 const PICTURES: usize = 2_500;
 const MIXED: usize = 150_000;
-/// Differences that are printed.
-const SHOWN: usize = 20;
 /// The most bytes that a picture of a long list, or its result, has.
 const SMALL: usize = 1 << 19;
-
-const MAX: usize = usize::MAX;
-const SEED: u64 = 0x6B79_7A67_756C_7461;
-const USUAL: Settings = of(14, 2, 1540);
-const RULES: [usize; 2] = [1, 2];
-/// Numbers of no rule; the low 32 bits of the last two are 1 and 2.
-const NO_RULES: [usize; 7] = [0, 3, MAX, 1 << 63, 1 << 32, (1 << 32) + 1, (1 << 32) + 2];
-
-/// 01's own.
-const OWN: Choice = Choice {
-    mean: [0x3EF6_813A, 0x3EEA_685E, 0x3ED1_00FF],
-    deviation: [0x3E89_89D0, 0x3E85_C974, 0x3E8D_32A8],
-};
-
-/// Settings with rule 1 and 01's means and deviations.
-const fn of(patch_size: usize, spatial_merge_size: usize, image_size: usize) -> Settings {
-    Settings {
-        patch_size,
-        spatial_merge_size,
-        image_size,
-        resize_rule: 1,
-        six: OWN,
-    }
-}
-
-/// Height and width, of pixels or of patches.
-type Sides = [usize; 2];
 
 // --- The paper's text ---
 
 impl Settings {
-    fn rule(self, resize_rule: usize) -> Settings {
-        Settings {
-            resize_rule,
-            ..self
-        }
-    }
-
-    fn with(self, six: Choice) -> Settings {
-        Settings { six, ..self }
-    }
-
-    fn allowed(self) -> bool {
-        (1..=32).contains(&self.patch_size)
-            && (1..=4).contains(&self.spatial_merge_size)
-            && (1..=2048).contains(&self.image_size)
-            && RULES.contains(&self.resize_rule)
-    }
-
-    fn align(self) -> usize {
-        self.patch_size * self.spatial_merge_size
-    }
-
-    fn patch_floats(self) -> usize {
-        3 * self.patch_size * self.patch_size
-    }
-
     /// The most patches along a side.
     fn most(self) -> usize {
         self.image_size / self.patch_size
@@ -205,78 +128,6 @@ impl Settings {
     }
 }
 
-impl Choice {
-    /// The bits of a byte's sample in a channel.
-    fn value(self, channel: usize, byte: u8) -> u32 {
-        let mean = f32::from_bits(self.mean[channel]);
-        let deviation = f32::from_bits(self.deviation[channel]);
-        ((f32::from(byte) / 255.0 - mean) / deviation).to_bits()
-    }
-
-    fn values(self, channel: usize) -> [u32; 256] {
-        std::array::from_fn(|byte| self.value(channel, byte as u8))
-    }
-}
-
-/// Whether a channel's 256 values are finite, and strictly rise or strictly fall.
-fn channel_allowed(values: [u32; 256]) -> bool {
-    let values = values.map(f32::from_bits);
-    let every = |holds: fn(f32, f32) -> bool| values.windows(2).all(|two| holds(two[0], two[1]));
-    let finite = values.iter().all(|v| v.is_finite());
-    finite && (every(|this, next| this < next) || every(|this, next| this > next))
-}
-
-/// What a choice comes to.
-struct Table {
-    six: Choice,
-    allowed: bool,
-    /// The bits of every byte in every channel.
-    values: [[u32; 256]; 3],
-    /// Each channel's with their bytes, by the bits.
-    bytes: [Vec<(u32, u8)>; 3],
-}
-
-impl Table {
-    fn new(six: Choice) -> Self {
-        let values = [0, 1, 2].map(|channel| six.values(channel));
-        Table {
-            six,
-            allowed: values.into_iter().all(channel_allowed),
-            values,
-            bytes: values.map(|values| {
-                let mut list: Vec<_> = values.into_iter().zip(0..=255).collect();
-                list.sort();
-                list
-            }),
-        }
-    }
-
-    /// The byte that has the bits in a channel.
-    fn byte(&self, channel: usize, bits: u32) -> Option<u8> {
-        let list = &self.bytes[channel];
-        let at = list.binary_search_by_key(&bits, |entry| entry.0).ok()?;
-        Some(list[at].1)
-    }
-}
-
-/// The number of a preprocess that is refused before its output is measured; 0 for any other. The
-/// table is that of the settings, as in `restored`.
-fn refused(table: &Table, s: Settings, rgb: usize, sides: Sides) -> u32 {
-    if !s.allowed() {
-        1
-    } else if !table.allowed {
-        19
-    } else if sides.iter().any(|side| !(1..=8192).contains(side)) {
-        2
-    } else if rgb != sides[0] * sides[1] * 3 {
-        3
-    } else if s.image_size < s.align() {
-        4
-    } else {
-        0
-    }
-}
-
 /// Restore's number, and the bytes that an accepted call writes.
 fn restored(
     table: &Table,
@@ -291,32 +142,19 @@ fn restored(
     if !table.allowed {
         return Err(19);
     }
-    let p = s.patch_size;
     if grid
         .iter()
         .any(|side| *side == 0 || *side > s.most() || side % s.spatial_merge_size != 0)
     {
         return Err(6);
     }
-    if patches.len() != grid[0] * grid[1] * 3 * p * p {
+    if patches.len() != grid[0] * grid[1] * s.patch_floats() {
         return Err(7);
     }
-    let [height, width] = grid.map(|side| side * p);
-    if out < height * width * 3 {
+    if out < patches.len() {
         return Err(5);
     }
-    let mut rgb = Vec::with_capacity(height * width * 3);
-    for row in 0..height {
-        for column in 0..width {
-            for channel in 0..3 {
-                let patch = (row / p) * grid[1] + column / p;
-                let place = channel * p * p + (row % p) * p + column % p;
-                let bits = patches[patch * 3 * p * p + place];
-                rgb.push(table.byte(channel, bits).ok_or(8u32)?);
-            }
-        }
-    }
-    Ok(rgb)
+    table.unpatched(s, patches, grid).ok_or(8)
 }
 
 /// Patch i from place i · 3p²; 0 and 0 where p is not in 1..32 or the whole patch does not lie inside.
@@ -331,137 +169,6 @@ fn placed(floats: usize, patch_size: usize, i: usize) -> [usize; 2] {
     }
 }
 
-impl fmt::Display for Settings {
-    fn fmt(&self, to: &mut fmt::Formatter) -> fmt::Result {
-        let (patch, merge) = (self.patch_size, self.spatial_merge_size);
-        let (image, rule) = (self.image_size, self.resize_rule);
-        write!(to, "patch {patch} merge {merge} image {image} rule {rule}")?;
-        if self.six != OWN {
-            let hex = |three: [u32; 3]| three.map(|bits| format!("{bits:08x}")).join(",");
-            let (mean, deviation) = (hex(self.six.mean), hex(self.six.deviation));
-            write!(to, " mean {mean} deviation {deviation}")?;
-        }
-        Ok(())
-    }
-}
-
-/// Three bit patterns, in the words of a call.
-fn three(word: &str) -> Option<[u32; 3]> {
-    let list: Result<Vec<_>, _> = word
-        .split(',')
-        .map(|x| u32::from_str_radix(x, 16))
-        .collect();
-    list.ok()?.try_into().ok()
-}
-
-// --- Pictures ---
-
-/// SplitMix64.
-struct Random(u64);
-
-impl Random {
-    fn next(&mut self) -> u64 {
-        self.0 = self.0.wrapping_add(0x9E37_79B9_7F4A_7C15);
-        let mut z = self.0;
-        z = (z ^ (z >> 30)).wrapping_mul(0xBF58_476D_1CE4_E5B9);
-        z = (z ^ (z >> 27)).wrapping_mul(0x94D0_49BB_1331_11EB);
-        z ^ (z >> 31)
-    }
-
-    fn below(&mut self, n: usize) -> usize {
-        (self.next() % n as u64) as usize
-    }
-
-    fn pick<T: Copy>(&mut self, from: &[T]) -> T {
-        from[self.below(from.len())]
-    }
-
-    fn fill(&mut self) -> Fill {
-        Fill::Random(self.next())
-    }
-}
-
-/// A picture's bytes, by a rule.
-#[derive(Clone, Copy, PartialEq)]
-enum Fill {
-    /// The words of SplitMix64 from a seed, the low byte of each first.
-    Random(u64),
-    /// The generator of the sample from a seed.
-    Sample(u32),
-    Zero,
-    Full,
-    /// From 0 in the first column to 255 in the last.
-    Across,
-    /// From 0 in the first row to 255 in the last.
-    Down,
-    /// The low 8 bits of each byte's index.
-    Ramp,
-    /// Pixels of 0 and of 255 in turn.
-    Checks,
-}
-
-const FILLS: [(&str, Fill); 6] = [
-    ("zero", Fill::Zero),
-    ("full", Fill::Full),
-    ("across", Fill::Across),
-    ("down", Fill::Down),
-    ("ramp", Fill::Ramp),
-    ("checks", Fill::Checks),
-];
-
-impl Fill {
-    fn bytes(self, len: usize, sides: Sides) -> Vec<u8> {
-        let [height, width] = sides.map(|side| side.max(1));
-        let shade = |at: usize, side: usize| (at * 255 / (side - 1).max(1)) as u8;
-        let each = |byte: &dyn Fn(usize) -> u8| (0..len).map(byte).collect();
-        match self {
-            Fill::Random(seed) => {
-                let (mut random, mut bytes) = (Random(seed), vec![0; len]);
-                for run in bytes.chunks_mut(8) {
-                    run.copy_from_slice(&random.next().to_le_bytes()[..run.len()]);
-                }
-                bytes
-            }
-            Fill::Sample(seed) => states(seed).map(|x| (x >> 24) as u8).take(len).collect(),
-            Fill::Zero => vec![0; len],
-            Fill::Full => vec![255; len],
-            Fill::Across => each(&|i| shade(i / 3 % width, width)),
-            Fill::Down => each(&|i| shade(i / 3 / width, height)),
-            Fill::Ramp => each(&|i| i as u8),
-            Fill::Checks => each(&|i| {
-                if (i / 3 % width + i / 3 / width) % 2 == 0 {
-                    0
-                } else {
-                    255
-                }
-            }),
-        }
-    }
-
-    fn of(word: &str) -> Option<Fill> {
-        match word.split_once(':') {
-            Some(("random", seed)) => seed.parse().ok().map(Fill::Random),
-            Some(("sample", seed)) => seed.parse().ok().map(Fill::Sample),
-            _ => FILLS
-                .iter()
-                .find(|(name, _)| *name == word)
-                .map(|(_, fill)| *fill),
-        }
-    }
-}
-
-impl fmt::Display for Fill {
-    fn fmt(&self, to: &mut fmt::Formatter) -> fmt::Result {
-        let name = FILLS.iter().find(|(_, fill)| fill == self);
-        match (self, name) {
-            (Fill::Random(seed), _) => write!(to, "random:{seed}"),
-            (Fill::Sample(seed), _) => write!(to, "sample:{seed}"),
-            (_, Some((name, _))) => write!(to, "{name}"),
-            (_, None) => Err(fmt::Error),
-        }
-    }
-}
-
 /// A picture that preprocess accepts, and the answers by the Rust.
 struct Picture {
     of: (Settings, Sides, Fill),
@@ -469,19 +176,6 @@ struct Picture {
     patches: Vec<u32>,
     grid: Sides,
     resized: Vec<u8>,
-}
-
-/// The Rust's preprocess, which is that of rule 1.
-fn preprocess_in_rust(s: Settings, rgb: &[u8], [height, width]: Sides) -> (Vec<f32>, usize, usize) {
-    let config = rust::PixtralVisionConfig {
-        patch_size: s.patch_size,
-        spatial_merge_size: s.spatial_merge_size,
-        image_size: s.image_size,
-        mean: s.six.mean.map(f32::from_bits),
-        deviation: s.six.deviation.map(f32::from_bits),
-    };
-    rust::pixtral_preprocess(rgb, height, width, &config)
-        .expect("the Rust refuses a call that the paper accepts")
 }
 
 fn picture(s: Settings, sides: Sides, fill: Fill) -> Picture {
@@ -507,76 +201,6 @@ fn picture(s: Settings, sides: Sides, fill: Fill) -> Picture {
     }
 }
 
-// --- Lent buffers ---
-
-trait Cell: Copy + PartialEq + fmt::LowerHex {
-    fn mark(at: usize) -> Self;
-}
-
-impl Cell for u8 {
-    fn mark(at: usize) -> u8 {
-        0xA5 ^ (at as u8).wrapping_mul(29)
-    }
-}
-
-/// The bits of numbers near -6.9, which no sample of 01's numbers is.
-impl Cell for u32 {
-    fn mark(at: usize) -> u32 {
-        0xC0DE_0000 | (at & 0xFFFF) as u32
-    }
-}
-
-/// Marked cells before and after a buffer. An odd number, so that bytes are lent at odd places.
-const GUARD: usize = 61;
-
-/// A buffer to lend: contents in front, then marks.
-struct Lent<T> {
-    cells: Vec<T>,
-    len: usize,
-}
-
-impl<T: Cell> Lent<T> {
-    fn new(front: &[T], len: usize) -> Self {
-        let mut cells: Vec<T> = (0..len + 2 * GUARD).map(T::mark).collect();
-        cells[GUARD..GUARD + front.len()].copy_from_slice(front);
-        Lent { cells, len }
-    }
-
-    fn pointer(&mut self) -> *mut T {
-        self.cells[GUARD..].as_mut_ptr()
-    }
-
-    /// The first place, guards among them, where `front` and then marks do not stand.
-    fn differs(&self, name: &str, front: &[T]) -> Option<String> {
-        let inside = GUARD..GUARD + front.len();
-        let expected = |at: usize| match inside.contains(&at) {
-            true => front[at - GUARD],
-            false => T::mark(at),
-        };
-        let outside = (0..inside.start).chain(inside.end..self.cells.len());
-        let wrong = |at: &usize| self.cells[*at] != expected(*at);
-        let at = match self.cells[inside.clone()] == *front {
-            true => outside.into_iter().find(wrong)?,
-            false => inside.clone().find(wrong)?,
-        };
-        let place = at as isize - GUARD as isize;
-        let (found, right) = (self.cells[at], expected(at));
-        Some(format!(
-            "{name}[{place}] of {} is {found:x}, not {right:x}",
-            self.len
-        ))
-    }
-}
-
-fn differ<const N: usize>(
-    names: [&str; N],
-    found: [usize; N],
-    right: [usize; N],
-) -> Option<String> {
-    let at = (0..N).find(|at| found[*at] != right[*at])?;
-    Some(format!("{} is {}, not {}", names[at], found[at], right[at]))
-}
-
 // --- The comparison ---
 
 /// Where the patches of a restore come from.
@@ -597,11 +221,7 @@ impl fmt::Display for Source {
     }
 }
 
-/// A place of the patches, and the bits that are put there.
-type Set = (usize, u32);
-
 struct Comparison {
-    /// Of the means and deviations of the last call.
     table: Table,
     /// The last picture that was asked for: the calls come in groups that share one.
     last: Option<Picture>,
@@ -611,8 +231,7 @@ struct Comparison {
     patch: u64,
     /// How many preprocess and restore calls have each number.
     numbers: [BTreeMap<u32, u64>; 2],
-    differ: u64,
-    first: Vec<String>,
+    wrong: Differences,
 }
 
 impl Comparison {
@@ -625,16 +244,8 @@ impl Comparison {
             restore: 0,
             patch: 0,
             numbers: [BTreeMap::new(), BTreeMap::new()],
-            differ: 0,
-            first: Vec::new(),
+            wrong: Differences::default(),
         }
-    }
-
-    fn table(&mut self, six: Choice) -> &Table {
-        if self.table.six != six {
-            self.table = Table::new(six);
-        }
-        &self.table
     }
 
     /// Makes the picture the last one.
@@ -647,7 +258,7 @@ impl Comparison {
 
     fn preprocess(&mut self, s: Settings, sides: Sides, fill: Fill, rgb: usize, out: usize) {
         self.preprocess += 1;
-        let (number, found) = match refused(self.table(s.six), s, rgb, sides) {
+        let (number, found) = match self.table.of(s.six).refused(s, Some(rgb), sides) {
             0 => {
                 let p = self.ask(s, sides, fill);
                 match out < p.patches.len() {
@@ -666,7 +277,7 @@ impl Comparison {
         };
         *self.numbers[0].entry(number).or_default() += 1;
         let [h, w] = sides;
-        self.note(found, || {
+        self.wrong.note(found, || {
             format!("preprocess {s} height {h} width {w} rgb {fill} bytes {rgb} out {out}")
         });
     }
@@ -684,13 +295,7 @@ impl Comparison {
         let mut patches: Vec<u32> = match source {
             Source::Samples(fill) => {
                 let bytes = fill.bytes(floats, [1, floats / 3]);
-                let p = if s.allowed() { s.patch_size } else { 1 };
-                let mut samples = Vec::with_capacity(floats);
-                let values = self.table(s.six).values.iter().cycle();
-                for (run, values) in bytes.chunks(p * p).zip(values) {
-                    samples.extend(run.iter().map(|byte| values[*byte as usize]));
-                }
-                samples
+                self.table.of(s.six).samples(s, &bytes)
             }
             Source::Picture(sides, fill) => self.ask(s, sides, fill).patches.clone(),
         };
@@ -698,7 +303,7 @@ impl Comparison {
         for (place, bits) in set {
             patches[*place] = *bits;
         }
-        let expected = restored(self.table(s.six), s, &patches, grid, out);
+        let expected = restored(self.table.of(s.six), s, &patches, grid, out);
         let number = *expected.as_ref().err().unwrap_or(&0);
         *self.numbers[1].entry(number).or_default() += 1;
         let mut found = restore(s, grid, &patches, out, &expected);
@@ -710,9 +315,8 @@ impl Comparison {
             }
         }
         let [h, w] = grid;
-        self.note(found, || {
-            let set = set.iter().map(|(at, bits)| format!(" set {at}={bits:08x}"));
-            let set: String = set.collect();
+        self.wrong.note(found, || {
+            let set = shown(set);
             format!("restore {s} grid_h {h} grid_w {w} {source} floats {floats} out {out}{set}")
         });
     }
@@ -720,52 +324,29 @@ impl Comparison {
     fn patch(&mut self, floats: usize, patch_size: usize, i: usize) {
         self.patch += 1;
         let found = patch(floats, patch_size, i);
-        self.note(found, || {
+        self.wrong.note(found, || {
             format!("lookup floats {floats} patch {patch_size} i {i}")
         });
     }
 
-    fn note(&mut self, found: Option<String>, words: impl Fn() -> String) {
-        if let Some(what) = found {
-            self.differ += 1;
-            if self.first.len() < SHOWN {
-                self.first.push(format!("{}: {what}", words()));
-            }
-        }
-    }
-
     /// The call of such words: a kind, then names with values.
     fn repeat(&mut self, words: &[&str]) -> Option<()> {
-        let (kind, pairs) = words.split_first()?;
-        let pairs = pairs.chunks_exact(2);
-        let text = |name| Some(pairs.clone().find(|pair| pair[0] == name)?[1]);
-        let number = |name| text(name)?.parse::<usize>().ok();
-        let settings = || {
-            let s = of(number("patch")?, number("merge")?, number("image")?);
-            let bits = |name, own| text(name).map_or(Some(own), three);
-            let (mean, deviation) = (bits("mean", OWN.mean)?, bits("deviation", OWN.deviation)?);
-            Some(s.rule(number("rule")?).with(Choice { mean, deviation }))
-        };
-        let sides = || Some([number("height")?, number("width")?]);
-        let rgb = || Fill::of(text("rgb")?);
+        let (kind, words) = words.split_first()?;
+        let words = Words(words);
+        let number = |name| words.number(name);
         match *kind {
             "preprocess" => {
-                let (bytes, out) = (number("bytes")?, number("out")?);
-                self.preprocess(settings()?, sides()?, rgb()?, bytes, out);
+                let (s, sides, fill) = (words.settings()?, words.sides()?, words.fill("rgb")?);
+                self.preprocess(s, sides, fill, number("bytes")?, number("out")?);
             }
             "restore" => {
                 let grid = [number("grid_h")?, number("grid_w")?];
-                let source = match text("samples") {
-                    Some(fill) => Source::Samples(Fill::of(fill)?),
-                    None => Source::Picture(sides()?, rgb()?),
+                let source = match words.text("samples") {
+                    Some(_) => Source::Samples(words.fill("samples")?),
+                    None => Source::Picture(words.sides()?, words.fill("rgb")?),
                 };
-                let mut set = Vec::new();
-                for pair in pairs.clone().filter(|pair| pair[0] == "set") {
-                    let (at, bits) = pair[1].split_once('=')?;
-                    set.push((at.parse().ok()?, u32::from_str_radix(bits, 16).ok()?));
-                }
                 let (floats, out) = (number("floats")?, number("out")?);
-                self.restore(settings()?, grid, source, floats, out, &set);
+                self.restore(words.settings()?, grid, source, floats, out, &words.sets()?);
             }
             "lookup" => self.patch(number("floats")?, number("patch")?, number("i")?),
             _ => return None,
@@ -775,16 +356,14 @@ impl Comparison {
 
     /// Prints the differences and the counts, and says whether nothing differs.
     fn report(self) -> bool {
-        for line in &self.first {
-            println!("{line}");
-        }
+        self.wrong.print();
         let [preprocess, restore] = &self.numbers;
         eprintln!("picture: numbers of preprocess {preprocess:?}, of restore {restore:?}");
         println!(
             "picture: {} preprocess, {} restore, {} patch calls compared with the Rust; {} differ",
-            self.preprocess, self.restore, self.patch, self.differ
+            self.preprocess, self.restore, self.patch, self.wrong.count
         );
-        self.differ == 0
+        self.wrong.count == 0
     }
 }
 
@@ -886,7 +465,8 @@ impl Comparison {
             (of(1, 1, 2).rule(2), [1, 8192], [1, 2]),
         ] {
             let found = differ(["grid_h", "grid_w"], s.grid(sides), grid);
-            self.note(found, || format!("settled {s} sides {sides:?}"));
+            self.wrong
+                .note(found, || format!("settled {s} sides {sides:?}"));
             let fill = self.random.fill();
             self.there_and_back(s, sides, fill);
         }
@@ -952,10 +532,7 @@ impl Comparison {
     /// One whose buffers are not long, with any fill.
     fn small_picture(&mut self, s: Settings, sides: Sides) {
         if !sides.contains(&0) && usize::max(sides[0] * sides[1] * 3, s.size(sides)) <= SMALL {
-            let fill = match self.random.below(8) {
-                k if k < FILLS.len() => FILLS[k].1,
-                _ => self.random.fill(),
-            };
+            let fill = self.random.any_fill();
             self.there_and_back(s, sides, fill);
         }
     }
@@ -1279,29 +856,6 @@ fn under_both(settings: &[Settings]) -> Vec<Settings> {
     settings.iter().flat_map(both).collect()
 }
 
-/// Every pair of two members of the list.
-fn pairs(mut list: Vec<usize>) -> Vec<Sides> {
-    list.sort();
-    list.dedup();
-    let with = |first: &usize| {
-        list.iter()
-            .map(|second| [*first, *second])
-            .collect::<Vec<_>>()
-    };
-    list.iter().flat_map(with).collect()
-}
-
-/// NaNs, infinities, zeros, subnormals, whole numbers, and a byte before it is a sample.
-fn odd_bits() -> Vec<u32> {
-    let mut list = vec![0x7FC0_0000, 0x7F80_0001, 0x7FBF_FFFF, 0x7FFF_FFFF];
-    list.extend([0xFFC0_0000, 0xFF80_0001, 0xFFFF_FFFF]);
-    list.extend([0x7F80_0000, 0xFF80_0000, 0x7F7F_FFFF, 0xFF7F_FFFF]);
-    list.extend([0, 0x8000_0000, 1, 0x8000_0001, 0x007F_FFFF, 0x0080_0000]);
-    list.extend([1.0, -1.0, 2.0, 255.0, 256.0, 8388608.0, -8388608.0].map(f32::to_bits));
-    list.push((100.0f32 / 255.0).to_bits());
-    list
-}
-
 fn edges_and_random() -> bool {
     let mut all = Comparison::new();
     all.large_pictures();
@@ -1405,10 +959,10 @@ fn bench() {
     bench_preprocess(USUAL, [1024, 768]);
     bench_restore(USUAL, largest);
     println!("means 0.2, deviations 0.25: grey ultrasound");
-    bench_preprocess(USUAL.with(choices::grey()), largest);
-    bench_restore(USUAL.with(choices::grey()), largest);
+    bench_preprocess(USUAL.with(grey()), largest);
+    bench_restore(USUAL.with(grey()), largest);
     println!("means 0.2, deviations 1e38: each byte is looked up by halving the table");
-    bench_restore(USUAL.with(choices::wide()), largest);
+    bench_restore(USUAL.with(wide()), largest);
 }
 
 // --- The sample ---
@@ -1453,7 +1007,7 @@ impl Asked {
         let (s, sides) = (self.s, self.sides);
         let table = Table::new(s.six);
         let mut cells: Vec<u32> = sample::marks().take(CELLS).collect();
-        let mut report = [refused(&table, s, self.rgb, sides) as usize, 0, 0, 0];
+        let mut report = [table.refused(s, Some(self.rgb), sides) as usize, 0, 0, 0];
         if report[0] == 0 {
             let made = picture(s, sides, Fill::Sample(self.seed));
             let n = made.patches.len();
