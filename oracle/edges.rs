@@ -1,6 +1,7 @@
 //! Values at which something may go wrong: sides, bits of samples, means and deviations.
 
-use super::settings::{Choice, Sides, OWN};
+use super::settings::{Choice, Settings, Sides, OWN};
+use super::words::Set;
 
 /// Every pair of two members of the list.
 pub fn pairs(mut list: Vec<usize>) -> Vec<Sides> {
@@ -23,6 +24,23 @@ pub fn odd_bits() -> Vec<u32> {
     list.extend([1.0, -1.0, 2.0, 255.0, 256.0, 8388608.0, -8388608.0].map(f32::to_bits));
     list.push((100.0f32 / 255.0).to_bits());
     list
+}
+
+/// What a sample of patches is changed to: odd bits, bits beside its own, and samples of bytes in each
+/// channel; and two samples changed at once.
+pub fn changes(s: Settings, patches: &[u32], place: usize, other: usize) -> Vec<Vec<Set>> {
+    let bits = patches[place];
+    let channel = place * 3 / s.patch_floats() % 3;
+    let mut list = odd_bits();
+    list.extend((0..32).map(|bit| bits ^ 1 << bit));
+    list.extend([bits.wrapping_add(1), bits.wrapping_sub(1)]);
+    for byte in [0, 1, 100, 254, 255] {
+        list.extend((0..3).map(|shift| s.six.value((channel + shift) % 3, byte)));
+    }
+    let mut sets: Vec<_> = list.into_iter().map(|bits| vec![(place, bits)]).collect();
+    sets.push(vec![(place, patches[other]), (other, bits)]);
+    sets.push(vec![(place, 0x7FC0_0000), (other, 0x8000_0000)]);
+    sets
 }
 
 /// A channel's mean and deviation, by their bits.

@@ -3,7 +3,7 @@
 use std::fmt;
 
 use super::sample::states;
-use super::settings::Sides;
+use super::settings::{Sides, NO_RULES, RULES};
 
 pub const SEED: u64 = 0x6B79_7A67_756C_7461;
 
@@ -25,6 +25,22 @@ impl Random {
 
     pub fn pick<T: Copy>(&mut self, from: &[T]) -> T {
         from[self.below(from.len())]
+    }
+
+    /// A resize rule, or now and then what is none.
+    pub fn rule(&mut self) -> usize {
+        match self.below(16) {
+            0 => self.pick(&NO_RULES),
+            _ => self.pick(&RULES),
+        }
+    }
+
+    /// A length, or now and then one beside it; none is long.
+    pub fn length(&mut self, n: usize) -> usize {
+        match self.below(3) {
+            0 => (n.min(1000) + self.below(3)).saturating_sub(1),
+            _ => n.min(1000),
+        }
     }
 
     pub fn fill(&mut self) -> Fill {

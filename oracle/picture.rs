@@ -26,16 +26,19 @@ mod edges;
 mod fills;
 #[path = "lent.rs"]
 mod lent;
+#[path = "records.rs"]
+mod records;
 #[path = "sample.rs"]
 mod sample;
 #[path = "settings.rs"]
 mod settings;
 #[path = "words.rs"]
 mod words;
-use edges::{grey, odd_bits, pairs, wide};
+use edges::{changes, grey, odd_bits, pairs, wide};
 use fills::{Fill, Random, SEED};
 use lent::{differ, Differences, Lent};
-use sample::{hash, MARKS};
+use records::CELLS;
+use sample::hash;
 use settings::{of, preprocess_in_rust, rust, Choice, Settings, Sides, Table};
 use settings::{MAX, NO_RULES, OWN, RULES, USUAL};
 use words::{shown, Set, Words};
@@ -729,20 +732,8 @@ impl Comparison {
         let mut places = vec![0, 1, n / 3, n / 2, 2 * n / 3, n - 2, n - 1];
         places.extend((0..5).map(|_| self.random.below(n)));
         for place in places {
-            let bits = patches[place];
-            let channel = place * 3 / s.patch_floats() % 3;
-            let mut list = odd_bits();
-            list.extend((0..32).map(|bit| bits ^ 1 << bit));
-            list.extend([bits.wrapping_add(1), bits.wrapping_sub(1)]);
-            for byte in [0, 1, 100, 254, 255] {
-                list.extend((0..3).map(|shift| s.six.value((channel + shift) % 3, byte)));
-            }
-            let mut sets: Vec<_> = list.into_iter().map(|bits| vec![(place, bits)]).collect();
-            let other = self.random.below(n);
-            sets.push(vec![(place, patches[other]), (other, bits)]);
-            sets.push(vec![(place, 0x7FC0_0000), (other, 0x8000_0000)]);
             let source = Source::Picture(sides, fill);
-            for set in sets {
+            for set in changes(s, &patches, place, self.random.below(n)) {
                 for out in [n, n - 1, n + 3] {
                     self.restore(s, s.grid(sides), source, n, out, &set);
                 }
@@ -781,20 +772,12 @@ impl Comparison {
             let patch = random.pick(&[1, 1, 2, 2, 3, 4, 0, 33]);
             let merge = random.pick(&[1, 1, 2, 2, 3, 4, 0, 5]);
             let image = random.pick(&[1, 3, 4, 6, 8, 9, 12, 16, 0, 2049]);
-            let rule = match random.below(16) {
-                0 => random.pick(&NO_RULES),
-                _ => random.pick(&RULES),
-            };
-            let s = of(patch, merge, image).rule(rule).with(*six);
-            let near = |random: &mut Random, n: usize| match random.below(3) {
-                0 => (n.min(1000) + random.below(3)).saturating_sub(1),
-                _ => n.min(1000),
-            };
+            let s = of(patch, merge, image).rule(random.rule()).with(*six);
             let sides: Sides = [
                 random.pick(&[1, 1, 2, 3, 4, 7, 0, 8193]),
                 random.pick(&[1, 1, 2, 3, 5, 9, 0, MAX]),
             ];
-            let rgb = near(random, sides[0].saturating_mul(sides[1]).saturating_mul(3));
+            let rgb = random.length(sides[0].saturating_mul(sides[1]).saturating_mul(3));
             let out = random.pick(&[0, 3, 12, 27, 48, 108, 192, 432, 768]);
             let fill = random.fill();
             let grid: Sides = [
@@ -802,8 +785,8 @@ impl Comparison {
                 random.pick(&[1, 2, 3, 4, 6, 0, 9, 1 << 63]),
             ];
             let n = grid[0].saturating_mul(grid[1]);
-            let floats = near(random, n.saturating_mul(s.patch_floats()));
-            let bytes = near(random, floats);
+            let floats = random.length(n.saturating_mul(s.patch_floats()));
+            let bytes = random.length(floats);
             let mut set = Vec::new();
             if floats > 0 && random.below(3) == 0 {
                 set.push((random.below(floats), random.pick(&odd)));
@@ -967,9 +950,6 @@ fn bench() {
 
 // --- The sample ---
 
-/// The cells of each of the replay's buffers.
-const CELLS: usize = 12_352;
-
 /// What a record asks: preprocess into `out` cells, then restore of the buffer's first `floats`.
 struct Asked {
     s: Settings,
@@ -1020,7 +1000,7 @@ impl Asked {
         }
         let floats_hash = hash(&cells[..self.out]);
         sample::damage(&mut cells, self.damage, self.place);
-        let mut whole = Fill::Sample(MARKS).bytes(self.bytes, [1, 1]);
+        let mut whole = records::marked(self.bytes);
         let back = match restored(&table, s, &cells[..self.floats], self.grid, self.bytes) {
             Ok(bytes) => {
                 whole[..bytes.len()].copy_from_slice(&bytes);
@@ -1028,7 +1008,6 @@ impl Asked {
             }
             Err(number) => [number as usize, 0, 0],
         };
-        let bytes_hash = hash(&whole.into_iter().map(u32::from).collect::<Vec<_>>());
         let mut list = vec![s.patch_size, s.spatial_merge_size, s.image_size];
         list.extend([sides[0], sides[1], self.rgb, self.out, self.seed as usize]);
         list.extend(report);
@@ -1036,9 +1015,8 @@ impl Asked {
         list.extend([self.grid[0], self.grid[1], self.floats, self.bytes]);
         list.extend([self.damage, self.place]);
         list.extend(back);
-        list.extend([bytes_hash as usize, s.resize_rule]);
-        let six = s.six.mean.into_iter().chain(s.six.deviation);
-        list.extend(six.map(|bits| bits as usize));
+        list.push(records::hash_bytes(&whole));
+        list.extend(records::end(s));
         sample::line(&list)
     }
 }

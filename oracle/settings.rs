@@ -1,4 +1,4 @@
-//! The settings of a picture, and what the paper's text makes of them; and the Rust's preprocess under them.
+//! The settings of a picture, what the paper's text makes of them, and the Rust's preprocess under them.
 
 use std::fmt;
 
@@ -165,7 +165,7 @@ impl Table {
         samples
     }
 
-    /// The bytes that have the bits of whole patches, by row, column and channel: None where one has none.
+    /// The bytes whose samples the patches are, by row, column and channel; none where one is no byte's.
     pub fn unpatched(&self, s: Settings, patches: &[u32], grid: Sides) -> Option<Vec<u8>> {
         let p = s.patch_size;
         let [height, width] = grid.map(|side| side * p);
