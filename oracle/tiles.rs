@@ -662,7 +662,6 @@ impl Random {
 
 impl Comparison {
     fn edges_and_random(mut self) -> bool {
-        self.huge_sweeps();
         self.cuts();
         self.small_sweeps();
         self.long_sweeps();
@@ -671,30 +670,8 @@ impl Comparison {
         self.choices();
         self.random_sweeps();
         self.mixed();
+        self.huge_sweeps();
         self.report()
-    }
-
-    /// 8192 by 8192: the first tile, the last and one more, of the largest side, of one that leaves the
-    /// last tile small, and of 1. The sweep, twice 201 MB, is given up before restore has its own.
-    fn huge_sweeps(&mut self) {
-        let (sides, len) = ([8192, 8192], 8192 * 8192 * 3);
-        for s in [of(32, 4, 2048), of(31, 3, 2047).rule(2), of(1, 1, 1)] {
-            self.cut(s, sides);
-            let (fill, count) = (self.random.fill(), s.tiles(sides));
-            for index in [0, count - 1] {
-                let (n, source) = (s.tile_floats(sides, index), Source::Tile(index, fill));
-                self.preprocess(s, sides, index, fill, len, n);
-                if index > 0 {
-                    self.preprocess(s, sides, count, fill, len, n);
-                }
-                self.sweep = None;
-                self.restore(s, sides, index, source, n, len, &[]);
-                if index > 0 {
-                    self.restore(s, sides, count, source, n, len, &[]);
-                }
-            }
-        }
-        self.patches = None;
     }
 
     /// The cut alone: every patch, merge and image size, every side, and every integer at its ends.
@@ -867,7 +844,7 @@ impl Comparison {
             (of(5, 2, 29).rule(2), [20, 31], 1),
         ] {
             let (len, n) = (sides[0] * sides[1] * 3, s.tile_floats(sides, index));
-            let sound = Call {
+            let base = Call {
                 s,
                 sides,
                 index,
@@ -879,20 +856,20 @@ impl Comparison {
             };
             for _ in 0..ROUNDS {
                 for faults in 0..1 << CUT.len() {
-                    let (call, first) = self.spoilt(&sound, &CUT, faults);
+                    let (call, first) = self.spoilt(&base, &CUT, faults);
                     self.cut(call.s, call.sides);
                     let number = self.table.of(call.s.six).refused(call.s, None, call.sides);
                     self.settled(call.s, number, first);
                 }
                 for faults in 0..1 << PREPROCESS.len() {
-                    let (call, first) = self.spoilt(&sound, &PREPROCESS, faults);
+                    let (call, first) = self.spoilt(&base, &PREPROCESS, faults);
                     let (s, sides, index) = (call.s, call.sides, call.index);
                     let fill = self.random.fill();
                     let number = self.preprocess(s, sides, index, fill, call.rgb, call.out);
                     self.settled(call.s, number, first);
                 }
                 for faults in 0..1 << RESTORE.len() {
-                    let (call, first) = self.spoilt(&sound, &RESTORE, faults);
+                    let (call, first) = self.spoilt(&base, &RESTORE, faults);
                     let (s, sides, index) = (call.s, call.sides, call.index);
                     let (floats, source) = (call.floats, Source::Samples(Fill::Zero));
                     let number =
@@ -904,8 +881,8 @@ impl Comparison {
     }
 
     /// A call with some of the faults of a list, the last first, and the number that it has to have.
-    fn spoilt(&mut self, sound: &Call, list: &[u32], faults: usize) -> (Call, u32) {
-        let mut call = sound.clone();
+    fn spoilt(&mut self, base: &Call, list: &[u32], faults: usize) -> (Call, u32) {
+        let mut call = base.clone();
         let some = (0..list.len()).filter(|at| faults >> at & 1 == 1);
         let some: Vec<u32> = some.map(|at| list[at]).collect();
         for number in some.iter().rev() {
@@ -941,7 +918,7 @@ impl Comparison {
         let fill = self.random.fill();
         let patches = self.patches(s, sides, index, fill).to_vec();
         let (n, len) = (patches.len(), sides[0] * sides[1] * 3);
-        for list in padding(s, sides, index)
+        for list in own_and_padding(s, sides, index)
             .iter()
             .filter(|list| !list.is_empty())
         {
@@ -974,7 +951,7 @@ impl Comparison {
                 continue;
             }
             self.whole_sweep(s, sides);
-            let [_, padding] = padding(s, sides, 3);
+            let [_, padding] = own_and_padding(s, sides, 3);
             for place in [
                 padding[0],
                 self.random.pick(&padding),
@@ -1060,10 +1037,32 @@ impl Comparison {
             self.restore(s, sides, index, source, floats, bytes, &set);
         }
     }
+
+    /// 8192 by 8192: the first tile, the last and one more, of the largest side, of one that leaves the
+    /// last tile small, and of 1. The sweep, twice 201 MB, is given up before restore has its own.
+    fn huge_sweeps(&mut self) {
+        let (sides, len) = ([8192, 8192], 8192 * 8192 * 3);
+        for s in [of(32, 4, 2048), of(31, 3, 2047).rule(2), of(1, 1, 1)] {
+            self.cut(s, sides);
+            let (fill, count) = (self.random.fill(), s.tiles(sides));
+            for index in [0, count - 1] {
+                let (n, source) = (s.tile_floats(sides, index), Source::Tile(index, fill));
+                self.preprocess(s, sides, index, fill, len, n);
+                if index > 0 {
+                    self.preprocess(s, sides, count, fill, len, n);
+                }
+                self.sweep = None;
+                self.restore(s, sides, index, source, n, len, &[]);
+                if index > 0 {
+                    self.restore(s, sides, count, source, n, len, &[]);
+                }
+            }
+        }
+    }
 }
 
 /// The places of a tile's patches that are its own, and those of the padding.
-fn padding(s: Settings, sides: Sides, index: usize) -> [Vec<usize>; 2] {
+fn own_and_padding(s: Settings, sides: Sides, index: usize) -> [Vec<usize>; 2] {
     let tile = s.tile(sides, index).expect("the tile is in the cut");
     let s = s.with(OWN);
     let white = vec![255; sides[0] * sides[1] * 3];
@@ -1267,15 +1266,17 @@ fn sample_refusals(random: &mut Random, list: &mut Vec<Asked>) {
     from(&|a| a.bytes = 0);
     for bit in 0..32 {
         from(&|a| {
-            let places = &padding(a.s, a.sides, a.index)[bit % 2];
+            let places = &own_and_padding(a.s, a.sides, a.index)[bit % 2];
             (a.damage, a.place) = (1, places[(places.len() - 1) * bit / 31]);
         });
     }
     for damage in 2..=4 {
         for part in [0, 1] {
-            from(&|a| (a.damage, a.place) = (damage, padding(a.s, a.sides, a.index)[part][0]));
             from(&|a| {
-                let places = &padding(a.s, a.sides, a.index)[part];
+                (a.damage, a.place) = (damage, own_and_padding(a.s, a.sides, a.index)[part][0])
+            });
+            from(&|a| {
+                let places = &own_and_padding(a.s, a.sides, a.index)[part];
                 (a.damage, a.place) = (damage, places[places.len() - 1]);
             });
         }
@@ -1325,7 +1326,10 @@ fn sample_choices(random: &mut Random, list: &mut Vec<Asked>) {
         list.push(from(random));
         for part in [0, 1] {
             let mut a = from(random);
-            (a.damage, a.place) = (1, random.pick(&padding(a.s, a.sides, a.index)[part]));
+            (a.damage, a.place) = (
+                1,
+                random.pick(&own_and_padding(a.s, a.sides, a.index)[part]),
+            );
             list.push(a);
         }
     }
@@ -1334,7 +1338,10 @@ fn sample_choices(random: &mut Random, list: &mut Vec<Asked>) {
         for part in [0, 1] {
             let mut a = accepted(random);
             a.s.six = choice([channel(mean, deviation); 3]);
-            (a.damage, a.place) = (3, random.pick(&padding(a.s, a.sides, a.index)[part]));
+            (a.damage, a.place) = (
+                3,
+                random.pick(&own_and_padding(a.s, a.sides, a.index)[part]),
+            );
             list.push(a);
         }
     }
