@@ -6,20 +6,53 @@
 mod sample;
 
 use kyzgultam::{
-    bf16, exp, forward, half_to_f32, pixtral_preprocess, restore, root, tanh, EncoderSettings, PictureSettings, Refusal,
+    bf16, exp, forward, half_to_f32, pixtral_preprocess, preprocess_tile, restore, restore_tile, root, tanh,
+    EncoderSettings, PictureSettings, Refusal, Tile,
 };
 use sample::{damage, hash, marks, states, MARKS};
+
+/// The cells that a preprocess writes to the front of, and a restore reads from.
+const CELLS: usize = 12352;
 
 fn records(text: &str) -> impl Iterator<Item = Vec<usize>> + '_ {
     text.lines().map(|line| line.split('\t').map(|x| x.parse().unwrap()).collect())
 }
 
-fn floats(bits: &[u32]) -> Vec<f32> {
-    bits.iter().map(|x| f32::from_bits(*x)).collect()
+fn floats(bits: impl IntoIterator<Item = u32>) -> Vec<f32> {
+    bits.into_iter().map(f32::from_bits).collect()
 }
 
-fn hash_floats(floats: &[f32]) -> u64 {
-    hash(&floats.iter().map(|x| x.to_bits()).collect::<Vec<_>>())
+fn bits(floats: &[f32]) -> Vec<u32> {
+    floats.iter().map(|x| x.to_bits()).collect()
+}
+
+fn marked(len: usize) -> Vec<f32> {
+    floats(marks().take(len))
+}
+
+fn damaged(mut cells: Vec<u32>, code: usize, place: usize) -> Vec<f32> {
+    damage(&mut cells, code, place);
+    floats(cells)
+}
+
+fn bytes(seed: u32, len: usize) -> Vec<u8> {
+    states(seed).map(|x| (x >> 24) as u8).take(len).collect()
+}
+
+fn hash_floats(floats: &[f32]) -> usize {
+    hash(&bits(floats)) as usize
+}
+
+fn hash_bytes(bytes: &[u8]) -> usize {
+    hash(&bytes.iter().map(|b| u32::from(*b)).collect::<Vec<_>>()) as usize
+}
+
+/// The settings of a record that ends with the resize rule, the means and the deviations.
+fn picture_settings(v: &[usize]) -> PictureSettings {
+    let end = &v[v.len() - 7..];
+    let channels = |at: usize| [0, 1, 2].map(|c| f32::from_bits(end[at + c] as u32));
+    let (mean, deviation) = (channels(1), channels(4));
+    PictureSettings { resize_rule: end[0], mean, deviation, ..PictureSettings::new(v[0], v[1], v[2]) }
 }
 
 fn number<T>(answer: &Result<T, Refusal>) -> usize {
@@ -46,32 +79,49 @@ fn number_rules() {
 
 #[test]
 fn pictures() {
-    let byte = |x: u32| (x >> 24) as u8;
     let mut seen = [0; 20];
     for v in records(include_str!("../../crates/picture_replay/stdin")) {
-        let channels = |at: usize| [0, 1, 2].map(|c| f32::from_bits(v[at + c] as u32));
-        let (mean, deviation) = (channels(24), channels(27));
-        let settings =
-            PictureSettings { resize_rule: v[23], mean, deviation, ..PictureSettings::new(v[0], v[1], v[2]) };
-        let rgb: Vec<u8> = states(v[7] as u32).map(byte).take(v[5]).collect();
-        let mut cells: Vec<f32> = marks().map(f32::from_bits).take(12352).collect();
-        let made = pixtral_preprocess(&rgb, v[3], v[4], &settings, &mut cells[..v[6]]);
+        let settings = picture_settings(&v);
+        let mut cells = marked(CELLS);
+        let made = pixtral_preprocess(&bytes(v[7] as u32, v[5]), v[3], v[4], &settings, &mut cells[..v[6]]);
         let sizes = made.map_or([0; 3], |p| [p.grid_h, p.grid_w, p.floats]);
-        let answer = [number(&made), sizes[0], sizes[1], sizes[2], hash_floats(&cells[..v[6]]) as usize];
+        let answer = [number(&made), sizes[0], sizes[1], sizes[2], hash_floats(&cells[..v[6]])];
         assert_eq!(answer[..], v[8..13]);
         seen[number(&made)] += 1;
 
         // The restore of what that left, damaged.
-        let mut bits: Vec<u32> = cells.iter().map(|x| x.to_bits()).collect();
-        damage(&mut bits, v[17], v[18]);
-        let mut bytes: Vec<u8> = states(MARKS).map(byte).take(v[16]).collect();
-        let back = restore(&floats(&bits)[..v[15]], v[13], v[14], &settings, &mut bytes);
+        let cells = damaged(bits(&cells), v[17], v[18]);
+        let mut out = bytes(MARKS, v[16]);
+        let back = restore(&cells[..v[15]], v[13], v[14], &settings, &mut out);
         let sides = back.map_or([0; 2], |p| [p.height, p.width]);
-        let left = hash(&bytes.iter().map(|b| u32::from(*b)).collect::<Vec<_>>());
-        assert_eq!([number(&back), sides[0], sides[1], left as usize][..], v[19..23]);
+        assert_eq!([number(&back), sides[0], sides[1], hash_bytes(&out)][..], v[19..23]);
         seen[number(&back)] += 1;
     }
     assert!([0, 1, 2, 3, 4, 5, 6, 7, 8, 19].iter().all(|n| seen[*n] > 0), "{seen:?}");
+}
+
+#[test]
+fn tiles() {
+    let answer = |found: &Result<Tile, Refusal>, hash: usize| {
+        let sizes = found.map_or([0; 7], |t| [t.grid_h, t.grid_w, t.floats, t.top, t.left, t.height, t.width]);
+        [&[number(found)], &sizes[..], &[hash]].concat()
+    };
+    let mut seen = [0; 21];
+    for v in records(include_str!("../../crates/tiles_replay/stdin")) {
+        let settings = picture_settings(&v);
+        let mut cells = marked(CELLS);
+        let made = preprocess_tile(&bytes(v[8] as u32, v[6]), v[3], v[4], v[5], &settings, &mut cells[..v[7]]);
+        assert_eq!(answer(&made, hash_floats(&cells[..v[7]])), v[9..18]);
+        seen[number(&made)] += 1;
+
+        // As for a picture, in a sweep of the same sides.
+        let cells = damaged(bits(&cells), v[21], v[22]);
+        let mut out = bytes(MARKS, v[20]);
+        let back = restore_tile(&cells[..v[19]], v[3], v[4], v[18], &settings, &mut out);
+        assert_eq!(answer(&back, hash_bytes(&out)), v[23..32]);
+        seen[number(&back)] += 1;
+    }
+    assert!([0, 1, 2, 3, 4, 5, 7, 8, 19, 20].iter().all(|n| seen[*n] > 0), "{seen:?}");
 }
 
 #[test]
@@ -90,15 +140,12 @@ fn token_vectors() {
             text_hidden_size: v[8],
             scaling: f32::from_bits(v[9] as u32),
         };
-        let mut cells: Vec<u32> = states(v[18] as u32).map(unit).take(8192).collect();
-        damage(&mut cells, v[19], v[20]);
-        let cells = floats(&cells);
+        let cells = damaged(states(v[18] as u32).map(unit).take(8192).collect(), v[19], v[20]);
         let part = |k: usize| &cells[STARTS[k]..STARTS[k] + v[12 + k]];
-        let marked = |n: usize| marks().map(f32::from_bits).take(n).collect::<Vec<_>>();
         let (mut scratch, mut out) = (marked(v[16]), marked(v[17]));
         let (cos, sin) = (part(2), part(3));
         let found = forward(&settings, part(0), v[10], v[11], part(1), cos, sin, &mut scratch, &mut out);
-        let answer = [number(&found), found.unwrap_or(0), hash_floats(&out) as usize, hash_floats(&scratch) as usize];
+        let answer = [number(&found), found.unwrap_or(0), hash_floats(&out), hash_floats(&scratch)];
         assert_eq!(answer[..], v[21..25]);
         seen[number(&found)] += 1;
     }
