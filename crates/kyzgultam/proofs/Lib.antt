@@ -1,3 +1,4 @@
 pub mod Examples
 pub mod Part
 pub mod Unique
+pub mod Log
