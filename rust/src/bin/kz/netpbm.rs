@@ -20,7 +20,17 @@ const HEADER: usize = 1 << 16;
 
 /// Reads a picture. Its header, and then its length, are tested before its samples are read.
 pub fn read(file: &Path) -> Result<Picture, Fail> {
-    parse(&mut Source::open(file)?).map_err(|why| Fail::file(file, why))
+    let (picture, taken) = find(file);
+    taken.map(|()| picture)
+}
+
+/// What a file has of a picture, and whether that is taken. The sides are the header's, 0 and 0 where there is none.
+/// The bytes are all there or none are; where a picture is not taken for the value of a sample, all are.
+pub fn find(file: &Path) -> (Picture, Result<(), Fail>) {
+    let mut picture = Picture { height: 0, width: 0, rgb: vec![] };
+    let parsed = |mut source| parse(&mut source, &mut picture).map_err(|why| Fail::file(file, why));
+    let taken = Source::open(file).and_then(parsed);
+    (picture, taken)
 }
 
 /// Writes a P6.
@@ -103,16 +113,18 @@ fn head(bytes: &[u8]) -> Result<Head, String> {
     if most > 255 {
         return Err(format!("has samples of two bytes (maxval {most}); convert it, as with `pamdepth 255`"));
     }
+    Ok(Head { channels, height, width, most, len: header.at })
+}
+
+/// Fills an empty picture: its sides, and then its bytes, when the last of them is read.
+fn parse(source: &mut Source<impl Read>, picture: &mut Picture) -> Result<(), String> {
+    let unread = |e: io::Error| format!("cannot be read: {e}");
+    let Head { channels, height, width, most, len } = head(source.look(HEADER).map_err(unread)?)?;
+    (picture.height, picture.width) = (height, width);
     let sides = 1..=8192;
     if !(sides.contains(&height) && sides.contains(&width)) {
         return Err(numbered(Refusal::Side, format!("it is {height}x{width}: cut or shrink it")));
     }
-    Ok(Head { channels, height, width, most, len: header.at })
-}
-
-fn parse(source: &mut Source<impl Read>) -> Result<Picture, String> {
-    let unread = |e: io::Error| format!("cannot be read: {e}");
-    let Head { channels, height, width, most, len } = head(source.look(HEADER).map_err(unread)?)?;
     source.take(&mut vec![0; len]).map_err(unread)?;
     let needed = height * width * channels;
     let fits = |found: u64| match found.checked_sub(needed as u64) {
@@ -132,9 +144,7 @@ fn parse(source: &mut Source<impl Read>) -> Result<Picture, String> {
     if !source.ended().map_err(unread)? {
         return Err(format!("goes on after its picture; {ONE}"));
     }
-    if let Some(value) = rgb[start..].iter().find(|v| usize::from(**v) > most) {
-        return Err(format!("has a sample of {value}, above its maxval {most}; write it again"));
-    }
+    let above = rgb[start..].iter().find(|v| usize::from(**v) > most).copied();
     let mut table = [0; 256];
     for (value, byte) in table.iter_mut().enumerate().take(most + 1) {
         *byte = ((value * 255 + most / 2) / most) as u8;
@@ -148,7 +158,11 @@ fn parse(source: &mut Source<impl Read>) -> Result<Picture, String> {
     for byte in &mut rgb {
         *byte = table[usize::from(*byte)];
     }
-    Ok(Picture { height, width, rgb })
+    picture.rgb = rgb;
+    match above {
+        Some(value) => Err(format!("has a sample of {value}, above its maxval {most}; write it again")),
+        None => Ok(()),
+    }
 }
 
 const ONE: &str = "give one picture a file (`pamsplit`)";
@@ -157,13 +171,26 @@ const ONE: &str = "give one picture a file (`pamsplit`)";
 mod tests {
     use super::*;
 
-    fn read(head: &str, raster: &[u8]) -> Result<(usize, usize, Vec<u8>), String> {
+    type Found = (usize, usize, Vec<u8>);
+
+    /// What is found, and why it is not taken.
+    fn find(head: &str, raster: &[u8]) -> (Found, Result<(), String>) {
         let bytes = [head.as_bytes(), raster].concat();
-        let read = |left| parse(&mut Source::new(&bytes[..], left)).map(|p| (p.height, p.width, p.rgb));
+        let find = |left| {
+            let mut p = Picture { height: 0, width: 0, rgb: vec![] };
+            let taken = parse(&mut Source::new(&bytes[..], left), &mut p);
+            ((p.height, p.width, p.rgb), taken)
+        };
         // From a file, and from a pipe, whose length is not known.
-        let (known, unknown) = (read(Some(bytes.len() as u64)), read(None));
-        assert!(known == unknown || known.as_ref().is_err_and(|e| e.contains("bytes after")), "{head:?}");
+        let (known, unknown) = (find(Some(bytes.len() as u64)), find(None));
+        assert_eq!(known.0, unknown.0, "{head:?}");
+        assert!(known.1 == unknown.1 || known.1.as_ref().is_err_and(|e| e.contains("bytes after")), "{head:?}");
         known
+    }
+
+    fn read(head: &str, raster: &[u8]) -> Result<Found, String> {
+        let (found, taken) = find(head, raster);
+        taken.map(|()| found)
     }
 
     #[test]
@@ -218,6 +245,26 @@ mod tests {
         ] {
             let found = read(head, raster).unwrap_err();
             assert!(found.contains(why), "{head:?}: {found}");
+        }
+    }
+
+    /// Of what is not taken the header's sides are still found, and the bytes where only the value of one is wrong.
+    #[test]
+    fn found_where_it_is_not_taken() {
+        for (head, raster, sides, bytes) in [
+            ("P3\n2 1\n255\n", &[0; 6][..], (0, 0), 0),
+            ("P6\n2 1\n65535\n", &[0; 12], (0, 0), 0),
+            ("P6\n2 1\n255", &[], (0, 0), 0),
+            ("P6\n2 0\n255\n", &[0; 6], (0, 2), 0),
+            ("P6\n8193 1\n255\n", &[0; 6], (1, 8193), 0),
+            ("P6\n2 1\n255\n", &[0; 5], (1, 2), 0),
+            ("P6\n2 1\n255\n", &[0; 7], (1, 2), 0),
+            ("P6\n2 1\n100\n", &[0, 0, 0, 0, 0, 101], (1, 2), 6),
+            ("P5\n1 2\n100\n", &[101, 0], (2, 1), 6),
+        ] {
+            let ((height, width, rgb), taken) = find(head, raster);
+            assert!(taken.is_err(), "{head:?}");
+            assert_eq!(((height, width), rgb.len()), (sides, bytes), "{head:?}");
         }
     }
 }
