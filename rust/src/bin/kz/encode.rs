@@ -2,6 +2,7 @@
 
 use crate::fail::{numbered, Fail};
 use crate::given::Given;
+use crate::log::{self, Log};
 use crate::model::{allowed, refused_settings, Lent, Model};
 use crate::netpbm::Picture;
 use crate::progress::Progress;
@@ -11,19 +12,20 @@ use crate::{files, netpbm, npy, room, tiles};
 use kyzgultam::{pixtral_preprocess, preprocess_tile, PictureSettings, Refusal, Tile};
 use std::collections::BTreeMap;
 use std::ffi::OsStr;
+use std::fs;
 use std::path::{Path, PathBuf};
 
 pub const ENCODE: &str = "\
 kz encode SWEEP.ppm .. -o DIR [--tiles] [--weights FILE] [--tables FILE]
-          [--settings LIST] [--force | --skip-existing]
+          [--settings LIST] [--log FILE] [--force | --skip-existing]
 
 Writes the token vectors of each SWEEP (P5 or P6) to DIR/SWEEP.tokens.npy,
 an array of NumPy: rows x columns x text; with --tiles those of each tile, not
-resized (`kz patches --help`). FILEs are plain floats: f32, little-endian, in
-the order of include/kyzgultam.h; a tables file has all cosines, then all
-sines. Without --weights they come from a seed; without --tables they are
-those that the Rust makes for theta 10000. A list that was cut off goes on
-with --skip-existing, which takes files that are there for done.
+resized (this and --log: `kz patches --help`). Weights and tables are plain
+floats: f32, little-endian, in the order of include/kyzgultam.h; of tables all
+cosines, then all sines. Without --weights they come from a seed; without
+--tables they are those that the Rust makes for theta 10000. A list that was
+cut off goes on with --skip-existing: files that are there count as done.
 
 --settings is a list as patch=14,image=560; what it leaves out is built in:
   patch 14 (1..32)   hidden 64 (4..2048)  layers 2 (0..48)
@@ -41,7 +43,7 @@ rule. The file has neither the rule nor means and deviations, so go on with
 ";
 
 pub const PATCHES: &str = "\
-kz patches SWEEP.ppm .. -o DIR [--tiles] [--settings LIST]
+kz patches SWEEP.ppm .. -o DIR [--tiles] [--settings LIST] [--log FILE]
            [--force | --skip-existing]
 
 Writes the patches of each SWEEP (P5 or P6) to DIR/SWEEP.patches.npy, an array
@@ -60,6 +62,11 @@ ones are smaller, and padded on the right and below with bytes of 0 to such a
 multiple. A tile's file says in its name the sweep's sides and the tile's row
 and column, from 0: DIR/SWEEP.3000x2000.r00c01.patches.npy. Nothing else says
 them, so keep the names. `kz restore --tiles` joins the tiles to the sweep.
+
+With --log each sweep, or tile, has a line in FILE: its index in the list, the
+settings, the sides, and preprocess's number, grid and count of floats. It has
+no name and no time, and no pixel changes it: it says nothing of forward's 12,
+nor of what was written or skipped. So FILE may leave the clinic's network.
 ";
 
 /// Patches of one picture after another, in one buffer.
@@ -84,33 +91,51 @@ fn refused(file: &Path, refusal: Refusal) -> Fail {
     }
 }
 
+/// What a call reported. Where there was no memory for its patches, words say so; it was lent no room, and gave 5.
+struct Called<Report> {
+    room: Result<(), String>,
+    report: Result<Report, Refusal>,
+}
+
+impl<Report> Called<Report> {
+    fn of(self, file: &Path) -> Result<Report, Fail> {
+        self.room.map_err(|words| Fail::file(file, words))?;
+        self.report.map_err(|refusal| refused(file, refusal))
+    }
+}
+
 impl Cutter {
     /// Reads a picture and cuts it: the patches are in the buffer.
     pub fn cut(&mut self, file: &Path, settings: &PictureSettings) -> Result<Resized, Fail> {
         let picture = netpbm::read(file)?;
-        let (height, width) = (picture.height, picture.width);
-        let refused = |refusal| refused(file, refusal);
-        let floats = settings.patches_len(height, width).map_err(refused)?;
-        self.fit(file, settings, "its patches", floats)?;
-        let cut = pixtral_preprocess(&picture.rgb, height, width, settings, &mut self.patches).map_err(refused)?;
-        let long = height.max(width) > settings.image_size;
-        Ok(((cut.grid_h, cut.grid_w), long.then_some(settings.resize_rule)))
+        let cut = self.whole(&picture, settings).of(file)?;
+        Ok(resized(&picture, settings, cut))
+    }
+
+    /// Cuts a picture: its patches are in the buffer.
+    fn whole(&mut self, picture: &Picture, settings: &PictureSettings) -> Called<kyzgultam::Patches> {
+        let Picture { height, width, ref rgb } = *picture;
+        let room = self.fit(settings, "its patches", settings.patches_len(height, width));
+        Called { room, report: pixtral_preprocess(rgb, height, width, settings, &mut self.patches) }
     }
 
     /// Cuts a tile out of a sweep: its patches are in the buffer.
-    fn tile(&mut self, sweep: &Sweep, index: usize, settings: &PictureSettings) -> Result<Tile, Fail> {
-        let Picture { height, width, ref rgb } = sweep.picture;
-        let refused = |refusal| refused(sweep.file, refusal);
-        let floats = settings.tile_len(height, width, index).map_err(refused)?;
-        self.fit(sweep.file, settings, "the patches of a tile", floats)?;
-        preprocess_tile(rgb, height, width, index, settings, &mut self.patches).map_err(refused)
+    fn tile(&mut self, picture: &Picture, index: usize, settings: &PictureSettings) -> Called<Tile> {
+        let Picture { height, width, ref rgb } = *picture;
+        let room = self.fit(settings, "the patches of a tile", settings.tile_len(height, width, index));
+        Called { room, report: preprocess_tile(rgb, height, width, index, settings, &mut self.patches) }
     }
 
-    fn fit(&mut self, file: &Path, settings: &PictureSettings, what: &str, floats: usize) -> Result<(), Fail> {
+    /// Room for so many floats. Where that is refused, so is the call, and needs none.
+    fn fit(&mut self, settings: &PictureSettings, what: &str, floats: Result<usize, Refusal>) -> Result<(), String> {
         let what = format!("{what} (image={})", settings.image_size);
-        let room = room::fit(&mut self.patches, floats, &what, "give a smaller image= in --settings");
-        room.map_err(|words| Fail::file(file, words))
+        room::fit(&mut self.patches, floats.unwrap_or(0), &what, "give a smaller image= in --settings")
     }
+}
+
+fn resized(picture: &Picture, settings: &PictureSettings, cut: kyzgultam::Patches) -> Resized {
+    let long = picture.height.max(picture.width) > settings.image_size;
+    ((cut.grid_h, cut.grid_w), long.then_some(settings.resize_rule))
 }
 
 /// What is made of patches and written, by row and column of a grid of vectors.
@@ -164,15 +189,16 @@ impl Vectors for Tokens {
 
 pub fn encode(given: &Given) -> Result<(), Fail> {
     let list = List::read(given)?;
+    let settings = given.settings()?.picture;
+    list.allowed(&settings)?;
     let model = Model::read(given)?;
-    let settings = model.settings.picture;
     list.write(&settings, Tokens { model, lent: Lent::default() })
 }
 
 pub fn patches(given: &Given) -> Result<(), Fail> {
     let list = List::read(given)?;
     let settings = given.settings()?.picture;
-    allowed(&settings)?;
+    list.allowed(&settings)?;
     list.write(&settings, Patches(3 * settings.patch_size.pow(2)))
 }
 
@@ -180,15 +206,9 @@ pub fn patches(given: &Given) -> Result<(), Fail> {
 struct List<'a> {
     given: &'a Given,
     folder: PathBuf,
+    log: Option<PathBuf>,
     /// What the files of each are named after.
     stems: Vec<&'a OsStr>,
-}
-
-/// A sweep that was read.
-struct Sweep<'a> {
-    file: &'a Path,
-    stem: &'a OsStr,
-    picture: Picture,
 }
 
 impl List<'_> {
@@ -209,66 +229,158 @@ impl List<'_> {
             }
             stems.push(stem);
         }
-        Ok(List { given, folder, stems })
+        let log = given.path("--log");
+        if let Some(log) = &log {
+            apart(log, &given.files)?;
+            log::vacant(log, given.force)?;
+        }
+        Ok(List { given, folder, log, stems })
+    }
+
+    /// Makes the folder, and then the log, which may stand in it.
+    fn begin(&self) -> Result<Option<Log>, Fail> {
+        files::folder(&self.folder)?;
+        self.log.as_ref().map(|log| Log::new(log, self.given.force)).transpose()
+    }
+
+    /// Refuses settings by which no sweep is cut. The log has their number for each sweep all the same.
+    fn allowed(&self, settings: &PictureSettings) -> Result<(), Fail> {
+        let allowed = allowed(settings);
+        if allowed.is_err() && self.log.is_some() {
+            self.finish(self.begin()?, 0, settings, &mut Cutter::default())?;
+        }
+        allowed
     }
 
     /// Writes what is made of each sweep, or of its tiles.
     fn write<V: Vectors>(&self, settings: &PictureSettings, mut vectors: V) -> Result<(), Fail> {
+        let mut log = self.begin()?;
         let mut cutter = Cutter::default();
-        self.each(|file, stem, progress| {
+        let mut begun = 0;
+        let done = self.each(|index, progress| {
+            begun = index + 1;
             if self.given.tiles {
-                let sweep = Sweep { file, stem, picture: netpbm::read(file)? };
-                self.tiles(&sweep, settings, &mut cutter, &mut vectors, progress)
+                self.tiles(index, settings, &mut cutter, &mut vectors, &mut log, progress)
             } else {
-                progress.say(&self.whole(file, stem, settings, &mut cutter, &mut vectors)?);
+                progress.say(&self.whole(index, settings, &mut cutter, &mut vectors, &mut log)?);
                 Ok(())
             }
-        })
+        });
+        if let Err(Fail::Unlogged(_)) = done {
+            return done;
+        }
+        self.finish(log, begun, settings, &mut cutter)?;
+        done
     }
 
+    /// Reads a sweep, cuts it and writes its line: what became of it. Its patches are in the buffer.
+    fn logged(
+        &self,
+        log: &mut Log,
+        index: usize,
+        settings: &PictureSettings,
+        cutter: &mut Cutter,
+    ) -> Result<Result<Resized, Fail>, Fail> {
+        let file = &self.given.files[index];
+        let (picture, taken) = netpbm::find(file);
+        let cut = cutter.whole(&picture, settings);
+        log.sweep(index, settings, (picture.height, picture.width), cut.report)?;
+        Ok(taken.and_then(|()| cut.of(file)).map(|cut| resized(&picture, settings, cut)))
+    }
+
+    /// Reads a sweep, cuts all of its tiles and writes their lines: the sweep. One that has no cut has a line for
+    /// tile 0, with the number.
+    fn logged_tiles(
+        &self,
+        log: &mut Log,
+        index: usize,
+        settings: &PictureSettings,
+        cutter: &mut Cutter,
+    ) -> Result<Result<Picture, Fail>, Fail> {
+        let (picture, taken) = netpbm::find(&self.given.files[index]);
+        let (height, width) = (picture.height, picture.width);
+        let count = kyzgultam::cut(height, width, settings).map_or(1, |cut| cut.rows * cut.columns);
+        for tile in 0..count {
+            log.tile(index, tile, settings, (height, width), cutter.tile(&picture, tile, settings).report)?;
+        }
+        Ok(taken.map(|()| picture))
+    }
+
+    /// Writes the lines of the sweeps that were not begun. Where a list stops may hang on how many files forward left
+    /// to be written, so a log does not tell it.
+    fn finish(
+        &self,
+        log: Option<Log>,
+        begun: usize,
+        settings: &PictureSettings,
+        cutter: &mut Cutter,
+    ) -> Result<(), Fail> {
+        let Some(mut log) = log else { return Ok(()) };
+        for index in begun..self.stems.len() {
+            if self.given.tiles {
+                self.logged_tiles(&mut log, index, settings, cutter).map(drop)?;
+            } else {
+                self.logged(&mut log, index, settings, cutter).map(drop)?;
+            }
+        }
+        log.end()
+    }
+
+    /// With a log the sweep is cut and its line written before its file is asked for: that one is there may say that an
+    /// earlier forward did not refuse the sweep with 12.
     fn whole<V: Vectors>(
         &self,
-        file: &Path,
-        stem: &OsStr,
+        index: usize,
         settings: &PictureSettings,
         cutter: &mut Cutter,
         vectors: &mut V,
+        log: &mut Option<Log>,
     ) -> Result<String, Fail> {
-        let out = self.out::<V>(stem);
+        let file = &self.given.files[index];
+        let out = self.out::<V>(self.stems[index]);
         let [.., floats] = vectors.shape((0, 0));
+        let cut = log.as_mut().map(|log| self.logged(log, index, settings, cutter)).transpose()?;
         self.unless_done(&out, None, floats, || {
-            let (grid, rule) = cutter.cut(file, settings)?;
+            let (grid, rule) = cut.unwrap_or_else(|| cutter.cut(file, settings))?;
             let words = self.put(&out, vectors, &cutter.patches, grid, |words| Fail::file(file, words))?;
             Ok(format!("{words}{}", by_rule(rule)))
         })
     }
 
-    /// Each tile has a file of its own. Where one is there and is not to be skipped, none is written.
+    /// Each tile has a file of its own. Where one is there and is not to be skipped, none is written. With a log the
+    /// lines of all tiles are written before the first of them is done, and before their files are asked for.
     fn tiles<V: Vectors>(
         &self,
-        sweep: &Sweep,
+        sweep: usize,
         settings: &PictureSettings,
         cutter: &mut Cutter,
         vectors: &mut V,
+        log: &mut Option<Log>,
         progress: &Progress,
     ) -> Result<(), Fail> {
-        let Picture { height, width, .. } = sweep.picture;
-        let refused = |refusal| refused(sweep.file, refusal);
+        let (file, stem) = (&self.given.files[sweep], self.stems[sweep]);
+        let picture = match log {
+            Some(log) => self.logged_tiles(log, sweep, settings, cutter)?,
+            None => netpbm::read(file),
+        }?;
+        let (height, width) = (picture.height, picture.width);
+        let refused = |refusal| refused(file, refusal);
         let cut = kyzgultam::cut(height, width, settings).map_err(refused)?;
         let label = |index: usize| tiles::label(&cut, tiles::place(&cut, index));
-        let out = |index: usize| self.out::<V>(&tiles::name(sweep.stem, (height, width), &label(index)));
+        let out = |index: usize| self.out::<V>(&tiles::name(stem, (height, width), &label(index)));
         let count = cut.rows * cut.columns;
         if !self.given.skip {
             (0..count).try_for_each(|index| files::vacant(&out(index), self.given.force))?;
         }
         for index in 0..count {
-            progress.part(sweep.stem, index, count);
+            progress.part(stem, index, count);
             let tile = settings.tile(height, width, index).map_err(refused)?;
             let [h, w, floats] = vectors.shape((tile.grid_h, tile.grid_w));
             let out = out(index);
             let words = self.unless_done(&out, Some((h, w)), floats, || {
-                let Tile { grid_h, grid_w, top, left, height, width, .. } = cutter.tile(sweep, index, settings)?;
-                let fail = |words| Fail::file(sweep.file, format!("tile {}: {words}", label(index)));
+                let tile = cutter.tile(&picture, index, settings).of(file)?;
+                let Tile { grid_h, grid_w, top, left, height, width, .. } = tile;
+                let fail = |words| Fail::file(file, format!("tile {}: {words}", label(index)));
                 let words = self.put(&out, vectors, &cutter.patches, (grid_h, grid_w), fail)?;
                 Ok(format!("{words}; {height}x{width} pixels from row {top}, column {left}"))
             })?;
@@ -317,17 +429,16 @@ impl List<'_> {
 
     /// Does the work for each sweep. One that is refused is named, and the others are still done, unless nothing can be
     /// written any more.
-    fn each(&self, mut work: impl FnMut(&Path, &OsStr, &Progress) -> Result<(), Fail>) -> Result<(), Fail> {
-        files::folder(&self.folder)?;
+    fn each(&self, mut work: impl FnMut(usize, &Progress) -> Result<(), Fail>) -> Result<(), Fail> {
         let total = self.stems.len();
         let mut progress = Progress::new(total, self.given.tiles);
         for part in files::parts(&self.folder) {
             progress.warn(&format!("{}: {LEFT}", shown(&part)));
         }
         let (mut refused, mut there) = (0, 0);
-        for (i, (file, stem)) in self.given.files.iter().zip(&self.stems).enumerate() {
+        for (i, stem) in self.stems.iter().enumerate() {
             progress.at(stem);
-            match work(file, stem, &progress) {
+            match work(i, &progress) {
                 Ok(()) => {}
                 Err(Fail::Refused(words)) if total > 1 => {
                     refused += 1;
@@ -363,6 +474,21 @@ impl List<'_> {
 const LEFT: &str = "was begun by a run that is at work now, or was killed; if none is at work here, remove it";
 const AGAIN: &str = "make room, or give another -o, and go on with --skip-existing";
 const SKIP: &str = "--skip-existing takes such files for done";
+
+/// Refuses a log that has the name of a sweep, or one of those under which vectors are written.
+fn apart(log: &Path, sweeps: &[PathBuf]) -> Result<(), Fail> {
+    let place = |file: &Path| fs::canonicalize(file).ok();
+    let there = place(log);
+    if there.is_some() && sweeps.iter().any(|sweep| place(sweep) == there) {
+        return Err(Fail::usage(format!("--log {} is a sweep of the list; {OTHER}", shown(log))));
+    }
+    if log.extension().is_some_and(|ending| ending == "npy") {
+        return Err(Fail::usage(format!("--log {} has the ending of vectors; {OTHER}", shown(log))));
+    }
+    Ok(())
+}
+
+const OTHER: &str = "give it another name";
 
 /// What is said of a file that is there and is skipped: one of another form is not taken for done. Of a tile the grid
 /// is known too.

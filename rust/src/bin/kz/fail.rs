@@ -12,6 +12,8 @@ pub enum Fail {
     Taken(String),
     /// Exit status 1: nothing can be written where it is to go, so a list need not go on.
     Stopped(String),
+    /// Exit status 1: the log cannot be written, so nothing more is done.
+    Unlogged(String),
     /// Exit status 2: the command line is not one that kz knows.
     Usage(String),
 }

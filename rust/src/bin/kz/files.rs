@@ -1,4 +1,4 @@
-//! Files are written whole or not at all, and none is overwritten unless that was asked for.
+//! Files are written whole or not at all, a log alone line by line, and none is overwritten unless that was asked for.
 
 use crate::fail::Fail;
 use crate::shown::shown;
@@ -79,6 +79,15 @@ fn unwritten(file: &Path, e: io::Error) -> Fail {
 
 /// Writes beside the file and then gives what was written its name. A file that is replaced keeps its mode.
 pub fn write(file: &Path, force: bool, fill: impl FnOnce(&mut dyn Write) -> io::Result<()>) -> Result<(), Fail> {
+    written(file, force, fill).map(drop)
+}
+
+/// An empty file that has its name from the beginning, for what is to be there as far as it is written.
+pub fn begin(file: &Path, force: bool) -> Result<File, Fail> {
+    written(file, force, |_| Ok(()))
+}
+
+fn written(file: &Path, force: bool, fill: impl FnOnce(&mut dyn Write) -> io::Result<()>) -> Result<File, Fail> {
     let unwritten = |e| unwritten(file, e);
     let hidden = replaced(file, force)?.is_some();
     let part = Part::beside(file, if hidden { 0o600 } else { 0o666 }).map_err(unwritten)?;
@@ -86,10 +95,12 @@ pub fn write(file: &Path, force: bool, fill: impl FnOnce(&mut dyn Write) -> io::
     if let Some(old) = replaced(file, force)? {
         part.allow(old.mode() & 0o7777).map_err(unwritten)?;
     }
+    let open = part.open.try_clone().map_err(unwritten)?;
     part.place(file, force).map_err(|e| match e.kind() {
         io::ErrorKind::AlreadyExists => occupied(file),
         _ => unwritten(e),
-    })
+    })?;
+    Ok(open)
 }
 
 /// A file under a temporary name. This run made it, so this run may remove it.

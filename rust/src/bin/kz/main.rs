@@ -8,6 +8,7 @@ mod fail;
 mod files;
 mod given;
 mod join;
+mod log;
 mod model;
 mod netpbm;
 mod npy;
@@ -36,8 +37,7 @@ kz: the Pixtral image encoder, proved; from the command line
   kz patches SWEEP.ppm .. -o DIR        patches of each sweep
   kz restore FILE.npy -o OUT.ppm        the picture that gave the patches
   kz compare A.ppm B.ppm [-o OUT.png]   which patches are equal, as a picture
-  kz bench                              how long each call takes, here and
-                                        in the Rust if its source is there
+  kz bench                              how long each call takes
 Pictures are binary netpbm, P5 or P6. Patches and token vectors are .npy of
 NumPy, which says its shape; weights and tables plain floats: f32, little-
 endian, in the order of include/kyzgultam.h. Sizes are HEIGHTxWIDTH.
@@ -48,6 +48,7 @@ endian, in the order of include/kyzgultam.h. Sizes are HEIGHTxWIDTH.
   --tiles           for encode, patches and restore: a sweep above the image
                     size is not resized, but cut into tiles, a file for each
   --grid HxW        for restore of plain floats, which do not say it
+  --log FILE        for encode and patches: a line a sweep that shows no pixel
   --force           write over plain files that are there already
   --skip-existing   for encode and patches: take such files for done
 
@@ -62,10 +63,15 @@ const COMMANDS: [Command; 6] = [
     (
         "encode",
         encode::ENCODE,
-        &["-o", "--tiles", "--weights", "--tables", "--settings", "--force", "--skip-existing"],
+        &["-o", "--tiles", "--weights", "--tables", "--settings", "--log", "--force", "--skip-existing"],
         encode::encode,
     ),
-    ("patches", encode::PATCHES, &["-o", "--tiles", "--settings", "--force", "--skip-existing"], encode::patches),
+    (
+        "patches",
+        encode::PATCHES,
+        &["-o", "--tiles", "--settings", "--log", "--force", "--skip-existing"],
+        encode::patches,
+    ),
     ("restore", restore::HELP, &["-o", "--tiles", "--grid", "--settings", "--force"], restore::run),
     ("compare", compare::HELP, &["-o", "--settings", "--force"], compare::run),
     ("bench", bench::HELP, &["--quick", "--size", "--weights", "--tables", "--settings"], bench::run),
@@ -104,7 +110,7 @@ fn main() -> ExitCode {
     let words: Vec<OsString> = std::env::args_os().skip(1).collect();
     let (words, status) = match run(&words) {
         Ok(()) => return ExitCode::SUCCESS,
-        Err(Fail::Refused(words) | Fail::Taken(words) | Fail::Stopped(words)) => (words, 1),
+        Err(Fail::Refused(words) | Fail::Taken(words) | Fail::Stopped(words) | Fail::Unlogged(words)) => (words, 1),
         Err(Fail::Usage(words)) => (format!("{words}; `kz --help` shows what there is"), 2),
     };
     let _ = writeln!(stderr(), "kz: {words}");
