@@ -6,8 +6,8 @@ use mathlib.Core.List.{List}
 use Prim.Native.Nat.{ℕ, zero, _+_, _*_, _-_, _/_, _%_, _≤_, _<_}
 use native.Mathlib.Nat.{mul-assoc, add-assoc, add-sub-cancel-left, div-lt-iff-lt-mul, div-add-mod', mod-lt}
 use native.Mathlib.Omega.{arith}
-use borrow.Author.Tests.{eq-eqb, lt-ltb, eqb-true, ltb-true}
-use lib.Dec.{T, eqb, ltb}
+use borrow.Author.Tests.{eq-eqb, lt-ltb, eqb-true}
+use lib.Dec.{T, eqb}
 use lib.ListN.{length, getD}
 use lib.Ieee.{Float, nan, binary32, fits, toBits, ofBits}
 use lib.Ieee.Bits.{ofBits-toBits}
@@ -27,6 +27,7 @@ use Rattle.buffers.specs.Lent.{Bytes}
 use Rattle.buffers.proofs.Bytes.{bytes-tab, bytes-rows}
 use Rattle.picture_patches.specs.Patches.{patches}
 use Rattle.picture_patches.specs.Viewed.{viewAt}
+use Rattle.picture_patches.proofs.Views.{has-says}
 use Rattle.picture_patches.proofs.Patches.{length-patches, patches-ext}
 use Rattle.picture_restore.specs.Restore.{known, bytesFrom, restored, bytesOf}
 use Rattle.picture_restore.specs.inner.Known.{knownPatches}
@@ -35,8 +36,8 @@ use Rattle.picture.proofs.Places.{sample-at, patches-self}
 use Rattle.picture.specs.Undo.{Asked}
 use Rattle.picture.proofs.Given.{Table, samples, bytes-of}
 use Rattle.picture.proofs.Undo.{decides}
-use Rattle.picture_tiles.specs.Cut.{Ready, tiles, top, left, ownHeight, ownWidth, tileHeight, tileWidth, gridH, gridW}
-use Rattle.picture_tiles.specs.Tile.{owns, tileAt, tileBytes, tilePatches, foundAt, padded, tileKnown}
+use Rattle.picture_tiles.specs.Cut.{Ready, tiles, top, left, tileHeight, tileWidth, gridH, gridW}
+use Rattle.picture_tiles.specs.Tile.{tileView, owns, tileAt, tileBytes, tilePatches, foundAt, padded, tileKnown}
 use Rattle.picture_tiles.specs.Join.{putTiles, Has}
 use Rattle.picture_tiles.specs.Undo.{Source}
 use Rattle.picture_tiles.proofs.Cuts.{factor, tiled}
@@ -149,15 +150,12 @@ module _ (k : ℕ → ℕ → ℕ) (s : PictureSettings) (l : List Float) (h w i
   abbrev made : ℕ → ℕ → ℕ → ℕ
   made r z c = cond (owns s h w i (r - top s w i) (z - left s w i)) (foundAt k s l w i (r - top s w i) (z - left s w i) c) 0
 
-  owns-says : (y x : ℕ) → owns s h w i y x ≡ true → (y < ownHeight s h w i) × (x < ownWidth s w i)
-  owns-says y x e = (ltb-true y (ownHeight s h w i) (and-left (ltb y (ownHeight s h w i)) (ltb x (ownWidth s w i)) e), ltb-true x (ownWidth s w i) (and-right (ltb y (ownHeight s h w i)) (ltb x (ownWidth s w i)) e))
-
   made-below : Known k s l h w i → (r z c : ℕ) → c < 3 → made r z c < 256
   made-below o r z c hc = go (r - top s w i) (z - left s w i) (owns s h w i (r - top s w i) (z - left s w i)) refl
     where
       go : (y x : ℕ) (t : Bool) → owns s h w i y x ≡ t → cond t (foundAt k s l w i y x c) 0 < 256
       go y x true e =
-          let u = owns-says y x e in
+          let u = has-says (tileView s h w i) y x e in
           let t = tiled s h w i q inside in
           let a = t .tall .covers in
           let b = t .wide .covers in
@@ -170,7 +168,7 @@ module _ (k : ℕ → ℕ → ℕ) (s : PictureSettings) (l : List Float) (h w i
     where
       go : (t : Bool) → owns s h w i y x ≡ t → cond t (pixel (picture h w made) w (top s w i + y) (left s w i + x) c) 0 ≡ foundAt k s l w i y x c
       go true e =
-          let u = owns-says y x e in
+          let u = has-says (tileView s h w i) y x e in
           let t = tiled s h w i q inside in
           let a = t .tall .ends in
           let b = t .wide .ends in
