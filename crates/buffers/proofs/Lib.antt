@@ -1,5 +1,6 @@
 pub mod Regions
 pub mod Puts
+pub mod Counts
 pub mod Lists
 pub mod Steps
 pub mod Rooms

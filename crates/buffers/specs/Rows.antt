@@ -1,7 +1,7 @@
 -- Lists made one piece after another, and tests over a range. Assumes nothing.
 use mathlib.Core.Bool.{Bool, true, _&&_, cond}
 use mathlib.Core.List.{List, [], _∷_, _++_}
-use Prim.Native.Nat.{ℕ, zero, suc}
+use Prim.Native.Nat.{ℕ, zero, suc, _+_}
 
 module _ {A : Type 0} where
   -- f 0, .., f (n - 1)
@@ -22,6 +22,11 @@ module _ {A : Type 0} where
 unfoldable pub all : ℕ → (ℕ → Bool) → Bool
 all zero f = true
 all (suc n) f = all n f && f n
+
+-- at how many of 0, .., n - 1 the test passes
+unfoldable pub count : ℕ → (ℕ → Bool) → ℕ
+count zero f = zero
+count (suc n) f = count n f + cond (f n) 1 0
 
 -- the first k below n at which the test passes, and n where there is none
 unfoldable pub first : ℕ → (ℕ → Bool) → ℕ
