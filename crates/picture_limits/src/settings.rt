@@ -32,6 +32,7 @@ pub fn number(r: Refusal) -> u32
         Refusal::NotFinite => 12,
         Refusal::Channel => 19,
         Refusal::Tile => 20,
+        Refusal::List => 21,
     }
 }
 
