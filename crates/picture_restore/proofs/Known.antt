@@ -25,8 +25,8 @@ known-same k m s p l =
     all-ext (length l) _ _ (λ i _. ap (λ (x : ℕ). ltb x 256) (byte-same k m s (i / (p * p) % 3) (toBits binary32 (getD l i nan)) (mod-lt (i / (p * p)) (omega arith))))
 
 -- the channel of place i of channel c of patch q
-channel-of : (p q c i : ℕ) → c < 3 → i < p * p → (q * patchFloats p + c * (p * p) + i) / (p * p) % 3 ≡ c
-channel-of p q c i hc hi =
+pub channel-at : (p q c i : ℕ) → c < 3 → i < p * p → (q * patchFloats p + c * (p * p) + i) / (p * p) % 3 ≡ c
+channel-at p q c i hc hi =
     let e : q * patchFloats p + c * (p * p) + i ≡ (q * 3 + c) * (p * p) + i = omega (arith, add-mul (q * 3) c (p * p), mul-assoc q 3 (p * p)) in
     ap (λ (n : ℕ). n / (p * p) % 3) e ∙ ap (λ (n : ℕ). n % 3) (quotient (p * p) (omega arith) (q * 3 + c) i hi) ∙ remainder 3 (omega arith) q c hc
 
@@ -37,7 +37,7 @@ unfolding known
 known-at k p n l len e q c i a b d =
     let at = q * patchFloats p + c * (p * p) + i in
     let t = ltb-true (byteOf k (at / (p * p) % 3) (toBits binary32 (getD l at nan))) 256 (all-at (length l) _ e at (omega (arith, len, at-in p n q c i a b d))) in
-    rw (channel-of p q c i b d) at t
+    rw (channel-at p q c i b d) at t
 
 -- what the loops test
 pub known-cut : (k : ℕ → ℕ → ℕ) (p n : ℕ) (l : List Float) → length l ≡ n * patchFloats p → known k p l ≡ knownPatches k p n l
@@ -53,4 +53,4 @@ known-cut k p n l e =
     same : (q c i : ℕ) → c < 3 → i < p * p → f (q * patchFloats p + (c * (p * p) + i)) ≡ ltb (byteOf k c (toBits binary32 (getD l (q * patchFloats p + c * (p * p) + i) nan))) 256
     same q c i hc hi =
         let at = q * patchFloats p + c * (p * p) + i in
-        ap f (sym (add-assoc (q * patchFloats p) (c * (p * p)) i)) ∙ ap (λ (x : ℕ). ltb (byteOf k x (toBits binary32 (getD l at nan))) 256) (channel-of p q c i hc hi)
+        ap f (sym (add-assoc (q * patchFloats p) (c * (p * p)) i)) ∙ ap (λ (x : ℕ). ltb (byteOf k x (toBits binary32 (getD l at nan))) 256) (channel-at p q c i hc hi)

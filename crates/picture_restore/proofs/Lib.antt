@@ -1,5 +1,5 @@
 pub mod Known
 pub mod Numbers
 pub mod Ladder
-pub mod Spots
+pub mod Written
 pub mod Views

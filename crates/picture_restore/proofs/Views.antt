@@ -14,7 +14,7 @@ use Rattle.picture_limits.specs.Places.{patchFloats}
 use Rattle.picture_limits.proofs.Sides.{within-says, sided-says}
 use Rattle.picture_limits.proofs.Views.{inside-says}
 use Rattle.picture_restore.specs.View.{viewPlace, viewFits}
-use Rattle.picture_restore.specs.inner.Spot.{Rows}
+use Rattle.picture_restore.specs.inner.Rows.{Rows}
 
 pub record Fits (len p gh gw : ℕ) (v : View) (h w room : ℕ) : Type 0 where
   pub tall : h ≤ 8192

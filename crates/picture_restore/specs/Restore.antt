@@ -2,9 +2,9 @@
 use mathlib.Core.Path.{_≡_}
 use mathlib.Core.Bool.{Bool, _&&_}
 use mathlib.Core.List.{List}
-use Prim.Native.Nat.{ℕ, _*_, _/_, _%_}
+use Prim.Native.Nat.{ℕ, _*_}
 use lib.ListN.{length, getD}
-use lib.Dec.{eqb, leb, ltb}
+use lib.Dec.{eqb, leb}
 use lib.Ieee.{Float, nan, binary32, toBits}
 use Rattle.buffers.specs.Rows.{all}
 use Rattle.buffers.specs.Region.{over}
@@ -16,16 +16,21 @@ use Rattle.picture_limits.specs.Refusal as R
 use Rattle.picture_limits.specs.Refusal.{unless, reported}
 use Rattle.picture_limits.specs.Settings.{allowed}
 use Rattle.picture_limits.specs.Shape.{gridAllowed}
-use Rattle.picture_samples.specs.Samples.{channelsAllowed, byteOf, valueOf, patternOf}
-use Rattle.picture_limits.specs.Places.{patchFloats, picture, samplePlace}
+use Rattle.picture_samples.specs.Samples.{channelsAllowed, valueOf, patternOf}
+use Rattle.picture_limits.specs.Places.{patchFloats}
+use Rattle.picture_spot.specs.Bytes.{knownAt, bytesBy}
 
--- by a table k: every sample has the bits of a byte in its channel, and sample i is of channel i / p² mod 3
+-- the bits of sample i
+abbrev pub bitsOf : List Float → ℕ → ℕ
+bitsOf l i = toBits binary32 (getD l i nan)
+
+-- by a table k: every sample has the bits of a byte in its channel
 unfoldable pub known : (ℕ → ℕ → ℕ) → ℕ → List Float → Bool
-known k p l = all (length l) (λ i. ltb (byteOf k (i / (p * p) % 3) (toBits binary32 (getD l i nan))) 256)
+known k p l = all (length l) (knownAt k p (bitsOf l))
 
 -- the bytes of the samples, by row, column and channel
 abbrev pub bytesFrom : (ℕ → ℕ → ℕ) → ℕ → List Float → ℕ → ℕ → List ℕ
-bytesFrom k p l gh gw = picture (gh * p) (gw * p) (λ y x c. byteOf k c (toBits binary32 (getD l (samplePlace p gw y x c) nan)))
+bytesFrom k p l gh gw = bytesBy (λ b. b) k p gh gw (bitsOf l)
 
 -- ---- restore, by the table of the settings' means and deviations
 

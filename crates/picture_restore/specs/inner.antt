@@ -1,2 +1,2 @@
-pub mod Spot
 pub mod Known
+pub mod Rows

@@ -1,12 +1,7 @@
 // Patches back to the resized picture, and to a view of a picture.
-mod byte;
 pub mod view;
 
-use byte::Way;
-use byte::byte_for;
-use byte::quick_for;
-use byte::spot;
-use byte::way_of;
+use number_floats::pattern::bits_of_f32;
 use picture_limits::PictureSettings;
 use picture_limits::Refusal;
 use picture_limits::Shape;
@@ -14,6 +9,12 @@ use picture_limits::settings::settings_allowed;
 use picture_limits::settings::shape;
 use picture_samples::allowed::channels_allowed;
 use picture_samples::samples;
+use picture_spot::Way;
+use picture_spot::byte_of;
+use picture_spot::guess;
+use picture_spot::quick_of;
+use picture_spot::spot;
+use picture_spot::way_of;
 ghost use mathlib.Core.Path.{_≡_};
 ghost use mathlib.Core.Bool.{true};
 ghost use Prim.Native.Nat.{ℕ, _+_, _*_, _/_, _≤_, _<_};
@@ -21,8 +22,9 @@ ghost use lib.ListN.{length};
 ghost use Rattle.buffers.specs.Region.{put, putRows};
 ghost use Rattle.picture_samples.specs.Samples.{sampleTable, channelsAllowed, value, entry};
 ghost use Rattle.picture_restore.specs.inner.Known.{knownRun, knownPatch, knownPatches};
-ghost use Rattle.picture_restore.specs.inner.Spot.{guessedBy, spotted, Spots, pixelBy, runBy, lineBy, rowBy, Rows};
+ghost use Rattle.picture_restore.specs.inner.Rows.{pixelBy, runBy, lineBy, rowBy, Rows};
 ghost use Rattle.picture_limits.specs.Shape.{shaped};
+ghost use Rattle.picture_spot.specs.inner.Spot.{guessedBy, spotted, Spots};
 ghost use Rattle.picture_restore.specs.Restore.{restored, bytesOut, Numbered};
 
 pub enum Restored {
@@ -37,7 +39,7 @@ fn run_guessed(patches: &[f32], at: usize, n: usize, c: usize, t: &[u32; 768], w
 {
     let mut k = 0usize;
     while k < n {
-        if 256 <= quick_for(t, w, c, patches[at + k]) {
+        if 256 <= quick_of(t, w, c, patches[at + k]) {
             return false;
         }
         k += 1;
@@ -56,7 +58,7 @@ fn run_known(patches: &[f32], at: usize, n: usize, c: usize, t: &[u32; 768], w: 
     }
     let mut k = 0usize;
     while k < n {
-        if 256 <= byte_for(t, w, c, patches[at + k]) {
+        if 256 <= byte_of(t, w, c, bits_of_f32(patches[at + k])) {
             return false;
         }
         k += 1;
@@ -117,7 +119,32 @@ fn restore_pixel(
     out[at + 2] = spot(t, w, 2, patches[from + 2 * n]) as u8;
 }
 
-// The first n pixels of a row of a patch of side p.
+// The same, where bytes are spotted by arithmetic.
+fn guess_pixel(patches: &[f32], n: usize, from: usize, at: usize, out: &mut [u8], w: Way)
+    requires { ⌜ (from + 2 * n < length (now patches)) × (at + 3 ≤ length (now out)) ⌝ }
+    ensures { λ _. ⌜ now (out .exit) ≡ put (now (out .entry)) at (pixelBy (guessedBy w) n (now (patches .entry)) from) ⌝ }
+{
+    out[at] = guess(w.slope[0], w.shift[0], patches[from]) as u8;
+    out[at + 1] = guess(w.slope[1], w.shift[1], patches[from + n]) as u8;
+    out[at + 2] = guess(w.slope[2], w.shift[2], patches[from + 2 * n]) as u8;
+}
+
+// The first n pixels of a row of a patch of side p, where bytes are spotted by arithmetic.
+fn guess_run(patches: &[f32], p: usize, n: usize, from: usize, at: usize, out: &mut [u8], w: Way)
+    requires { ⌜ (p ≤ 32) × ((j : ℕ) → j < n → from + j + 2 * (p * p) < length (now patches)) × (at + n * 3 ≤ length (now out)) ⌝ }
+    ensures { λ _. ⌜ now (out .exit) ≡ put (now (out .entry)) at (runBy (guessedBy w) p n (now (patches .entry)) from) ⌝ }
+{
+    let m = p * p;
+    let mut j = 0usize;
+    let mut o = at;
+    while j < n {
+        guess_pixel(patches, m, from + j, o, out, w);
+        o += 3;
+        j += 1;
+    }
+}
+
+// The same either way.
 fn restore_run(
     patches: &[f32],
     p: usize,
@@ -142,7 +169,7 @@ fn restore_run(
 }
 
 // Row i of each of the gw patches side by side, the first of which starts at `from`.
-fn restore_line(
+fn spot_line(
     patches: &[f32],
     p: usize,
     gw: usize,
@@ -167,6 +194,55 @@ fn restore_line(
         k += m;
         b += 1;
     }
+}
+
+// The same, where bytes are spotted by arithmetic.
+fn guess_line(
+    patches: &[f32],
+    p: usize,
+    gw: usize,
+    i: usize,
+    from: usize,
+    at: usize,
+    out: &mut [u8],
+    w: Way,
+)
+    requires { ⌜ (p ≤ 32) × (i < p) × (from + gw * (3 * (p * p)) ≤ length (now patches)) × (at + gw * (p * 3) ≤ length (now out)) ⌝ }
+    ensures { λ _. ⌜ now (out .exit) ≡ put (now (out .entry)) at (lineBy (guessedBy w) p gw (now (patches .entry)) from i) ⌝ }
+{
+    let m = 3 * (p * p);
+    let d = i * p;
+    let mut b = 0usize;
+    let mut o = at;
+    let mut k = from;
+    while b < gw {
+        guess_run(patches, p, p, k + d, o, out, w);
+        o += p * 3;
+        k += m;
+        b += 1;
+    }
+}
+
+// The same either way. How bytes are spotted is asked once for the row.
+fn restore_line(
+    patches: &[f32],
+    p: usize,
+    gw: usize,
+    i: usize,
+    from: usize,
+    at: usize,
+    out: &mut [u8],
+    t: &[u32; 768],
+    w: Way,
+)
+    requires { ⌜ (p ≤ 32) × (i < p) × (from + gw * (3 * (p * p)) ≤ length (now patches)) × (at + gw * (p * 3) ≤ length (now out)) × Spots (now t) (spotted w (entry (now t))) ⌝ }
+    ensures { λ _. ⌜ now (out .exit) ≡ put (now (out .entry)) at (lineBy (spotted w (entry (now (t .entry)))) p gw (now (patches .entry)) from i) ⌝ }
+{
+    if w.right {
+        guess_line(patches, p, gw, i, from, at, out, w);
+        return;
+    }
+    spot_line(patches, p, gw, i, from, at, out, t, w);
 }
 
 // The first `wide` pixels of row y of the picture, whose patches stand gw side by side: of whole patches, and then of a part

@@ -1,12 +1,12 @@
 // Patches back to a view of a picture.
 use crate::all_known;
-use crate::byte::way_of;
 use crate::restore_rows;
 use picture_limits::PictureSettings;
 use picture_limits::View;
 use picture_limits::settings::sides_allowed;
 use picture_limits::settings::view_inside;
 use picture_samples::allowed::channels_allowed;
+use picture_spot::way_of;
 ghost use mathlib.Core.Path.{_≡_};
 ghost use lib.ListN.{length};
 ghost use Rattle.picture_samples.specs.Samples.{entry};

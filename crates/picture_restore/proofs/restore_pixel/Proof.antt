@@ -1,25 +1,20 @@
 -- `picture_restore::restore_pixel` meets its contract: three stores are one write of three bytes. Assumes nothing.
 use mathlib.Core.Path.{_≡_, ap, _∙_}
-use mathlib.Core.List.{List}
-use Prim.Native.Nat.{ℕ, suc, _+_, _*_}
+use Prim.Native.Nat.{ℕ, _+_, _*_, _<_}
 use native.Mathlib.Omega.{arith}
 use borrow.Author.Needs.{needs}
-use lib.ListN.{set, getD, length-set}
-use lib.Ieee.{nan}
-use Rattle.buffers.specs.Rows.{tab}
-use Rattle.buffers.specs.Region.{put}
+use lib.ListN.{getD, length-set}
+use lib.Ieee.{Float, nan}
 use Rattle.picture_samples.specs.Samples.{entry}
-use Rattle.picture_restore.specs.inner.Spot.{spotted}
-use Rattle.picture_restore.proofs.Spots.{spot-low}
+use Rattle.picture_spot.specs.inner.Spot.{spotted}
+use Rattle.picture_spot.proofs.Spots.{spotted-lt}
+use Rattle.picture_restore.proofs.Written.{put-three}
 use Rattle.picture_restore.proofs.restore_pixel.Statement.{statement}
 use Rattle.picture_restore.proofs.restore_pixel.Tie as tie
 
-put-three : (s : List ℕ) (at : ℕ) (f : ℕ → ℕ) → set (set (set s at (f 0)) (at + 1) (f 1)) (at + 2) (f 2) ≡ put s at (tab 3 f)
-unfolding put tab
-put-three s at f =
-    let e : at + 2 ≡ suc (at + 1) = omega arith in
-    let g : at + 1 ≡ suc at = omega arith in
-    ap (λ (i : ℕ). set (set (set s at (f 0)) (at + 1) (f 1)) i (f 2)) e ∙ ap (λ (i : ℕ). set (set (set s at (f 0)) i (f 1)) (suc i) (f 2)) g
+-- what is spotted is a byte
+byte : (s : tie.Start) (c : ℕ) (v : Float) (r : ℕ) → r ≡ spotted (s .args .w) (entry (s .args .t .now)) c v → r < 256
+byte s c v r e = rw e (spotted-lt (s .args .w) (entry (s .args .t .now)) c v)
 
 mul-spot : tie.Need-mul-spot
 mul-spot c = search needs
@@ -28,10 +23,10 @@ shared-slice-read-spot : tie.Need-shared-slice-read-spot
 shared-slice-read-spot c = search needs
 
 spot-requires : tie.Need-spot-requires
-spot-requires c κs = (omega arith, c .before .before .before .pre .2 .allowed)
+spot-requires c κs = search needs
 
 cast-out : tie.Need-cast-out
-cast-out c = omega (arith, spot-low _ _ (c .before .before .before .before .pre .2) 0 _ _ (c .spot .ensures))
+cast-out c = omega (arith, byte (c .before .before .before .before) 0 _ _ (c .spot .ensures))
 
 slice-write-out : tie.Need-slice-write-out
 slice-write-out c = search needs
@@ -46,10 +41,10 @@ shared-slice-read-spot-2 : tie.Need-shared-slice-read-spot-2
 shared-slice-read-spot-2 c = search needs
 
 spot-requires-2 : tie.Need-spot-requires-2
-spot-requires-2 c κs = (omega arith, c .before .before .before .before .before .pre .2 .allowed)
+spot-requires-2 c κs = search needs
 
 cast-out-2 : tie.Need-cast-out-2
-cast-out-2 c = omega (arith, spot-low _ _ (c .before .before .before .before .before .before .pre .2) 1 _ _ (c .spot2 .ensures))
+cast-out-2 c = omega (arith, byte (c .before .before .before .before .before .before) 1 _ _ (c .spot2 .ensures))
 
 add-out : tie.Need-add-out
 add-out c = search needs
@@ -70,10 +65,10 @@ shared-slice-read-spot-3 : tie.Need-shared-slice-read-spot-3
 shared-slice-read-spot-3 c = search needs
 
 spot-requires-3 : tie.Need-spot-requires-3
-spot-requires-3 c κs = (omega arith, c .before .before .before .before .before .before .before .pre .2 .allowed)
+spot-requires-3 c κs = search needs
 
 cast-out-3 : tie.Need-cast-out-3
-cast-out-3 c = omega (arith, spot-low _ _ (c .before .before .before .before .before .before .before .before .pre .2) 2 _ _ (c .spot3 .ensures))
+cast-out-3 c = omega (arith, byte (c .before .before .before .before .before .before .before .before) 2 _ _ (c .spot3 .ensures))
 
 add-out-2 : tie.Need-add-out-2
 add-out-2 c = search needs

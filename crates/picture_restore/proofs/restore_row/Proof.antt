@@ -12,8 +12,9 @@ use Rattle.buffers.proofs.Regions.{put-append}
 use Rattle.picture_samples.specs.Samples.{entry}
 use Rattle.picture_limits.specs.Places.{patchFloats}
 use Rattle.picture_limits.proofs.Places.{square}
-use Rattle.picture_restore.specs.inner.Spot.{spotted, runBy, lineBy, rowBy}
-use Rattle.picture_restore.proofs.Spots.{length-lineBy, row-parts}
+use Rattle.picture_spot.specs.inner.Spot.{spotted}
+use Rattle.picture_restore.specs.inner.Rows.{runBy, lineBy, rowBy}
+use Rattle.picture_restore.proofs.Written.{length-lineBy, row-parts}
 use Rattle.picture_restore.proofs.restore_row.Statement.{statement}
 use Rattle.picture_restore.proofs.restore_row.Tie as tie
 

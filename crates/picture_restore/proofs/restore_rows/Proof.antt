@@ -8,7 +8,8 @@ use lib.ListN.{length}
 use Rattle.buffers.specs.Region.{put, putRows}
 use Rattle.buffers.proofs.Puts.{puts-step}
 use Rattle.picture_samples.specs.Samples.{entry}
-use Rattle.picture_restore.specs.inner.Spot.{spotted, rowBy}
+use Rattle.picture_spot.specs.inner.Spot.{spotted}
+use Rattle.picture_restore.specs.inner.Rows.{rowBy}
 use Rattle.picture_restore.proofs.restore_rows.Statement.{statement}
 use Rattle.picture_restore.proofs.restore_rows.Tie as tie
 

@@ -8,9 +8,10 @@ use Rattle.buffers.specs.Rows.{rows}
 use Rattle.buffers.specs.Region.{put}
 use Rattle.buffers.proofs.Lists.{rows-step}
 use Rattle.picture_samples.specs.Samples.{entry}
-use Rattle.picture_restore.specs.inner.Spot.{spotted, pixelBy}
+use Rattle.picture_spot.specs.inner.Spot.{spotted}
+use Rattle.picture_restore.specs.inner.Rows.{pixelBy}
 use Rattle.picture_limits.proofs.Places.{square}
-use Rattle.picture_restore.proofs.Spots.{length-pixelBy}
+use Rattle.picture_restore.proofs.Written.{length-pixelBy}
 use Rattle.picture_restore.proofs.restore_run.Statement.{statement}
 use Rattle.picture_restore.proofs.restore_run.Tie as tie
 

@@ -4,6 +4,7 @@ use mathlib.Core.List.{List}
 use Prim.Native.Nat.{ℕ, _*_, _≤_}
 use native.Mathlib.Nat.{mul-assoc, le-refl}
 use native.Mathlib.Omega.{arith}
+use borrow.Author.Needs.{needs}
 use borrow.Author.Tests.{not-true, not-false, le-leb, lt-leb}
 use lib.Dec.{leb}
 use lib.ListN.{length}
@@ -23,8 +24,10 @@ use Rattle.picture_samples.proofs.Channels.{entry-of, allowed-of}
 use Rattle.picture_samples.proofs.Finds.{Same}
 use Rattle.picture_restore.proofs.Known.{known-same, known-cut}
 use Rattle.picture_restore.proofs.Ladder.{agreed}
-use Rattle.picture_restore.specs.inner.Spot.{spotted, rowBy}
-use Rattle.picture_restore.proofs.Spots.{length-rowBy, spotted-bytes}
+use Rattle.picture_spot.specs.inner.Spot.{spotted, Spots}
+use Rattle.picture_spot.proofs.Spots.{spots-of}
+use Rattle.picture_restore.specs.inner.Rows.{rowBy}
+use Rattle.picture_restore.proofs.Written.{length-rowBy, spotted-bytes}
 use Rattle.picture_restore.proofs.Views.{rows-fit}
 use Rattle.picture_restore.proofs.restore_shaped.Statement.{statement}
 use Rattle.picture_restore.proofs.restore_shaped.Tie as tie
@@ -74,13 +77,17 @@ returns : tie.Need-returns
 returns c = let d = decision (c .before .before .before) in let e = lt-leb _ _ (c .if1 .taken) in (rw (d, e), rw (d, e))
 
 way-of-requires : tie.Need-way-of-requires
-way-of-requires c κs = c .before .before .before .before .before .pre .1 .1
+way-of-requires c κs = search needs
+
+-- the way spots every byte of the table
+spots : (c : tie.After-way-of) → let a = c .before .before .before .before .before .before .args in Spots (a .t .now) (spotted (c .way-of .result) (entry (a .t .now)))
+spots c = let s = c .before .before .before .before .before .before in spots-of _ (s .args .t .now) _ _ (c .way-of .ensures) (s .pre .1 .1)
 
 all-known-requires : tie.Need-all-known-requires
 all-known-requires c κs =
     let s = c .before .before .before .before .before .before in
     let k = accepted s in
-    (k .grids .settings .patch-high, omega (arith, k .samples, ap (λ (n : ℕ). n * patchFloats (s .args .s .«patch_size»)) (k .tokens)), c .way-of .ensures)
+    (k .grids .settings .patch-high, omega (arith, k .samples, ap (λ (n : ℕ). n * patchFloats (s .args .s .«patch_size»)) (k .tokens)), spots c)
 
 returns-2 : tie.Need-returns-2
 returns-2 c =
@@ -111,7 +118,7 @@ restore-rows-requires c κs =
       rows-fit p (a .grid-h) (a .grid-w) (a .grid-h * p) n 0 (n * 3) (length (a .patches .now)) (length (a .out .now)) (k .grids .settings .patch-low) (k .grids .settings .patch-high)
           (omega (arith, k .grids .wide .few, k .grids .settings .image-high)) (le-refl (a .grid-h * p)) (le-refl n) (k .samples)
           (λ y h. omega (arith, fit (n * 3) h, c .before .before .before .before .before .before .if1 .left, mul-assoc (a .grid-h * p) n 3)),
-      c .before .before .before .way-of .ensures,
+      spots (c .before .before .before),
     )
 
 mul-t16 : tie.Need-mul-t16
@@ -140,7 +147,7 @@ returns-3 c =
     let row : ℕ → List ℕ = rowBy b p (a .grid-w) n l in
     let ys = bytesFrom (patternOf (a .s)) p l (a .grid-h) (a .grid-w) in
     let ok = c .before .before .before .before .before .before .before .before .before .before .before .shared-slice-known .given in
-    let w = spotted-bytes (a .t .now) b (patternOf (a .s)) p (a .grid-h) (a .grid-w) l (way .ensures) (same s) (k .grids .settings .patch-low) g (k .samples) (λ i _. ok i) in
+    let w = spotted-bytes (a .t .now) b (patternOf (a .s)) p (a .grid-h) (a .grid-w) l (spots (c .before .before .before .before .before .before)) (same s) (k .grids .settings .patch-low) g (k .samples) (λ i _. ok i) in
     let m : length ys ≤ length (a .out .now) = rw (length-picture (a .grid-h * p) (a .grid-w * p) _) (omega (arith, f, mul-assoc (a .grid-h * p) (a .grid-w * p) 3)) in (
       rw (d, e, g),
       rw (d, e, g)

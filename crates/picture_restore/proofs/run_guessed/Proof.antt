@@ -13,6 +13,8 @@ use Rattle.buffers.specs.Rows.{all}
 use Rattle.buffers.proofs.Lists.{all-step, all-fails}
 use Rattle.picture_samples.specs.Samples.{byteOf, entry}
 use Rattle.picture_restore.specs.inner.Known.{knownRun}
+use Rattle.picture_spot.specs.inner.Spot.{guessedBy}
+use Rattle.picture_spot.proofs.Spots.{tried-byte}
 use Rattle.picture_restore.proofs.run_guessed.Statement.{statement}
 use Rattle.picture_restore.proofs.run_guessed.Tie as tie
 
@@ -33,24 +35,32 @@ loop-holds : tie.Need-loop-holds Inv-loop μ-loop
 unfolding all
 loop-holds c = search needs
 
-add-quick-for : tie.Need-add-quick-for Inv-loop μ-loop
-add-quick-for c = search needs
+add-quick-of : tie.Need-add-quick-of Inv-loop μ-loop
+add-quick-of c = search needs
 
-mul-quick-for : tie.Need-mul-quick-for Inv-loop μ-loop
-mul-quick-for c = search needs
+mul-quick-of : tie.Need-mul-quick-of Inv-loop μ-loop
+mul-quick-of c = search needs
 
-shared-slice-read-quick-for : tie.Need-shared-slice-read-quick-for Inv-loop μ-loop
-shared-slice-read-quick-for c = search needs
+shared-slice-read-quick-of : tie.Need-shared-slice-read-quick-of Inv-loop μ-loop
+shared-slice-read-quick-of c = search needs
 
-quick-for-requires : tie.Need-quick-for-requires Inv-loop μ-loop
-quick-for-requires c κs = search needs
+quick-of-requires : tie.Need-quick-of-requires Inv-loop μ-loop
+quick-of-requires c κs = search needs
+
+-- what was found of sample k is its byte
+told : (c : tie.After-quick-of Inv-loop μ-loop) → let a = c .before .before .before .before .before .args in
+    c .quick-of .result ≡ byte (a .t .now) (a .patches .now) (a .at) (a .c) (c .before .before .before .loop .k)
+told c =
+    let s = c .before .before .before .before .before in
+    let a = s .args in
+    c .quick-of .ensures ∙ tried-byte (a .t .now) (guessedBy (a .w)) (s .pre .2) (a .c) (s .pre .0) _
 
 returns : tie.Need-returns Inv-loop μ-loop
 returns c =
     let a = c .before .before .before .before .before .before .args in
     let k = c .before .before .before .before .loop .k in
     sym (all-fails (a .n) (seen (a .t .now) (a .patches .now) (a .at) (a .c)) k (c .before .before .before .loop-test .taken)
-    (le-ltb (byte (a .t .now) (a .patches .now) (a .at) (a .c) k) 256 (omega (arith, c .if1 .taken, c .before .quick-for .ensures))))
+    (le-ltb (byte (a .t .now) (a .patches .now) (a .at) (a .c) k) 256 (omega (arith, c .if1 .taken, told (c .before)))))
 
 add-k : tie.Need-add-k Inv-loop μ-loop
 add-k c = search needs
@@ -64,7 +74,7 @@ loop-again c =
     let l = c .before .before .before .before .loop in (
       omega arith,
       all-step (l .k) (seen (a .t .now) (a .patches .now) (a .at) (a .c)) (l .inv .1)
-          (lt-ltb (byte (a .t .now) (a .patches .now) (a .at) (a .c) (l .k)) 256 (omega (arith, c .if1 .left, c .before .quick-for .ensures))),
+          (lt-ltb (byte (a .t .now) (a .patches .now) (a .at) (a .c) (l .k)) 256 (omega (arith, c .if1 .left, told (c .before)))),
     )
 
 returns-2 : tie.Need-returns-2 Inv-loop μ-loop
@@ -80,10 +90,10 @@ run-guessed-spec =
     Inv-loop
     μ-loop
     loop-holds
-    add-quick-for
-    mul-quick-for
-    shared-slice-read-quick-for
-    quick-for-requires
+    add-quick-of
+    mul-quick-of
+    shared-slice-read-quick-of
+    quick-of-requires
     returns
     add-k
     loop-less

@@ -13,7 +13,8 @@ use Rattle.buffers.specs.Rows.{all}
 use Rattle.buffers.proofs.Lists.{all-step, all-fails}
 use Rattle.picture_samples.specs.Samples.{byteOf, entry}
 use Rattle.picture_restore.specs.inner.Known.{knownRun}
-use Rattle.picture_restore.proofs.Spots.{by-guess}
+use Rattle.picture_spot.specs.inner.Spot.{spotted, tried}
+use Rattle.picture_spot.proofs.Spots.{by-guess, tried-byte}
 use Rattle.picture_restore.proofs.run_known.Statement.{statement}
 use Rattle.picture_restore.proofs.run_known.Tie as tie
 
@@ -42,24 +43,36 @@ loop-holds : tie.Need-loop-holds Inv-loop μ-loop
 unfolding all
 loop-holds c = search needs
 
-add-byte-for : tie.Need-add-byte-for Inv-loop μ-loop
-add-byte-for c = search needs
+add-bits-of-f32 : tie.Need-add-bits-of-f32 Inv-loop μ-loop
+add-bits-of-f32 c = search needs
 
-mul-byte-for : tie.Need-mul-byte-for Inv-loop μ-loop
-mul-byte-for c = search needs
+mul-bits-of-f32 : tie.Need-mul-bits-of-f32 Inv-loop μ-loop
+mul-bits-of-f32 c = search needs
 
-shared-slice-read-byte-for : tie.Need-shared-slice-read-byte-for Inv-loop μ-loop
-shared-slice-read-byte-for c = search needs
+shared-slice-read-bits-of-f32 : tie.Need-shared-slice-read-bits-of-f32 Inv-loop μ-loop
+shared-slice-read-bits-of-f32 c = search needs
 
-byte-for-requires : tie.Need-byte-for-requires Inv-loop μ-loop
-byte-for-requires c κs = search needs
+bits-of-f32-requires : tie.Need-bits-of-f32-requires Inv-loop μ-loop
+bits-of-f32-requires c κs = search needs
+
+byte-of-requires : tie.Need-byte-of-requires Inv-loop μ-loop
+byte-of-requires c κs = search needs
+
+-- what was found of sample k is its byte
+told : (c : tie.After-byte-of Inv-loop μ-loop) → let a = c .before .before .before .before .before .before .before .args in
+    c .byte-of .result ≡ byte (a .t .now) (a .patches .now) (a .at) (a .c) (c .before .before .before .before .loop .k)
+told c =
+    let s = c .before .before .before .before .before .before .before in
+    let a = s .args in
+    let g = spotted (a .w) (entry (a .t .now)) in
+    c .byte-of .ensures ∙ ap (tried (entry (a .t .now)) g (a .c)) (c .before .bits-of-f32 .ensures) ∙ tried-byte (a .t .now) g (s .pre .2) (a .c) (s .pre .0) _
 
 returns-2 : tie.Need-returns-2 Inv-loop μ-loop
 returns-2 c =
-    let a = c .before .before .before .before .before .before .before .args in
-    let k = c .before .before .before .before .loop .k in
-    sym (all-fails (a .n) (seen (a .t .now) (a .patches .now) (a .at) (a .c)) k (c .before .before .before .loop-test .taken)
-    (le-ltb (byte (a .t .now) (a .patches .now) (a .at) (a .c) k) 256 (omega (arith, c .if2 .taken, c .before .byte-for .ensures))))
+    let a = c .before .before .before .before .before .before .before .before .args in
+    let k = c .before .before .before .before .before .loop .k in
+    sym (all-fails (a .n) (seen (a .t .now) (a .patches .now) (a .at) (a .c)) k (c .before .before .before .before .loop-test .taken)
+    (le-ltb (byte (a .t .now) (a .patches .now) (a .at) (a .c) k) 256 (omega (arith, c .if2 .taken, told (c .before)))))
 
 add-k : tie.Need-add-k Inv-loop μ-loop
 add-k c = search needs
@@ -69,11 +82,11 @@ loop-less c = search needs
 
 loop-again : tie.Need-loop-again Inv-loop μ-loop
 loop-again c =
-    let a = c .before .before .before .before .before .before .before .args in
-    let l = c .before .before .before .before .loop in (
+    let a = c .before .before .before .before .before .before .before .before .args in
+    let l = c .before .before .before .before .before .loop in (
       omega arith,
       all-step (l .k) (seen (a .t .now) (a .patches .now) (a .at) (a .c)) (l .inv .1)
-          (lt-ltb (byte (a .t .now) (a .patches .now) (a .at) (a .c) (l .k)) 256 (omega (arith, c .if2 .left, c .before .byte-for .ensures))),
+          (lt-ltb (byte (a .t .now) (a .patches .now) (a .at) (a .c) (l .k)) 256 (omega (arith, c .if2 .left, told (c .before)))),
     )
 
 returns-3 : tie.Need-returns-3 Inv-loop μ-loop
@@ -91,10 +104,11 @@ run-known-spec =
     run-guessed-requires
     returns
     loop-holds
-    add-byte-for
-    mul-byte-for
-    shared-slice-read-byte-for
-    byte-for-requires
+    add-bits-of-f32
+    mul-bits-of-f32
+    shared-slice-read-bits-of-f32
+    bits-of-f32-requires
+    byte-of-requires
     returns-2
     add-k
     loop-less

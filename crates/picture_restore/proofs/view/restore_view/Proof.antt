@@ -12,9 +12,10 @@ use Rattle.picture_limits.proofs.Places.{times}
 use Rattle.picture_samples.specs.Samples.{channelsAllowed, value, entry}
 use Rattle.picture_restore.specs.Restore.{known}
 use Rattle.picture_restore.specs.View.{viewRow, viewPlace, viewFits, viewBack}
-use Rattle.picture_restore.specs.inner.Spot.{spotted}
+use Rattle.picture_spot.specs.inner.Spot.{spotted, Spots}
+use Rattle.picture_spot.proofs.Spots.{spots-of}
 use Rattle.picture_restore.proofs.Known.{known-cut}
-use Rattle.picture_restore.proofs.Spots.{spotted-row}
+use Rattle.picture_restore.proofs.Written.{spotted-row}
 use Rattle.picture_restore.proofs.Views.{Fits, fits-says, place-at, view-rows}
 use Rattle.picture_restore.proofs.view.restore_view.Statement.{statement}
 use Rattle.picture_restore.proofs.view.restore_view.Tie as tie
@@ -67,13 +68,17 @@ returns c =
     (rw (← c .before .before .channels-allowed .ensures, ← c .before .view-fits .ensures, e), rw (← c .before .before .channels-allowed .ensures, ← c .before .view-fits .ensures, e))
 
 way-of-requires : tie.Need-way-of-requires
-way-of-requires c κs = both (c .before .before) .0
+way-of-requires c κs = search needs
+
+-- the way spots every byte of the table
+spots : (c : tie.After-way-of) → let a = c .before .before .before .before .before .before .before .before .args in Spots (a .t .now) (spotted (c .way-of .result) (entry (a .t .now)))
+spots c = let a = c .before .before .before .before .before .before .before .before .args in spots-of _ (a .t .now) _ _ (c .way-of .ensures) (both (c .before .before .before) .0)
 
 mul-all-known : tie.Need-mul-all-known
 mul-all-known c = let z = sizes (c .before .before .before) in omega (arith, z .grids)
 
 all-known-requires : tie.Need-all-known-requires
-all-known-requires c κs = let f = passed (c .before .before .before) in (f .patch-high, omega (arith, f .samples), c .way-of .ensures)
+all-known-requires c κs = let f = passed (c .before .before .before) in (f .patch-high, omega (arith, f .samples), spots c)
 
 returns-2 : tie.Need-returns-2
 unfolding viewBack
@@ -97,7 +102,7 @@ mul-restore-rows c = let f = passed (c .before .before .before .before .before .
 restore-rows-requires : tie.Need-restore-rows-requires
 restore-rows-requires c κs =
     let e = c .before .before .before .before .before .before .before .before in
-    (view-rows _ _ _ _ _ _ _ _ (passed e), c .before .before .before .before .before .way-of .ensures)
+    (view-rows _ _ _ _ _ _ _ _ (passed e), spots (c .before .before .before .before .before))
 
 same-length : tie.Need-same-length
 same-length c = search needs
@@ -119,7 +124,7 @@ returns-3 c =
       rw (b .0, b .1, g)
           (c .before .before .restore-rows .ensures
           ∙ puts-ext (a .out .now) _ (viewPlace (a .w) (a .v)) _ (viewRow k p (a .grid-w) l (a .v)) (a .v .height) (λ y _. place-at (a .w) (a .v) y)
-          (λ y hy. let r : y < a .grid-h * p = omega (arith, hy, f .rows) in spotted-row (a .t .now) (spotted (way .result) k) k p (a .grid-h) (a .grid-w) l (way .ensures) (λ _ _ _ _. refl) (f .patch-low) g (f .samples) (λ i _. ok i) (a .v .width) y r (f .columns))),
+          (λ y hy. let r : y < a .grid-h * p = omega (arith, hy, f .rows) in spotted-row (a .t .now) (spotted (way .result) k) k p (a .grid-h) (a .grid-w) l (spots (c .before .before .before .before .before .before .before .before)) (λ _ _ _ _. refl) (f .patch-low) g (f .samples) (λ i _. ok i) (a .v .width) y r (f .columns))),
     )
 
 pub restore-view-spec : {M : Type 1} → statement M

@@ -1,0 +1,3 @@
+pub mod Halving
+pub mod Spots
+pub mod Unique
