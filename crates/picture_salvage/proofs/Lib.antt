@@ -1,0 +1,3 @@
+pub mod Salvages
+pub mod Saved
+pub mod Unique

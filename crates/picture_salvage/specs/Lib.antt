@@ -1,0 +1,3 @@
+pub mod Salvage
+pub mod Saved
+pub mod inner
