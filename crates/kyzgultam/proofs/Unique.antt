@@ -7,7 +7,8 @@ use lib.Ieee.{Float}
 use Rattle.picture.specs.Preprocess.{preprocessed, patchesOut}
 use Rattle.picture_restore.specs.Restore.{restored, bytesOut}
 use Rattle.picture_tiles.specs.Answer as Tile
-use Rattle.kyzgultam.specs.Face.{inner, innerEncoder, preprocessReport, restoreReport, cutReport, tileReport, forwardReport, lengthsReport, placeOf}
+use Rattle.picture_salvage.specs.Salvage.{salvaged, savedOut, listOut}
+use Rattle.kyzgultam.specs.Face.{inner, innerEncoder, preprocessReport, restoreReport, salvageReport, cutReport, tileReport, forwardReport, lengthsReport, placeOf}
 use Rattle.encoder_settings.specs.Lengths.{neededOf}
 use Rattle.encoder.specs.Forward.{encodedOf, outOf, scratchOf}
 use Rattle.kyzgultam.specs.declared.EncoderSettings.{EncoderSettings}
@@ -17,6 +18,7 @@ use Rattle.kyzgultam.specs.declared.PatchPlace.{PatchPlace}
 use Rattle.kyzgultam.specs.declared.PictureSettings.{PictureSettings}
 use Rattle.kyzgultam.specs.declared.PreprocessReport.{PreprocessReport}
 use Rattle.kyzgultam.specs.declared.RestoreReport.{RestoreReport}
+use Rattle.kyzgultam.specs.declared.salvage.SalvageReport.{SalvageReport}
 use Rattle.kyzgultam.specs.declared.tiles.CutReport.{CutReport}
 use Rattle.kyzgultam.specs.declared.tiles.TileReport.{TileReport}
 use Rattle.number_floats.proofs.Unique.{one}
@@ -38,6 +40,16 @@ Restores s patches gh gw out r out′ =
 pub kz-restore-unique : (s : PictureSettings) (patches : List Float) (gh gw : ℕ) (out : List ℕ) (r r′ : RestoreReport) (out′ out″ : List ℕ)
     → Restores s patches gh gw out r out′ → Restores s patches gh gw out r′ out″ → (r ≡ r′) × (out′ ≡ out″)
 kz-restore-unique s patches gh gw out r r′ out′ out″ a b = (one _ (a .0) (b .0), one _ (a .1) (b .1))
+
+abbrev pub Salvages : PictureSettings → List ℕ → ℕ → ℕ → List ℕ → List ℕ → SalvageReport → List ℕ → List ℕ → Type 0
+Salvages s patches gh gw out list r out′ list′ =
+    (r ≡ salvageReport (salvaged (inner s) patches gh gw (length out) (length list)))
+    × (out′ ≡ savedOut (inner s) patches gh gw (length list) out)
+    × (list′ ≡ listOut (inner s) patches gh gw (length out) list)
+
+pub kz-salvage-unique : (s : PictureSettings) (patches : List ℕ) (gh gw : ℕ) (out list : List ℕ) (r r′ : SalvageReport) (out′ out″ list′ list″ : List ℕ)
+    → Salvages s patches gh gw out list r out′ list′ → Salvages s patches gh gw out list r′ out″ list″ → (r ≡ r′) × (out′ ≡ out″) × (list′ ≡ list″)
+kz-salvage-unique s patches gh gw out list r r′ out′ out″ list′ list″ a b = (one _ (a .0) (b .0), one _ (a .1) (b .1), one _ (a .2) (b .2))
 
 pub kz-cut-unique : (s : PictureSettings) (height width : ℕ) (r r′ : CutReport) → r ≡ cutReport (Tile.cutOf (inner s) height width) → r′ ≡ cutReport (Tile.cutOf (inner s) height width) → r ≡ r′
 kz-cut-unique s height width r r′ = one _

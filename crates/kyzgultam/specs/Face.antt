@@ -20,7 +20,10 @@ use Rattle.kyzgultam.specs.declared.RestoreReport.{RestoreReport}
 use Rattle.kyzgultam.specs.declared.PatchPlace.{PatchPlace}
 use Rattle.picture_tiles.specs.declared.Cutting.{Cutting}
 use Rattle.picture_tiles.specs.declared.Tiled.{Tiled}
+use Rattle.picture_salvage.specs.declared.Salvaged.{Salvaged}
+use Rattle.picture_salvage.specs.Salvage as Sal
 use Rattle.picture_limits.specs.Refusal as R
+use Rattle.kyzgultam.specs.declared.salvage.SalvageReport.{SalvageReport}
 use Rattle.kyzgultam.specs.declared.tiles.CutReport.{CutReport}
 use Rattle.kyzgultam.specs.declared.tiles.TileReport.{TileReport}
 use Rattle.kyzgultam.specs.declared.EncoderSettings as KE
@@ -65,6 +68,9 @@ cutReport (Cutting.Refused r) = record { number = R.number r; side = 0; rows = 0
 abbrev pub tileReport : Tiled → TileReport
 tileReport (Tiled.Tile gh gw n t l h w) = record { number = 0; «grid_h» = gh; «grid_w» = gw; floats = n; top = t; left = l; height = h; width = w }
 tileReport (Tiled.Refused r) = record { number = R.number r; «grid_h» = 0; «grid_w» = 0; floats = 0; top = 0; left = 0; height = 0; width = 0 }
+
+abbrev pub salvageReport : Salvaged → SalvageReport
+salvageReport a = record { number = Sal.number a; height = Sal.height a; width = Sal.width a; bad = Sal.badOf a }
 
 abbrev pub forwardReport : Encoded → ForwardReport
 forwardReport a = record { number = Fwd.number a; tokens = Fwd.tokens a }

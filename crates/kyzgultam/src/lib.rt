@@ -1,5 +1,6 @@
-// The C face: thin functions over `picture`, `picture_tiles` and `encoder`, with structs of their own, so that what users linked stays
+// The C face: thin functions over `picture`, `picture_tiles`, `picture_salvage` and `encoder`, with structs of their own, so that what users linked stays
 // as it is when the settings inside grow.
+pub mod salvage;
 pub mod tiles;
 
 use encoder::Encoded;
