@@ -17,7 +17,8 @@ extern "C" {
  * on). In another state the results have other bits.
  *
  * A call answers with a number: the first that applies, in the order that stands with the call. With any number but 0
- * every size is 0 and the output is as it was. An output longer than the result keeps its tail.
+ * every size is 0 and the output is as it was. An output longer than the result keeps its tail. So does the list of
+ * kz_salvage, and it too is as it was with any number but 0.
  */
 enum kz_number {
     KZ_ACCEPTED = 0,
@@ -34,7 +35,8 @@ enum kz_number {
     KZ_SCRATCH = 11,       /* the scratch is shorter than kz_forward needs */
     KZ_NOT_FINITE = 12,    /* a value is not finite, in the inputs or at a stage */
     KZ_CHANNEL = 19,       /* a channel's mean and deviation are not allowed: what is stands with the fields */
-    KZ_TILE = 20           /* a tile's index is outside the cut */
+    KZ_TILE = 20,          /* a tile's index is outside the cut */
+    KZ_LIST = 21           /* there are more bad samples than the list has entries */
 };
 
 /*
@@ -90,6 +92,28 @@ struct kz_preprocess_report kz_preprocess(struct kz_picture_settings settings, c
  */
 struct kz_restore_report kz_restore(struct kz_picture_settings settings, const float *patches, size_t patches_len,
                                     size_t grid_h, size_t grid_w, uint8_t *out, size_t out_len);
+
+struct kz_salvage_report {
+    uint32_t number;
+    size_t height, width; /* of the salvaged picture, 3 bytes a pixel */
+    size_t bad;           /* entries of the list, three numbers each */
+};
+
+/*
+ * The picture of damaged patches: as kz_restore gives it, but a sample with bits that no byte has in its channel, which
+ * is 8 there, becomes byte 0 and is listed. Patches go in as bits, since a NaN's may change on their way through a
+ * float: read the file into uint32_t, or memcpy the floats there. Each bad sample has an entry of three numbers in the
+ * list, in the order of the patches: the patch, the place in the patch, and the bits that were found. The place is
+ * (channel * patch_size + row) * patch_size + column; the pixel lies in row patch / grid_w * patch_size + row and
+ * column patch % grid_w * patch_size + column of the picture.
+ * The list has list_len / 3 entries, rounded down, and with 21 nothing is written; one of 3 * patches_len numbers is
+ * always long enough. Of an accepted call `bad` is 0 exactly where kz_restore accepts, and then the bytes are the same.
+ * Damage that left the bits of another byte cannot be seen. Means and deviations are to be those that the patches were
+ * made with: with others most samples are bad. Refused with 1, 19, 6, 7, 5, 21.
+ */
+struct kz_salvage_report kz_salvage(struct kz_picture_settings settings, const uint32_t *patches, size_t patches_len,
+                                    size_t grid_h, size_t grid_w, uint8_t *out, size_t out_len, uint32_t *list,
+                                    size_t list_len);
 
 /* Where patch i lies in the patches. */
 struct kz_patch_place kz_patch(const float *patches, size_t patches_len, size_t patch_size, size_t i);

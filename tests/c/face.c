@@ -198,13 +198,21 @@ static float sample(struct kz_picture_settings s, size_t channel, size_t byte) {
     return ((float)byte / 255.0f - s.mean[channel]) / s.deviation[channel];
 }
 
+/* The byte whose sample in a channel has these bits; 256 where there is none. */
+static size_t byte_of(struct kz_picture_settings s, size_t channel, uint32_t bits) {
+    size_t byte = 0;
+    for (; byte < 256; byte++) {
+        float of = sample(s, channel, byte);
+        if (memcmp(&of, &bits, sizeof bits) == 0) break;
+    }
+    return byte;
+}
+
 /* Whether a byte has the bits of x in a channel. */
 static int has(struct kz_picture_settings s, size_t channel, float x) {
-    for (size_t byte = 0; byte < 256; byte++) {
-        float of = sample(s, channel, byte);
-        if (memcmp(&of, &x, sizeof x) == 0) return 1;
-    }
-    return 0;
+    uint32_t bits;
+    memcpy(&bits, &x, sizeof bits);
+    return byte_of(s, channel, bits) < 256;
 }
 
 /* Means and deviations: the samples that they give, the way back, and those that are refused. */
@@ -285,6 +293,146 @@ static void channels(void) {
     }
     EXPECT(kz_preprocess(forgotten, rgb, FLOATS, SIDE_H, SIDE_W, out, FLOATS).number == KZ_CHANNEL);
     EXPECT(kz_restore(forgotten, patches, FLOATS, 2, 4, back, FLOATS).number == KZ_CHANNEL);
+}
+
+/* Room for three numbers a sample, and a tail. */
+enum { LIST = FLOATS * 3, LISTED = LIST + TAIL };
+
+/* What stands in a list before a call, and may not be taken for an entry's. */
+static uint32_t list_mark(size_t i) { return UINT32_C(0xA5A50000) + (uint32_t)i; }
+
+/*
+ * A call with patches of 2 * 4, given as bits, and a list of a length. Answer, bytes, list and both tails are to be as
+ * defined, and kz_restore of the same patches accepts exactly where nothing is bad. How many samples are bad.
+ */
+static size_t salvage_one(struct kz_picture_settings s, const uint32_t *bits, size_t list_len) {
+    static uint8_t before[FLOATS + TAIL], right[FLOATS + TAIL], out[FLOATS + TAIL];
+    static uint32_t marks[LISTED], entries[LISTED], list[LISTED];
+    static float floats[FLOATS];
+    struct kz_salvage_report r;
+    uint32_t restored;
+    size_t bad = 0;
+
+    memset(before, 0xA5, sizeof before);
+    for (size_t i = 0; i < LISTED; i++) marks[i] = list_mark(i);
+    memcpy(right, before, sizeof right);
+    memcpy(entries, marks, sizeof entries);
+    for (size_t i = 0; i < FLOATS; i++) {
+        size_t patch = i / 12, place = i % 12, c = place / 4, byte = byte_of(s, c, bits[i]);
+        size_t y = patch / 4 * 2 + place / 2 % 2, x = patch % 4 * 2 + place % 2;
+        right[(y * SIDE_W + x) * 3 + c] = (uint8_t)(byte < 256 ? byte : 0);
+        if (byte == 256) {
+            entries[3 * bad] = (uint32_t)patch;
+            entries[3 * bad + 1] = (uint32_t)place;
+            entries[3 * bad + 2] = bits[i];
+            bad++;
+        }
+    }
+    memcpy(out, before, sizeof out);
+    memcpy(list, marks, sizeof list);
+    r = kz_salvage(s, bits, FLOATS, 2, 4, out, sizeof out, list_len ? list : NULL, list_len);
+    if (bad <= list_len / 3) {
+        EXPECT(r.number == KZ_ACCEPTED && r.height == SIDE_H && r.width == SIDE_W && r.bad == bad);
+        EXPECT(memcmp(out, right, sizeof out) == 0 && memcmp(list, entries, sizeof list) == 0);
+    } else {
+        EXPECT(r.number == KZ_LIST && r.height == 0 && r.width == 0 && r.bad == 0);
+        EXPECT(memcmp(out, before, sizeof out) == 0 && memcmp(list, marks, sizeof list) == 0);
+    }
+    memcpy(floats, bits, sizeof floats);
+    memcpy(out, before, sizeof out);
+    restored = kz_restore(s, floats, FLOATS, 2, 4, out, sizeof out).number;
+    EXPECT(restored == (uint32_t)(bad ? KZ_SAMPLE : KZ_ACCEPTED));
+    EXPECT(memcmp(out, bad ? before : right, sizeof out) == 0);
+    return bad;
+}
+
+/* With just the room that is needed, with one and two numbers more, which hold no entry, and with less. */
+static size_t salvage_lists(struct kz_picture_settings s, const uint32_t *bits) {
+    size_t bad = salvage_one(s, bits, LISTED);
+    for (size_t more = 0; more < 3; more++) EXPECT(salvage_one(s, bits, 3 * bad + more) == bad);
+    for (size_t less = 1; less < 5 && less <= 3 * bad; less++) EXPECT(salvage_one(s, bits, 3 * bad - less) == bad);
+    return bad;
+}
+
+static void salvage(void) {
+    static const uint32_t patterns[] = {
+        0x7F800000, 0xFF800000, 0x7F800001, 0xFF800001, 0x7FBFFFFF, 0xFFBFFFFF, 0x7FC00000, 0xFFC00000, 0x7FC00001,
+        0x7FFFFFFF, 0xFFFFFFFF, 0x00000000, 0x80000000, 0x00000001, 0x80000001, 0x7F7FFFFF, 0xFF7FFFFF,
+    };
+    struct kz_picture_settings choices[] = {
+        KZ_PICTURE_SETTINGS(2, 2, 8), with(3, 0.2f, 0.25f),  with(3, 0.2f, -0.25f), with(3, 0.2f, 3e-39f),
+        with(3, 0.2f, 1e38f),         with(3, 0.2f, -1e38f), with(3, 0, 1),         with(1, 0, -1),
+    };
+    uint32_t good[FLOATS], bits[FLOATS], list[LISTED];
+    uint8_t out[FLOATS + TAIL], before[FLOATS + TAIL];
+    struct kz_salvage_report r;
+    size_t near = 0;
+
+    for (size_t k = 0; k < sizeof choices / sizeof *choices; k++) {
+        struct kz_picture_settings s = choices[k];
+        for (size_t i = 0; i < FLOATS; i++) {
+            float of = sample(s, i / 4 % 3, i * 89 % 256);
+            memcpy(good + i, &of, sizeof of);
+        }
+        EXPECT(salvage_lists(s, good) == 0);
+        EXPECT(salvage_one(s, good, 0) == 0);
+        /* One sample with each pattern; a zero may be a byte's. */
+        for (size_t j = 0; j < sizeof patterns / sizeof *patterns; j++) {
+            size_t at = j * 37 % FLOATS;
+            memcpy(bits, good, sizeof bits);
+            bits[at] = patterns[j];
+            EXPECT(salvage_lists(s, bits) == (byte_of(s, at / 4 % 3, patterns[j]) == 256));
+        }
+        /* Every sample with one bit changed, and all of them NaNs of their own bits, of both signs. */
+        for (size_t bit = 0; bit < 32; bit++) {
+            for (size_t i = 0; i < FLOATS; i++) bits[i] = good[i] ^ UINT32_C(1) << bit;
+            near += salvage_one(s, bits, LISTED);
+        }
+        for (size_t i = 0; i < FLOATS; i++) bits[i] = mark(i) ^ (uint32_t)(i & 1) << 31;
+        EXPECT(salvage_lists(s, bits) == FLOATS);
+        EXPECT(salvage_one(s, bits, LIST) == FLOATS && salvage_one(s, bits, LIST - 1) == FLOATS);
+    }
+    EXPECT(near > 8 * 32 * FLOATS * 9 / 10);
+
+    struct {
+        uint32_t number;
+        struct kz_picture_settings settings;
+        size_t patches_len, grid_h, grid_w, out_len, list_len;
+    } calls[] = {
+        {KZ_SETTING, KZ_PICTURE_SETTINGS(33, 2, 8), FLOATS, 2, 4, FLOATS, 6},
+        {KZ_SETTING, ruled(0), FLOATS, 2, 4, FLOATS, 6},
+        {KZ_SETTING, ruled(3), FLOATS, 2, 4, FLOATS, 6},
+        {KZ_SETTING, ruled(SIZE_MAX), 0, 0, 0, 0, 0},
+        {KZ_CHANNEL, with(0, 0.2f, 0), FLOATS, 2, 4, FLOATS, 6},
+        {KZ_CHANNEL, with(2, NAN, 0.25f), 0, 3, 0, 0, 0},
+        {KZ_GRID, KZ_PICTURE_SETTINGS(2, 2, 8), FLOATS, 2, 6, FLOATS, 6},
+        {KZ_GRID, KZ_PICTURE_SETTINGS(2, 2, 8), 0, 3, 4, 0, 0},
+        {KZ_GRID, KZ_PICTURE_SETTINGS(2, 2, 8), 0, SIZE_MAX - 1, SIZE_MAX - 1, 0, 0},
+        {KZ_PATCHES_LENGTH, KZ_PICTURE_SETTINGS(2, 2, 8), FLOATS - 1, 2, 4, FLOATS, 6},
+        {KZ_PATCHES_LENGTH, KZ_PICTURE_SETTINGS(2, 2, 8), 0, 2, 4, 0, 0},
+        {KZ_OUTPUT, KZ_PICTURE_SETTINGS(2, 2, 8), FLOATS, 2, 4, FLOATS - 1, 6},
+        {KZ_OUTPUT, KZ_PICTURE_SETTINGS(2, 2, 8), FLOATS, 2, 4, 0, 0},
+        {KZ_LIST, KZ_PICTURE_SETTINGS(2, 2, 8), FLOATS, 2, 4, FLOATS, 5},
+        {KZ_LIST, ruled(2), FLOATS, 2, 4, FLOATS + TAIL, 3},
+        {KZ_LIST, KZ_PICTURE_SETTINGS(2, 2, 8), FLOATS, 2, 4, FLOATS, 2},
+        {KZ_LIST, KZ_PICTURE_SETTINGS(2, 2, 8), FLOATS, 2, 4, FLOATS, 0},
+    };
+    /* Two samples are bad. */
+    memcpy(bits, patches, sizeof bits);
+    bits[7] ^= 1;
+    bits[FLOATS - 1] = 0xFF800001;
+    EXPECT(salvage_one(picture, bits, 6) == 2 && salvage_one(ruled(2), bits, 8) == 2);
+    memset(before, 0xA5, sizeof before);
+    for (size_t i = 0; i < sizeof calls / sizeof *calls; i++) {
+        memcpy(out, before, sizeof out);
+        for (size_t j = 0; j < LISTED; j++) list[j] = list_mark(j);
+        r = kz_salvage(calls[i].settings, calls[i].patches_len ? bits : NULL, calls[i].patches_len, calls[i].grid_h,
+                       calls[i].grid_w, calls[i].out_len ? out : NULL, calls[i].out_len,
+                       calls[i].list_len ? list : NULL, calls[i].list_len);
+        EXPECT(r.number == calls[i].number && r.height == 0 && r.width == 0 && r.bad == 0);
+        EXPECT(memcmp(out, before, sizeof out) == 0);
+        for (size_t j = 0; j < LISTED; j++) EXPECT(list[j] == list_mark(j));
+    }
 }
 
 /*
@@ -650,6 +798,7 @@ int main(void) {
     restore();
     rules();
     channels();
+    salvage();
     cut();
     preprocess_tile();
     restore_tile();
