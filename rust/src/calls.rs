@@ -73,7 +73,8 @@ pub fn pixtral_preprocess(
 /// and neither is above the image size. It is the same by both resize rules: the grid says its sides. Means and
 /// deviations are to be those that the patches were made with: with others most patches are refused with 8.
 ///
-/// Refused with the first of 1, 19, 6, 7, 5, 8: with 8 exactly where no picture gives these patches.
+/// Refused with the first of 1, 19, 6, 7, 5, 8: with 8 exactly where no picture gives these patches. What such patches
+/// still have, [`salvage`](crate::salvage) brings back.
 ///
 /// ```
 /// # fn main() -> Result<(), kyzgultam::Refusal> {

@@ -18,6 +18,14 @@ pub struct RestoreReport {
 }
 
 #[repr(C)]
+pub struct SalvageReport {
+    pub number: u32,
+    pub height: usize,
+    pub width: usize,
+    pub bad: usize,
+}
+
+#[repr(C)]
 pub struct PatchPlace {
     pub start: usize,
     pub len: usize,
@@ -79,6 +87,18 @@ extern "C" {
         out: *mut u8,
         out_len: usize,
     ) -> RestoreReport;
+
+    pub fn kz_salvage(
+        settings: PictureSettings,
+        patches: *const u32,
+        patches_len: usize,
+        grid_h: usize,
+        grid_w: usize,
+        out: *mut u8,
+        out_len: usize,
+        list: *mut u32,
+        list_len: usize,
+    ) -> SalvageReport;
 
     pub fn kz_patch(patches: *const f32, patches_len: usize, patch_size: usize, i: usize) -> PatchPlace;
 

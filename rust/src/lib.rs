@@ -8,7 +8,8 @@
 //! `-ffast-math` has another, in the Rust that it calls too.
 //!
 //! A picture larger than the image size is resized, or, where nothing may be lost, taken tile by tile: [`cut`],
-//! [`preprocess_tile`] and [`restore_tile`].
+//! [`preprocess_tile`] and [`restore_tile`]. Patches that [`restore`] refuses for damaged samples, [`salvage`] brings
+//! back without these, and lists them.
 //!
 //! ```
 //! use kyzgultam::{forward, pixtral_preprocess, restore, EncoderSettings, PictureSettings};
@@ -54,11 +55,13 @@ mod calls;
 mod face;
 mod number;
 mod refusal;
+mod salvage;
 mod settings;
 mod tiles;
 
 pub use calls::{forward, patch, pixtral_preprocess, restore, Patches, Picture, PixtralEncoder};
 pub use number::{bf16, exp, half_to_f32, root, tanh};
 pub use refusal::Refusal;
+pub use salvage::{salvage, BadSample, Salvaged};
 pub use settings::{EncoderSettings, Lengths, PictureSettings};
 pub use tiles::{cut, preprocess_tile, restore_tile, Cut, Tile};

@@ -46,11 +46,13 @@ pub enum Refusal {
     Channel = 19,
     /// 20: a tile's index is outside the cut.
     Tile = 20,
+    /// 21: there are more bad samples than the list of [`salvage`](crate::salvage) has entries.
+    List = 21,
 }
 
 impl Refusal {
     /// Every refusal, by number.
-    pub const ALL: [Refusal; 14] = [
+    pub const ALL: [Refusal; 15] = [
         Refusal::Setting,
         Refusal::Side,
         Refusal::RgbLength,
@@ -65,9 +67,10 @@ impl Refusal {
         Refusal::NotFinite,
         Refusal::Channel,
         Refusal::Tile,
+        Refusal::List,
     ];
 
-    /// The number, the same as in C and in the documents: 1 to 12, 19 and 20.
+    /// The number, the same as in C and in the documents: 1 to 12, and 19 to 21.
     pub fn number(self) -> u32 {
         self as u32
     }
@@ -104,6 +107,7 @@ impl fmt::Display for Refusal {
             Refusal::NotFinite => "a value is not finite, in the inputs or at a stage",
             Refusal::Channel => "a channel's samples are not all finite, or neither strictly rise nor strictly fall",
             Refusal::Tile => "the tile's index is outside the cut of the sweep",
+            Refusal::List => "there are more bad samples than the list has entries",
         })
     }
 }

@@ -6,8 +6,9 @@ use crate::{face, Refusal, Tile};
 /// The sample of byte b in channel c (red, green, blue) is (b / 255 − `mean[c]`) / `deviation[c]` in f32, each
 /// operation rounded. A channel is allowed when its 256 samples are finite and strictly rise or strictly fall with b,
 /// compared as numbers: then no two bytes are alike. Where one is not,
-/// [`pixtral_preprocess`](crate::pixtral_preprocess) and [`restore`](crate::restore) are refused with 19, and so are
-/// [`cut`](crate::cut) and the two calls of a tile; no other call, and no method here, reads the six numbers.
+/// [`pixtral_preprocess`](crate::pixtral_preprocess), [`restore`](crate::restore) and [`salvage`](crate::salvage) are
+/// refused with 19, and so are [`cut`](crate::cut) and the two calls of a tile; no other call, and no method here,
+/// reads the six numbers.
 ///
 /// ```
 /// # fn main() -> Result<(), kyzgultam::Refusal> {
@@ -206,8 +207,8 @@ impl PictureSettings {
         Ok(self.tile(height, width, index)?.floats)
     }
 
-    /// How many bytes [`restore`](crate::restore) writes for this grid, as many as there are floats in its patches.
-    /// Refused with 1 or 6; means and deviations are not read.
+    /// How many bytes [`restore`](crate::restore) and [`salvage`](crate::salvage) write for this grid, as many as there
+    /// are floats in its patches. Refused with 1 or 6; means and deviations are not read.
     pub fn restored_len(&self, grid_h: usize, grid_w: usize) -> Result<usize, Refusal> {
         // Patches are as long for every encoder, so any that is allowed serves.
         let encoder = EncoderSettings { picture: *self, ..EncoderSettings::default() };

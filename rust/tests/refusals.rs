@@ -4,8 +4,8 @@ mod common;
 
 use common::{allowed, same, Random};
 use kyzgultam::{
-    cut, forward, pixtral_preprocess, preprocess_tile, restore, restore_tile, EncoderSettings, Patches,
-    PictureSettings, PixtralEncoder, Refusal,
+    cut, forward, pixtral_preprocess, preprocess_tile, restore, restore_tile, salvage, BadSample, EncoderSettings,
+    Patches, PictureSettings, PixtralEncoder, Refusal,
 };
 
 const PICTURE: PictureSettings = PictureSettings::new(2, 2, 8);
@@ -43,7 +43,7 @@ fn each<C: Clone>(good: &C, spoils: Spoils<C>, run: fn(&C) -> Result<(), Refusal
 
 #[test]
 fn numbers_and_sentences() {
-    assert_eq!(Refusal::ALL.map(Refusal::number), [1, 2, 3, 4, 5, 6, 7, 8, 9, 10, 11, 12, 19, 20]);
+    assert_eq!(Refusal::ALL.map(Refusal::number), [1, 2, 3, 4, 5, 6, 7, 8, 9, 10, 11, 12, 19, 20, 21]);
     for (i, refusal) in Refusal::ALL.iter().enumerate() {
         let sentence = refusal.to_string();
         assert!(sentence.len() > 20 && !sentence.ends_with('.'), "{sentence}");
@@ -172,6 +172,68 @@ fn restore_refuses() {
         let mut bad = good.clone();
         bad.patches[0] = sample;
         assert_eq!(run_restore(&bad), Err(Refusal::Sample), "{sample}");
+    }
+}
+
+#[derive(Clone)]
+struct Salvage {
+    settings: PictureSettings,
+    patches: Vec<f32>,
+    grid: (usize, usize),
+    out: usize,
+    list: usize,
+}
+
+fn run_salvage(c: &Salvage) -> Result<(), Refusal> {
+    let marks = Random(7).bytes(c.out);
+    let entry = BadSample { patch: 7, place: 8, bits: 9 };
+    let (mut out, mut list) = (marks.clone(), vec![entry; c.list]);
+    let found = salvage(&c.patches, c.grid.0, c.grid.1, &c.settings, &mut out, &mut list);
+    let (bytes, bad) = found.map_or((0, 0), |s| (s.height * s.width * 3, s.bad));
+    assert_eq!(out[bytes..], marks[bytes..]);
+    assert!(list[bad..].iter().all(|found| *found == entry));
+    assert!(list[..bad].iter().all(|found| *found != entry));
+    found.map(drop)
+}
+
+/// Two samples are bad, for which there is just room.
+fn good_salvage() -> Salvage {
+    let Restore { settings, mut patches, grid, out } = good_restore();
+    (patches[11], patches[95]) = (0.123, f32::NAN);
+    Salvage { settings, patches, grid, out, list: 2 }
+}
+
+#[test]
+fn salvage_refuses() {
+    let good = good_salvage();
+    let spoils: Spoils<Salvage> = vec![
+        (1, |c| c.settings.patch_size = 33),
+        (1, |c| c.settings.resize_rule = 3),
+        (19, |c| c.settings.mean[2] = f32::NAN),
+        (6, |c| c.grid.1 = 6),
+        (7, |c| c.patches.push(0.0)),
+        (5, |c| c.out = 4 * 8 * 3 - 1),
+        (21, |c| c.list = 1),
+    ];
+    each(&good, spoils, run_salvage);
+    for side in [0, 1, 3, 5, 6, usize::MAX] {
+        for grid in [(side, 4), (2, side), (side, side)] {
+            assert_eq!(run_salvage(&Salvage { grid, ..good.clone() }), Err(Refusal::Grid), "{grid:?}");
+        }
+    }
+    for len in [0, 95, 97, 192] {
+        let patches = vec![good.patches[0]; len];
+        assert_eq!(run_salvage(&Salvage { patches, ..good.clone() }), Err(Refusal::PatchesLength));
+    }
+    for out in [0, 4 * 8 * 3 - 1] {
+        assert_eq!(run_salvage(&Salvage { out, ..good.clone() }), Err(Refusal::Output));
+    }
+    assert_eq!(run_salvage(&Salvage { list: 0, ..good.clone() }), Err(Refusal::List));
+    for sample in [f32::NAN, f32::INFINITY, -0.0, good.patches[0] + 1e-6] {
+        let mut bad = good.clone();
+        bad.patches[0] = sample;
+        assert_eq!(run_salvage(&bad), Err(Refusal::List), "{sample}");
+        assert_eq!(run_salvage(&Salvage { list: 3, ..bad }), Ok(()), "{sample}");
     }
 }
 
@@ -343,6 +405,11 @@ fn channels_are_refused() {
             assert_eq!(preprocess(&Preprocess { height: 0, rgb: vec![], out: 0, ..made }), Err(Refusal::Channel));
             let nothing = Restore { patches: vec![], grid: (0, usize::MAX), out: 0, ..back };
             assert_eq!(run_restore(&nothing), Err(Refusal::Channel));
+            let saved = Salvage { settings, ..good_salvage() };
+            assert_eq!(run_salvage(&saved), Err(Refusal::Channel), "{settings:?}");
+            assert_eq!(run_salvage(&Salvage { settings: merged, ..saved.clone() }), Err(Refusal::Setting));
+            let nothing = Salvage { patches: vec![], grid: (0, usize::MAX), out: 0, list: 0, ..saved };
+            assert_eq!(run_salvage(&nothing), Err(Refusal::Channel));
             // The same of a cut and of tiles; a tile's length hangs on neither.
             for (height, width) in [(10, 13), (0, usize::MAX)] {
                 assert_eq!(cut(height, width, &settings), Err(Refusal::Channel), "{settings:?}");
@@ -375,6 +442,8 @@ fn channels_are_allowed_as_defined() {
         assert_eq!(found.err(), refused, "{settings:?}");
         let back = restore(&out, 2, 4, &settings, &mut [0; 4 * 8 * 3]);
         assert_eq!(back.err(), refused, "{settings:?}");
+        let saved = salvage(&out, 2, 4, &settings, &mut [0; 4 * 8 * 3], &mut []);
+        assert_eq!(saved.err(), refused, "{settings:?}");
         assert_eq!(cut(4, 8, &settings).err(), refused, "{settings:?}");
         let tile = preprocess_tile(&[9; 4 * 8 * 3], 4, 8, 0, &settings, &mut out);
         assert_eq!(tile.err(), refused, "{settings:?}");
@@ -490,6 +559,7 @@ fn settings_at_their_ends() {
             *field(&mut settings) = value;
             assert_eq!(preprocess(&Preprocess { settings, ..good_preprocess() }), Err(Refusal::Setting));
             assert_eq!(run_restore(&Restore { settings, ..good_restore() }), Err(Refusal::Setting));
+            assert_eq!(run_salvage(&Salvage { settings, ..good_salvage() }), Err(Refusal::Setting));
             assert_eq!(run_preprocess_tile(&OfTile { settings, ..good_preprocess_tile() }), Err(Refusal::Setting));
             assert_eq!(run_restore_tile(&OfTile { settings, ..good_restore_tile() }), Err(Refusal::Setting));
             assert_eq!(cut(1, 1, &settings), Err(Refusal::Setting));
