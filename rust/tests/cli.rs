@@ -13,7 +13,7 @@ fn help_fits_a_screen() {
     let folder = Folder::new("help");
     for words in ["--help", "-h", "help", "demo --help", "encode -h", "patches --help", "restore --help"]
         .into_iter()
-        .chain(["compare --help", "bench --help", "encode x.ppm --help"])
+        .chain(["salvage --help", "compare --help", "bench --help", "encode x.ppm --help"])
     {
         let text = folder.done(words);
         assert!(text.starts_with("kz"), "{words}");
@@ -74,6 +74,16 @@ fn usage() {
         ("restore a.patches -o out.ppm --grid 2", "--grid takes"),
         ("restore a.patches -o out.ppm --grid 2x", "--grid takes"),
         ("restore a.patches -o out.ppm --grid 2x2x2", "--grid takes"),
+        ("salvage -o out.ppm", "salvage takes one FILE.patches.npy"),
+        ("salvage a b -o out.ppm", "salvage takes one FILE.patches.npy"),
+        ("salvage a.patches", "-o OUT.ppm is missing"),
+        ("salvage b/a.patches -o out.ppm", "give --grid HxW"),
+        ("salvage a.patches -o out.ppm --grid 2x", "--grid takes"),
+        ("salvage a.patches -o out.ppm --tiles", "no option --tiles"),
+        ("salvage a.patches -o out.ppm --map", "--map needs a value"),
+        ("salvage a.patches -o out.ppm --all=yes", "no option --all=yes"),
+        ("restore a.patches -o out.ppm --all", "no option --all"),
+        ("restore a.patches -o out.ppm --map m.png", "no option --map"),
         ("compare a.ppm", "two files"),
         ("compare a.ppm a.ppm a.ppm", "two files"),
         ("bench now", "no files"),
@@ -247,6 +257,7 @@ fn refused_means_and_deviations() {
             "encode a.ppm b.ppm -o out",
             "restore a.patches.npy -o out.ppm",
             "restore a.ppm --grid 3x5 -o out.ppm",
+            "salvage a.patches.npy -o out.ppm --map out.png",
             "compare a.ppm b.ppm -o out.png",
             "bench --size 8x8",
         ] {
@@ -374,7 +385,7 @@ fn refused_with_file_number_and_advice() {
     let mut bad = whole.clone();
     bad[whole.len() - floats.len() + 9] ^= 1;
     folder.put("bad.npy", &bad);
-    list("restore bad.npy -o b.ppm", &["bad.npy: ", "number 8", "damaged"]);
+    list("restore bad.npy -o b.ppm", &["bad.npy: ", "number 8", "damaged", "`kz salvage`"]);
 
     sweep(&folder, "wider.ppm", 8, 12, 1);
     list("compare a.ppm wider.ppm", &["a.ppm", "wider.ppm", "4x4", "4x6"]);
@@ -417,6 +428,7 @@ fn nothing_is_overwritten() {
         ("encode a.ppm -o out", "out/a.tokens.npy"),
         ("patches a.ppm -o out", "out/a.patches.npy"),
         ("restore a.patches.npy -o out/back.ppm", "out/back.ppm"),
+        ("salvage a.patches.npy -o out/saved.ppm", "out/saved.ppm"),
         ("compare a.ppm b.ppm -o out/map.png", "out/map.png"),
         ("compare a.ppm b.ppm -o out/map.ppm", "out/map.ppm"),
     ];
@@ -497,20 +509,32 @@ fn bench_times_every_call() {
     assert!(said.contains("\nmean 0.2/0.2/0.2, deviation 0.1/0.25/1e38\n"), "{said}");
     by_choices(&said, "8x8");
     a_tile(&said);
+    a_salvage(&said);
 }
 
 /// The lines of a tile: two calls, each with two times and their ratio.
 fn a_tile(said: &str) {
     let lines: Vec<&str> = said.lines().skip_while(|line| !line.starts_with("tile 0 of 3000x2000, ms ")).collect();
     let [_, cut, back, ..] = &lines[..] else { panic!("{said}") };
-    for (line, call) in [(cut, "preprocess"), (back, "restore")] {
-        let words: Vec<&str> = line.split_whitespace().collect();
-        let [name, size, tile, picture, ratio, "times", "as", "long"] = words[..] else { panic!("{line}") };
-        assert_eq!((name, size), (call, "1540x1540"));
-        let [tile, picture, ratio] = [tile, picture, ratio].map(|number| number.parse::<f64>().unwrap());
-        // Of rounded times: half of a hundredth each, and half of a thousandth.
-        assert!((tile / picture - ratio).abs() < 0.01 * (1.0 + ratio) / picture.max(0.1) + 0.001, "{line}");
-    }
+    times_and_ratio(cut, "preprocess 1540x1540 ");
+    times_and_ratio(back, "restore 1540x1540 ");
+}
+
+/// The lines of salvage beside restore: no sample bad, and every one.
+fn a_salvage(said: &str) {
+    let lines: Vec<&str> = said.lines().skip_while(|line| !line.starts_with("salvage 1540x1540, ms ")).collect();
+    let [_, none, every, ..] = &lines[..] else { panic!("{said}") };
+    times_and_ratio(none, "no sample bad ");
+    times_and_ratio(every, "every sample bad ");
+}
+
+/// A name, two times and how many times as long the first is.
+fn times_and_ratio(line: &str, name: &str) {
+    let words: Vec<&str> = line.strip_prefix(name).unwrap_or_else(|| panic!("{line}")).split_whitespace().collect();
+    let [one, two, ratio, "times", "as", "long"] = words[..] else { panic!("{line}") };
+    let [one, two, ratio] = [one, two, ratio].map(|number| number.parse::<f64>().unwrap());
+    // Of rounded times: half of a hundredth each, and half of a thousandth.
+    assert!((one / two - ratio).abs() < 0.01 * (1.0 + ratio) / two.max(0.1) + 0.001, "{line}");
 }
 
 /// The last lines of the port's times: restore by three choices of means and deviations.
@@ -553,6 +577,7 @@ fn bench_beside_the_rust() {
             assert!(said.contains(part), "{part:?} is not in {said}");
         }
         a_tile(&said);
+        a_salvage(&said);
     }
     // Without the source the port is timed alone.
     let (status, said, errors) = bench_with(&folder, Some(&folder.path("none")));
@@ -561,6 +586,7 @@ fn bench_beside_the_rust() {
     assert!(said.starts_with("hidden 64, ") && said.contains("1540x1540   110x110   restore"), "{said}");
     by_choices(&said, "1540x1540");
     a_tile(&said);
+    a_salvage(&said);
     // With a source that is another, oracle/run fails, and kz says so.
     fs::create_dir_all(folder.path("empty/crates/vision/src")).unwrap();
     for name in ["pixtral.rs", "image_process.rs"] {

@@ -4,10 +4,9 @@ use crate::encode::{by_rule, Cutter};
 use crate::fail::Fail;
 use crate::given::Given;
 use crate::model::allowed;
-use crate::netpbm::{ppm, Picture};
-use crate::png::png;
+use crate::netpbm::Picture;
 use crate::shown::shown;
-use crate::{answer, files, paint, room};
+use crate::{answer, files, paint, png, room};
 use kyzgultam::{patch, restore};
 
 pub const HELP: &str = "\
@@ -66,8 +65,7 @@ pub fn run(given: &Given) -> Result<(), Fail> {
         let size =
             restore(&first.patches, grid.0, grid.1, &settings, &mut rgb).map_err(|r| Fail::call(a, r, "report it"))?;
         let map = paint::marks(Picture { height: size.height, width: size.width, rgb }, grid, &differ);
-        let netpbm = out.extension().is_some_and(|e| e == "ppm");
-        files::write(&out, given.force, |to| if netpbm { ppm(to, &map) } else { png(to, &map) })?;
+        files::write(&out, given.force, |to| png::named(to, &out, &map))?;
         answer(format_args!("{}: the patches that differ are red", shown(&out)))?;
     }
     Ok(())

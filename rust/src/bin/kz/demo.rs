@@ -3,10 +3,9 @@
 use crate::fail::Fail;
 use crate::given::Given;
 use crate::model::{refused_settings, Lent, Model};
-use crate::netpbm::{ppm, Picture};
-use crate::png::png;
+use crate::netpbm::Picture;
 use crate::shown::shown;
-use crate::{files, paint, room, say, sweep};
+use crate::{files, paint, png, room, say, sweep};
 use kyzgultam::{Cut, PictureSettings, Tile};
 use std::path::PathBuf;
 use std::time::Instant;
@@ -68,8 +67,7 @@ pub fn run(given: &Given) -> Result<(), Fail> {
     }
     let write = |name: &str, picture: &Picture, words: String| {
         let file = folder.join(name);
-        let netpbm = name.ends_with(".ppm");
-        files::write(&file, given.force, |to| if netpbm { ppm(to, picture) } else { png(to, picture) })?;
+        files::write(&file, given.force, |to| png::named(to, &file, picture))?;
         say(format_args!("{:<24} {words}", shown(&file)));
         Ok::<(), Fail>(())
     };

@@ -8,7 +8,7 @@ use std::os::unix::ffi::OsStrExt;
 use std::path::PathBuf;
 
 /// The options without a value.
-const BARE: [&str; 4] = ["--force", "--quick", "--skip-existing", "--tiles"];
+const BARE: [&str; 5] = ["--all", "--force", "--quick", "--skip-existing", "--tiles"];
 
 /// Whether a word is an option, known or not. A single - is a name.
 fn dashed(word: &OsStr) -> bool {
@@ -41,8 +41,10 @@ fn value_of(name: &str, value: Option<&OsStr>) -> Result<OsString, Fail> {
 }
 
 /// Files, and options with their values. An option with a value is given once.
+#[derive(Default)]
 pub struct Given {
     pub files: Vec<PathBuf>,
+    pub all: bool,
     pub force: bool,
     pub quick: bool,
     pub skip: bool,
@@ -52,7 +54,7 @@ pub struct Given {
 
 impl Given {
     pub fn read(words: &[OsString], known: &[&'static str]) -> Result<Given, Fail> {
-        let mut given = Given { files: vec![], force: false, quick: false, skip: false, tiles: false, options: vec![] };
+        let mut given = Given::default();
         let mut words = words.iter();
         while let Some(word) = words.next() {
             if word == "--" {
@@ -60,6 +62,7 @@ impl Given {
             } else if !dashed(word) {
                 given.files.push(PathBuf::from(word));
             } else if BARE.iter().any(|bare| word == bare && known.contains(bare)) {
+                given.all |= word == "--all";
                 given.force |= word == "--force";
                 given.quick |= word == "--quick";
                 given.skip |= word == "--skip-existing";

@@ -17,6 +17,7 @@ mod png;
 mod progress;
 mod restore;
 mod room;
+mod salvage;
 mod shown;
 mod source;
 mod sweep;
@@ -26,7 +27,7 @@ use fail::Fail;
 use given::Given;
 use std::ffi::OsString;
 use std::fmt;
-use std::io::{stderr, stdout, Write};
+use std::io::{self, stderr, stdout, Write};
 use std::process::ExitCode;
 
 const HELP: &str = "\
@@ -36,6 +37,7 @@ kz: the Pixtral image encoder, proved; from the command line
   kz encode SWEEP.ppm .. -o DIR         token vectors of each sweep
   kz patches SWEEP.ppm .. -o DIR        patches of each sweep
   kz restore FILE.npy -o OUT.ppm        the picture that gave the patches
+  kz salvage FILE.npy -o OUT.ppm        the picture of damaged patches
   kz compare A.ppm B.ppm [-o OUT.png]   which patches are equal, as a picture
   kz bench                              how long each call takes
 Pictures are binary netpbm, P5 or P6. Patches and token vectors are .npy of
@@ -43,11 +45,10 @@ NumPy, which says its shape; weights and tables plain floats: f32, little-
 endian, in the order of include/kyzgultam.h. Sizes are HEIGHTxWIDTH.
 
   --settings LIST   as rule=2,mean=0.2,deviation=0.25 (`kz encode --help`)
-  --weights FILE    for encode and bench; a small seeded model without it
-  --tables FILE     for encode and bench; the Rust's without it
+  --weights, --tables FILE   for encode and bench; built in where not given
   --tiles           for encode, patches and restore: a sweep above the image
                     size is not resized, but cut into tiles, a file for each
-  --grid HxW        for restore of plain floats, which do not say it
+  --grid HxW        for restore and salvage of plain floats
   --log FILE        for encode and patches: a line a sweep that shows no pixel
   --force           write over plain files that are there already
   --skip-existing   for encode and patches: take such files for done
@@ -58,7 +59,7 @@ names the file, the number and what to do), 2 not a command line of kz.
 
 type Command = (&'static str, &'static str, &'static [&'static str], fn(&Given) -> Result<(), Fail>);
 
-const COMMANDS: [Command; 6] = [
+const COMMANDS: [Command; 7] = [
     ("demo", demo::HELP, &["-o", "--force"], demo::run),
     (
         "encode",
@@ -73,6 +74,7 @@ const COMMANDS: [Command; 6] = [
         encode::patches,
     ),
     ("restore", restore::HELP, &["-o", "--tiles", "--grid", "--settings", "--force"], restore::run),
+    ("salvage", salvage::HELP, &["-o", "--map", "--all", "--grid", "--settings", "--force"], salvage::run),
     ("compare", compare::HELP, &["-o", "--settings", "--force"], compare::run),
     ("bench", bench::HELP, &["--quick", "--size", "--weights", "--tables", "--settings"], bench::run),
 ];
@@ -84,8 +86,11 @@ fn say(line: fmt::Arguments) {
 
 /// A line on standard output that is the answer itself.
 fn answer(line: fmt::Arguments) -> Result<(), Fail> {
-    let said = writeln!(stdout(), "{line}").and_then(|()| stdout().flush());
-    said.map_err(|e| Fail::Refused(format!("standard output cannot be written: {e}")))
+    writeln!(stdout(), "{line}").and_then(|()| stdout().flush()).map_err(unsaid)
+}
+
+fn unsaid(e: io::Error) -> Fail {
+    Fail::Refused(format!("standard output cannot be written: {e}"))
 }
 
 fn run(words: &[OsString]) -> Result<(), Fail> {

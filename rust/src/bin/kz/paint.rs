@@ -1,7 +1,8 @@
 //! Pictures of answers.
 
 use crate::netpbm::Picture;
-use kyzgultam::Tile;
+use kyzgultam::{BadSample, Tile};
+use std::iter::repeat_n;
 
 const MAP: [[f32; 3]; 7] = [
     [2.0, 2.0, 12.0],
@@ -84,6 +85,65 @@ pub fn strip(pictures: &[&Picture]) -> Picture {
     }
     Picture { height, width: across, rgb }
 }
+
+/// Bad samples on the picture without them: their pixels magenta, which no ultrasound picture has, their patches framed
+/// and all others dimmed. The buffer has the room of `damage_len`.
+pub fn damage(picture: &Picture, patch: usize, list: &[BadSample], mut rgb: Vec<u8>) -> Picture {
+    let (times, grid_w) = (enlarged(picture), picture.width / patch);
+    let (height, width) = (times * picture.height, times * picture.width);
+    rgb.clear();
+    for y in 0..height {
+        let row = &picture.rgb[y / times * picture.width * 3..][..picture.width * 3];
+        let wide = row.chunks_exact(3).flat_map(|pixel| repeat_n(pixel, times)).flatten();
+        rgb.extend(wide.map(|byte| (u16::from(*byte) * 5 / 9) as u8));
+    }
+    let mut map = Picture { height, width, rgb };
+    for of_patch in list.chunk_by(|a, b| a.patch == b.patch) {
+        let index = of_patch[0].patch as usize;
+        framed(&mut map, picture, times, patch, (index / grid_w, index % grid_w));
+    }
+    for bad in list {
+        marked(&mut map, times, (bad.row(patch, grid_w), bad.column(patch, grid_w)));
+    }
+    map
+}
+
+/// A patch at its place on the enlarged picture, with a frame inside.
+fn framed(map: &mut Picture, picture: &Picture, times: usize, patch: usize, place: (usize, usize)) {
+    let (side, line) = (times * patch, times.min(3));
+    for (y, x) in (0..side).flat_map(|y| (0..side).map(move |x| (y, x))) {
+        let edge = y.min(side - 1 - y).min(x).min(side - 1 - x);
+        let (y, x) = (place.0 * side + y, place.1 * side + x);
+        let own = &picture.rgb[(y / times * picture.width + x / times) * 3..][..3];
+        map.rgb[(y * map.width + x) * 3..][..3].copy_from_slice(if edge < line { &LINE } else { own });
+    }
+}
+
+/// The mark of a pixel. One that is too small to be seen has a larger mark, around its place.
+fn marked(map: &mut Picture, times: usize, place: (usize, usize)) {
+    let before = DOT.saturating_sub(times) / 2;
+    let after = DOT.max(times) - before;
+    let reach = |at: usize, end: usize| (times * at).saturating_sub(before)..(times * at + after).min(end);
+    for y in reach(place.0, map.height) {
+        for x in reach(place.1, map.width) {
+            map.rgb[(y * map.width + x) * 3..][..3].copy_from_slice(&BAD);
+        }
+    }
+}
+
+/// How many bytes `damage` makes of a picture.
+pub fn damage_len(picture: &Picture) -> usize {
+    picture.rgb.len() * enlarged(picture).pow(2)
+}
+
+/// How many times a picture is enlarged, so that a person sees its pixels: those of a large one are as they are.
+fn enlarged(picture: &Picture) -> usize {
+    1000usize.div_ceil(picture.height.max(picture.width))
+}
+
+const BAD: [u8; 3] = [255, 0, 255];
+/// The least side of a mark.
+const DOT: usize = 5;
 
 /// The letters and digits of labels, five by seven: a number a row, its highest bit at the left.
 const SIGNS: [(char, [u8; 7]); 20] = [

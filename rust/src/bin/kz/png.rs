@@ -1,11 +1,21 @@
 //! PNG pictures, stored without compression.
 
-use crate::netpbm::Picture;
+use crate::netpbm::{ppm, Picture};
 use std::io::{self, Write};
 use std::iter::once;
+use std::path::Path;
 
 /// Bytes of a stored block.
 const BLOCK: usize = 0xFFFF;
+
+/// Writes a picture as a PPM where its file's name ends so, and else as a PNG.
+pub fn named(to: &mut dyn Write, file: &Path, picture: &Picture) -> io::Result<()> {
+    if file.extension().is_some_and(|ending| ending == "ppm") {
+        ppm(to, picture)
+    } else {
+        png(to, picture)
+    }
+}
 
 /// Writes a picture, three bytes a pixel; one of a grey picture.
 pub fn png(to: &mut dyn Write, picture: &Picture) -> io::Result<()> {

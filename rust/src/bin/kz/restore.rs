@@ -7,7 +7,7 @@ use crate::netpbm::{ppm, Picture};
 use crate::shown::shown;
 use crate::source::{unread, Source};
 use crate::{files, join, npy, room, say};
-use kyzgultam::Refusal;
+use kyzgultam::{PictureSettings, Refusal};
 use std::fs::File;
 use std::path::Path;
 
@@ -23,8 +23,9 @@ itself: its shape is grid rows x grid columns x 3 patch^2, and another is
 refused. A file of plain floats (f32, little-endian) needs --grid. --settings
 are to be those that the patches were cut with: patch, merge, image, mean and
 deviation (`kz encode --help`). The file does not hold the last two: with
-others than its own most files are refused with 8. The resize rule may be left
-out: the grid says which sides it gave.
+others than its own most files are refused with 8. So is a damaged one, of
+which `kz salvage` brings back what is left. The resize rule may be left out:
+the grid says which sides it gave.
 
 The second form joins the tiles that `kz patches --tiles` wrote to the sweep,
 byte for byte, as in kz restore --tiles out/a.*.patches.npy -o a.ppm. It needs
@@ -45,34 +46,64 @@ pub fn run(given: &Given) -> Result<(), Fail> {
     let asked = given.sides("--grid")?;
     allowed(&settings)?;
     files::vacant(&out, given.force)?;
-    let mut source = Source::open(file)?;
-    let (grid_h, grid_w, depth) =
-        grid(file, &mut source, asked, settings.patch_size.saturating_pow(2).saturating_mul(3))?;
-    let advice = format!("it was read as {grid_h}x{grid_w} patches of {depth} floats: {OWN}");
-    let refused = |refusal| match refusal {
-        Refusal::Sample => Fail::call(file, refusal, DAMAGED),
-        _ => Fail::call(file, refusal, &advice),
-    };
-    let len = settings.restored_len(grid_h, grid_w).map_err(refused)?;
-    if len != grid_h * grid_w * depth {
-        return Err(refused(Refusal::PatchesLength));
-    }
-    let of = format!("of its grid of {grid_h}x{grid_w} (patch={})", settings.patch_size);
-    let patches = floats(file, source, len, &of)?.ok_or_else(|| refused(Refusal::PatchesLength))?;
-    let rgb = room::zeros(len, &format!("the picture {of}"), ELSEWHERE);
-    let mut rgb = rgb.map_err(|words| Fail::file(file, words))?;
-    let size = kyzgultam::restore(&patches, grid_h, grid_w, &settings, &mut rgb).map_err(refused)?;
-    let picture = Picture { height: size.height, width: size.width, rgb };
+    let mut read = Patches::read(file, asked, &settings)?;
+    let (grid_h, grid_w) = read.grid;
+    let size = kyzgultam::restore(&read.floats, grid_h, grid_w, &settings, &mut read.rgb);
+    let size = size.map_err(|refusal| read.refused(refusal))?;
+    let picture = Picture { height: size.height, width: size.width, rgb: read.rgb };
     files::write(&out, given.force, |to| ppm(to, &picture))?;
     say(format_args!("{}: {}x{}", shown(&out), size.height, size.width));
     Ok(())
 }
 
 pub const DAMAGED: &str =
-    "the file is damaged, or was cut with another mean= or deviation= than these --settings have, \
-                       or was not written by `kz patches`";
+    "the file is damaged (`kz salvage` brings back what is not), or was cut with another mean= or \
+                           deviation= than these --settings have, or was not written by `kz patches`";
 const OWN: &str = "give the --settings, and of plain floats the --grid, that it was written with";
-pub const ELSEWHERE: &str = "restore it where there is more";
+pub const ELSEWHERE: &str = "try it again where there is more";
+
+/// A file's patches, and room for the picture that they bring back.
+pub struct Patches<'a> {
+    file: &'a Path,
+    pub grid: (usize, usize),
+    pub floats: Vec<f32>,
+    pub rgb: Vec<u8>,
+    /// What to do where a call refuses them.
+    advice: String,
+}
+
+impl<'a> Patches<'a> {
+    /// Reads all of a file. Its grid, and then its length, are tested before its floats are read, whose bits are kept.
+    pub fn read(
+        file: &'a Path,
+        asked: Option<(usize, usize)>,
+        settings: &PictureSettings,
+    ) -> Result<Patches<'a>, Fail> {
+        let mut source = Source::open(file)?;
+        let (grid_h, grid_w, depth) =
+            grid(file, &mut source, asked, settings.patch_size.saturating_pow(2).saturating_mul(3))?;
+        let advice = format!("it was read as {grid_h}x{grid_w} patches of {depth} floats: {OWN}");
+        let mut read = Patches { file, grid: (grid_h, grid_w), floats: vec![], rgb: vec![], advice };
+        let len = settings.restored_len(grid_h, grid_w).map_err(|refusal| read.refused(refusal))?;
+        if len != grid_h * grid_w * depth {
+            return Err(read.refused(Refusal::PatchesLength));
+        }
+        let of = format!("of its grid of {grid_h}x{grid_w} (patch={})", settings.patch_size);
+        let found = floats(file, source, len, &of)?;
+        read.floats = found.ok_or_else(|| read.refused(Refusal::PatchesLength))?;
+        let rgb = room::zeros(len, &format!("the picture {of}"), ELSEWHERE);
+        read.rgb = rgb.map_err(|words| Fail::file(file, words))?;
+        Ok(read)
+    }
+
+    /// What is said where a call refuses them.
+    pub fn refused(&self, refusal: Refusal) -> Fail {
+        match refusal {
+            Refusal::Sample => Fail::call(self.file, refusal, DAMAGED),
+            _ => Fail::call(self.file, refusal, &self.advice),
+        }
+    }
+}
 
 /// Grid and floats a patch: of a .npy file its shape, of plain floats what is asked for.
 fn grid(
