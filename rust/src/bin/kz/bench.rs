@@ -4,7 +4,7 @@ use crate::fail::Fail;
 use crate::given::Given;
 use crate::model::{refused_settings, Lent, Model, Random};
 use crate::{room, say};
-use kyzgultam::PictureSettings;
+use kyzgultam::{BadSample, PictureSettings};
 use std::fs;
 use std::io::{stderr, Write};
 use std::process::Command;
@@ -23,16 +23,17 @@ small grids alone and takes one. It is oracle/run of the repository where kz
 was built, with the archives that kz was linked with. The Rust's source is
 ../shared/docs/src from the repository's root, or KZ_RUST_SRC. Behind restore
 a tile is timed, the first of a sweep of 3000x2000, in turn with a picture of
-the same 1540x1540 pixels, which needs no resizing.
+the same 1540x1540 pixels, which needs no resizing; and salvage of 1540x1540,
+with no sample bad and with every one, in turn with restore of the good ones.
 
 The second form, and the first where the source or rustc is missing, times
 the port alone on noise, on one core: the best of the runs that fit into half
 a second, at least one. `share` is the part of a sweep's time. Without --size
 three sizes are timed, the largest without forward. The model is as for
-`kz encode`. Then the tile is timed as above and, last, restore of the largest
-by three choices of mean and deviation, both whatever --settings say: the
-Rust's, 0.2 and 0.25 as for grey ultrasound, and 0.2 and 1e38, by which a byte
-has to be found by halving.
+`kz encode`. Then tile and salvage are timed as above and, last, restore of the
+largest by three choices of mean and deviation, all whatever --settings say:
+the Rust's, 0.2 and 0.25 as for grey ultrasound, and 0.2 and 1e38, by which a
+byte has to be found by halving.
 ";
 
 const ORACLE: &str = concat!(env!("CARGO_MANIFEST_DIR"), "/../oracle/run");
@@ -67,6 +68,8 @@ fn beside_the_rust(quick: bool) -> Result<bool, Fail> {
     for words in [&["picture", "--bench"], encoder] {
         if words == encoder {
             tiles()?;
+            say(format_args!(""));
+            salvages()?;
             say(format_args!(""));
         }
         let status = Command::new(&oracle).arg(ARCHIVES).args(words).status();
@@ -112,6 +115,8 @@ fn alone(given: &Given) -> Result<(), Fail> {
     }
     say(format_args!(""));
     tiles()?;
+    say(format_args!(""));
+    salvages()?;
     let (height, width) = sizes[sizes.len() - 1];
     choices(&s.picture, height, width)
 }
@@ -172,6 +177,40 @@ fn tiles() -> Result<(), Fail> {
     let mut rows = joined.chunks_exact(3 * width).zip(rgb.chunks_exact(3 * width)).take(side);
     if !same || back != own || rows.any(|(a, b)| a[..3 * side] != b[..3 * side]) {
         return Err(Fail::Refused("the tile is not as the picture of its pixels: this is a fault, report it".into()));
+    }
+    Ok(())
+}
+
+/// Times salvage of patches of which no sample is bad, and of which every one is, each in turn with restore of the good
+/// ones: of the others restore knows at the first sample that it refuses them.
+fn salvages() -> Result<(), Fail> {
+    let settings = PictureSettings::default();
+    let side = settings.image_size;
+    let Buffers { rgb, mut patches, mut back } = Buffers::new(&settings, side, side)?;
+    let cut = kyzgultam::pixtral_preprocess(&rgb, side, side, &settings, &mut patches).map_err(refused_settings)?;
+    let advice = "try it again where there is more";
+    let mut damaged = room::empty(patches.len(), "the damaged patches", advice).map_err(Fail::Refused)?;
+    // By these settings no two bytes' samples are one bit apart.
+    damaged.extend(patches.iter().map(|sample| f32::from_bits(sample.to_bits() ^ 1)));
+    let mut list: Vec<BadSample> = room::zeros(patches.len(), "the bad samples", advice).map_err(Fail::Refused)?;
+    let mut saved = room::zeros(rgb.len(), "the salvaged picture", advice).map_err(Fail::Refused)?;
+    say(format_args!("{:<24}{:>10}{:>10}", format!("salvage {side}x{side}, ms"), "salvage", "restore"));
+    for (name, given, bad) in [("no sample bad", &patches, 0), ("every sample bad", &damaged, damaged.len())] {
+        let mut found = Ok(0);
+        let times = in_turn(
+            || {
+                let salvaged = kyzgultam::salvage(given, cut.grid_h, cut.grid_w, &settings, &mut saved, &mut list);
+                found = salvaged.map(|salvaged| salvaged.bad);
+                found.map(drop)
+            },
+            || kyzgultam::restore(&patches, cut.grid_h, cut.grid_w, &settings, &mut back).map(drop),
+        );
+        let [salvage, restore] = times.map_err(refused_settings)?.map(|time| time.as_secs_f64() * 1e3);
+        say(format_args!("{name:<24}{salvage:>10.2}{restore:>10.2}   {:.3} times as long", salvage / restore));
+        let right = if bad == 0 { saved == rgb } else { saved.iter().all(|byte| *byte == 0) };
+        if found != Ok(bad) || !right || back != rgb {
+            return Err(Fail::Refused("salvage does not give the picture back: this is a fault, report it".into()));
+        }
     }
     Ok(())
 }
