@@ -28,6 +28,8 @@ mod fills;
 mod lent;
 #[path = "records.rs"]
 mod records;
+#[path = "restore.rs"]
+mod restore;
 #[path = "sample.rs"]
 mod sample;
 #[path = "settings.rs"]
@@ -38,6 +40,7 @@ use edges::{changes, grey, odd_bits, pairs, wide};
 use fills::{Fill, Random, SEED};
 use lent::{differ, Differences, Lent};
 use records::CELLS;
+use restore::{kz_restore, restore, unshaped};
 use sample::hash;
 use settings::{of, preprocess_in_rust, rust, Choice, Settings, Sides, Table};
 use settings::{MAX, NO_RULES, OWN, RULES, USUAL};
@@ -50,14 +53,6 @@ struct PreprocessReport {
     grid_h: usize,
     grid_w: usize,
     floats: usize,
-}
-
-#[repr(C)]
-#[derive(Default)]
-struct RestoreReport {
-    number: u32,
-    height: usize,
-    width: usize,
 }
 
 #[repr(C)]
@@ -78,15 +73,6 @@ extern "C" {
         out: *mut u32,
         out_len: usize,
     ) -> PreprocessReport;
-    fn kz_restore(
-        s: Settings,
-        patches: *const u32,
-        patches_len: usize,
-        grid_h: usize,
-        grid_w: usize,
-        out: *mut u8,
-        out_len: usize,
-    ) -> RestoreReport;
     fn kz_patch(patches: *const u32, len: usize, patch_size: usize, i: usize) -> PatchPlace;
 }
 
@@ -99,11 +85,6 @@ const SMALL: usize = 1 << 19;
 // --- The paper's text ---
 
 impl Settings {
-    /// The most patches along a side.
-    fn most(self) -> usize {
-        self.image_size / self.patch_size
-    }
-
     /// Rule 2, with S the image size and m the longer side: max(1, floor(side × S / m)) where m > S.
     fn scaled(self, sides: Sides) -> Sides {
         let (s, m) = (self.image_size, usize::max(sides[0], sides[1]));
@@ -139,25 +120,10 @@ fn restored(
     grid: Sides,
     out: usize,
 ) -> Result<Vec<u8>, u32> {
-    if !s.allowed() {
-        return Err(1);
+    match unshaped(table, s, patches.len(), grid, out) {
+        0 => table.unpatched(s, patches, grid).ok_or(8),
+        number => Err(number),
     }
-    if !table.allowed {
-        return Err(19);
-    }
-    if grid
-        .iter()
-        .any(|side| *side == 0 || *side > s.most() || side % s.spatial_merge_size != 0)
-    {
-        return Err(6);
-    }
-    if patches.len() != grid[0] * grid[1] * s.patch_floats() {
-        return Err(7);
-    }
-    if out < patches.len() {
-        return Err(5);
-    }
-    table.unpatched(s, patches, grid).ok_or(8)
 }
 
 /// Patch i from place i · 3p²; 0 and 0 where p is not in 1..32 or the whole patch does not lie inside.
@@ -309,7 +275,8 @@ impl Comparison {
         let expected = restored(self.table.of(s.six), s, &patches, grid, out);
         let number = *expected.as_ref().err().unwrap_or(&0);
         *self.numbers[1].entry(number).or_default() += 1;
-        let mut found = restore(s, grid, &patches, out, &expected);
+        let answer = expected.as_deref().map_err(|number| *number);
+        let mut found = restore(s, grid, &patches, out, answer);
         // what nothing damaged comes back as the Rust's resized bytes
         if let (None, Source::Picture(..), true) = (&found, source, set.is_empty()) {
             let resized = &self.last.as_ref().expect("the call's picture").resized;
@@ -389,27 +356,6 @@ fn preprocess(
     differ(["number", "grid_h", "grid_w", "floats"], found, right)
         .or_else(|| output.differs("out", patches))
         .or_else(|| input.differs("rgb", rgb))
-}
-
-fn restore(
-    s: Settings,
-    grid: Sides,
-    patches: &[u32],
-    out: usize,
-    expected: &Result<Vec<u8>, u32>,
-) -> Option<String> {
-    let mut input = Lent::new(patches, patches.len());
-    let mut output = Lent::new(&[], out);
-    let (from, to) = (input.pointer(), output.pointer());
-    let ours = unsafe { kz_restore(s, from, patches.len(), grid[0], grid[1], to, out) };
-    let found = [ours.number as usize, ours.height, ours.width];
-    let (right, bytes): ([usize; 3], &[u8]) = match expected {
-        Ok(bytes) => ([0, grid[0] * s.patch_size, grid[1] * s.patch_size], bytes),
-        Err(number) => ([*number as usize, 0, 0], &[]),
-    };
-    differ(["number", "height", "width"], found, right)
-        .or_else(|| output.differs("out", bytes))
-        .or_else(|| input.differs("patches", patches))
 }
 
 fn patch(floats: usize, patch_size: usize, i: usize) -> Option<String> {

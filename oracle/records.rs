@@ -1,10 +1,10 @@
-//! What the records of crates/picture_replay and crates/tiles_replay share.
+//! What the records of crates/picture_replay, crates/tiles_replay and crates/salvage_replay share.
 
 use super::fills::Fill;
 use super::sample::{hash, MARKS};
 use super::settings::Settings;
 
-/// The cells of each of a replay's buffers.
+/// The cells of each buffer of the first two.
 pub const CELLS: usize = 12_352;
 
 /// The bytes that an output starts with.

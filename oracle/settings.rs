@@ -149,7 +149,7 @@ impl Table {
     }
 
     /// The byte that has the bits in a channel.
-    fn byte(&self, channel: usize, bits: u32) -> Option<u8> {
+    pub fn byte(&self, channel: usize, bits: u32) -> Option<u8> {
         let list = &self.bytes[channel];
         let at = list.binary_search_by_key(&bits, |entry| entry.0).ok()?;
         Some(list[at].1)

@@ -6,8 +6,8 @@
 mod sample;
 
 use kyzgultam::{
-    bf16, exp, forward, half_to_f32, pixtral_preprocess, preprocess_tile, restore, restore_tile, root, tanh,
-    EncoderSettings, PictureSettings, Refusal, Tile,
+    bf16, exp, forward, half_to_f32, pixtral_preprocess, preprocess_tile, restore, restore_tile, root, salvage, tanh,
+    BadSample, EncoderSettings, PictureSettings, Refusal, Tile,
 };
 use sample::{damage, hash, marks, states, MARKS};
 
@@ -122,6 +122,47 @@ fn tiles() {
         seen[number(&back)] += 1;
     }
     assert!([0, 1, 2, 3, 4, 5, 7, 8, 19, 20].iter().all(|n| seen[*n] > 0), "{seen:?}");
+}
+
+/// The patterns of a record of salvage: samples of bytes, some with other patterns in their place.
+fn salvage_patches(v: &[usize], settings: &PictureSettings) -> Vec<u32> {
+    let (mean, deviation) = (settings.mean, settings.deviation);
+    let sample = |(i, b): (usize, u8)| {
+        let c = i / v[9] % 3;
+        ((f32::from(b) / 255.0 - mean[c]) / deviation[c]).to_bits()
+    };
+    let mut cells: Vec<u32> = bytes(v[8] as u32, v[5]).into_iter().enumerate().map(sample).collect();
+    let end = v[11].min(v[5]);
+    for i in (v[10]..end).step_by(v[12]) {
+        cells[i] = (v[13] as u32).wrapping_add((i as u32).wrapping_mul(v[14] as u32));
+    }
+    if let Some(cell) = cells.get_mut(v[15]) {
+        *cell = v[16] as u32;
+    }
+    cells
+}
+
+#[test]
+fn salvaged() {
+    let mut seen = [0; 22];
+    for v in records(include_str!("../../crates/salvage_replay/stdin")) {
+        let settings = picture_settings(&v);
+        let cells = salvage_patches(&v, &settings);
+        let mut out = bytes(MARKS, v[6]);
+        // The crate's list has whole entries: of the numbers behind them nothing is lent.
+        let words: Vec<u32> = states(MARKS).take(v[7]).collect();
+        let entry = |e: &[u32]| BadSample { patch: e[0], place: e[1], bits: e[2] };
+        let mut list: Vec<BadSample> = words.chunks_exact(3).map(entry).collect();
+        let found = salvage(&floats(cells.iter().copied()), v[3], v[4], &settings, &mut out, &mut list);
+        let sizes = found.map_or([0; 3], |s| [s.height, s.width, s.bad]);
+        let mut left: Vec<u32> = list.iter().flat_map(|e| [e.patch, e.place, e.bits]).collect();
+        left.extend_from_slice(words.chunks_exact(3).remainder());
+        let answer = [number(&found), sizes[0], sizes[1], sizes[2], hash_bytes(&out), hash(&left) as usize];
+        assert_eq!(hash(&cells) as usize, v[17]);
+        assert_eq!(answer[..], v[18..24]);
+        seen[number(&found)] += 1;
+    }
+    assert!([0, 1, 5, 6, 7, 19, 21].iter().all(|n| seen[*n] > 0), "{seen:?}");
 }
 
 #[test]

@@ -23,5 +23,9 @@ lanes f h (x ∷ xs) = lanes f (added h (f x)) xs
 abbrev pub byteHash : List ℕ → ℕ
 byteHash s = summed (lanes (λ x. x) start s)
 
+-- a word of 32 bits counts as a byte does
+abbrev pub wordHash : List ℕ → ℕ
+wordHash s = byteHash s
+
 abbrev pub floatHash : List Float → ℕ
 floatHash s = summed (lanes (toBits binary32) start s)

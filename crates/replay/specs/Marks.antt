@@ -1,4 +1,4 @@
--- The generator of bytes and floats. Assumes nothing.
+-- The generator of bytes, words and floats. Assumes nothing.
 use Prim.Native.Nat.{ℕ, zero, suc, _+_, _*_, _/_, _%_}
 use mathlib.Core.List.{List}
 use lib.IntN.{pos}
@@ -28,6 +28,10 @@ unitOf x = sub binary32 (div binary32 (ofInt binary32 (pos (x / 256))) (ofBits b
 abbrev pub byteAt : ℕ → ℕ → ℕ
 byteAt x k = stepped x (suc k) / 16777216
 
+-- all 32 bits
+abbrev pub wordAt : ℕ → ℕ → ℕ
+wordAt x k = stepped x (suc k)
+
 -- the nearest f32
 abbrev pub floatAt : ℕ → ℕ → Float
 floatAt x k = ofInt binary32 (pos (stepped x (suc k)))
@@ -37,6 +41,9 @@ unitAt x k = unitOf (stepped x (suc k))
 
 abbrev pub bytes : ℕ → ℕ → List ℕ
 bytes x n = tab n (byteAt x)
+
+abbrev pub words : ℕ → ℕ → List ℕ
+words x n = tab n (wordAt x)
 
 abbrev pub floats : ℕ → ℕ → List Float
 floats x n = tab n (floatAt x)

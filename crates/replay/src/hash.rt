@@ -1,7 +1,7 @@
 // A hash of 64 bits: two remainders, each of a power sum of the words.
 ghost use mathlib.Core.Path.{_≡_};
 ghost use Prim.Native.Nat.{_<_};
-ghost use Rattle.replay.specs.Hash.{added, summed, byteHash, floatHash};
+ghost use Rattle.replay.specs.Hash.{added, summed, byteHash, wordHash, floatHash};
 ghost use Rattle.replay.specs.inner.Reduced.{Reduced};
 
 pub(crate) struct Lanes {
@@ -28,6 +28,21 @@ fn sum(h: Lanes) -> u64
 
 pub fn hash_bytes(s: &[u8]) -> u64
     ensures { λ r. ⌜ r ≡ byteHash (now (s .entry)) ⌝ }
+{
+    let mut h = Lanes {
+        first: 1,
+        second: 1,
+    };
+    let mut i = 0;
+    while i < s.len() {
+        h = add(h, s[i] as u64);
+        i += 1;
+    }
+    sum(h)
+}
+
+pub fn hash_words(s: &[u32]) -> u64
+    ensures { λ r. ⌜ r ≡ wordHash (now (s .entry)) ⌝ }
 {
     let mut h = Lanes {
         first: 1,

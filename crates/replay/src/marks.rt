@@ -1,8 +1,8 @@
-// The generator of bytes and floats.
+// The generator of bytes, words and floats.
 ghost use mathlib.Core.Path.{_≡_};
 ghost use Prim.Native.Nat.{_<_};
 ghost use lib.ListN.{length};
-ghost use Rattle.replay.specs.Marks.{next, seeded, unitOf, bytes, floats, units};
+ghost use Rattle.replay.specs.Marks.{next, seeded, unitOf, bytes, words, floats, units};
 
 // The seed of the marks that outputs start with.
 pub const MARKS: usize = 77;
@@ -22,6 +22,18 @@ pub fn fill_bytes(seed: usize, to: &mut [u8])
     while i < to.len() {
         x = step(x);
         to[i] = (x / 16777216) as u8;
+        i += 1;
+    }
+}
+
+pub fn fill_words(seed: usize, to: &mut [u32])
+    ensures { λ _. ⌜ now (to .exit) ≡ words (seeded seed) (length (now (to .entry))) ⌝ }
+{
+    let mut x = seed % 4294967296;
+    let mut i = 0usize;
+    while i < to.len() {
+        x = step(x);
+        to[i] = x as u32;
         i += 1;
     }
 }
