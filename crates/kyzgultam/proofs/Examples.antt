@@ -3,6 +3,7 @@ use mathlib.Core.Path.{_≡_, refl}
 use mathlib.Core.List.{List, [], _∷_}
 use Prim.Native.Nat.{ℕ, _+_, _*_}
 use lib.ListN.{getD}
+use lib.Count.{leadingZeros}
 use lib.Ieee.{Float, nan, add, sub, mul, div, lt, le, ne, ofInt, ofBits, toBits, toUnsigned, neg, round, size}
 use Rattle.buffers.specs.Rows.{tab, rows}
 use Rattle.number_bf16_half_root.specs.Bf16.{bf16}
@@ -41,7 +42,7 @@ unfolding bf16
 bf16-wraps = refl
 
 pub half-smallest : half 0x0001 ≡ 0x3380_0000
-unfolding half halfSize subnormal size
+unfolding half halfSize subnormal leadingZeros
 half-smallest = refl
 
 pub half-largest : half 0x7BFF ≡ 0x477F_E000

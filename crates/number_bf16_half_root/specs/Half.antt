@@ -1,13 +1,14 @@
 -- A half's pattern as an f32's, by its fields as in `half_to_f32`. Assumes nothing.
-use Prim.Native.Nat.{ℕ, zero, suc, _+_, _-_, _*_, _/_, _%_, _^_}
+use Prim.Native.Nat.{ℕ, _+_, _-_, _*_, _/_, _%_, _^_}
 use mathlib.Core.Bool.{cond}
 use lib.Dec.{eqb}
-use lib.Ieee.{size}
+use lib.Count.{leadingZeros}
 
--- a mantissa with no leading one: it is shifted until it has 11 digits, and the exponent falls by one with each place
+-- a mantissa with no leading one: it is shifted until it has 11 digits, which leaves 21 leading zeros of 32, and the exponent falls by one with each place
 unfoldable pub subnormal : ℕ → ℕ
-subnormal zero = 0
-subnormal (suc m) = let shift = 11 - size (suc m) in (127 - 15 + 1 - shift) * 2 ^ 23 + (suc m * 2 ^ shift - 2 ^ 10) * 2 ^ 13
+subnormal m =
+    let shift = leadingZeros 32 m - 21 in
+    cond (eqb m 0) 0 ((127 - 15 + 1 - shift) * 2 ^ 23 + m * 2 ^ shift % 2 ^ 10 * 2 ^ 13)
 
 unfoldable pub halfSize : ℕ → ℕ → ℕ
 halfSize exp mantissa =

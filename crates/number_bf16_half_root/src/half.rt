@@ -3,18 +3,14 @@ ghost use mathlib.Core.Path.{_≡_};
 ghost use Prim.Native.Nat.{_<_, _^_};
 ghost use Rattle.number_bf16_half_root.specs.Half.{half, halfSize, subnormal};
 
-// The mantissa m of a subnormal is shifted until bit 0x400, the leading one, is set.
+// The mantissa m of a subnormal is shifted until it has 11 digits, the leading one and the 10 that are kept: a u32 of 11
+// digits has 21 leading zeros. The exponent falls by one with each place.
 fn half_subnormal(m: u32) -> u32
     requires { ⌜ (0 < m) × (m < 2 ^ 10) ⌝ }
     ensures { λ r. ⌜ r ≡ subnormal m ⌝ }
 {
-    let mut n = m;
-    let mut exp: u32 = 127 - 15 + 1;
-    while n & 0x400 == 0 {
-        n = n << 1;
-        exp = exp - 1;
-    }
-    (exp << 23) | ((n & 0x3FF) << 13)
+    let shift = u32::leading_zeros(m) - 21;
+    ((127 - 15 + 1 - shift) << 23) | (((m << shift) & 0x3FF) << 13)
 }
 
 fn half_size(exp: u32, mantissa: u32) -> u32

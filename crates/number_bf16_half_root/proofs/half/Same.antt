@@ -1,17 +1,18 @@
 -- The f32 of a half is the same number: a half's smallest is 2 ^ -24 and an f32's 2 ^ -149. Assumes nothing.
-use mathlib.Core.Path.{_≡_, refl, sym, ap, ap₂, _∙_, subst}
+use mathlib.Core.Path.{_≡_, refl, sym, ap, ap₂, _∙_}
 use mathlib.Core.Logic.{_⊎_, inl, inr}
 use Prim.Native.Nat.{ℕ, zero, suc, _+_, _-_, _*_, _/_, _%_, _^_, _≤_, _<_}
-use native.Mathlib.Nat.{mul-assoc, mul-right-comm, lt-irrefl, pow-suc}
+use native.Mathlib.Nat.{mul-assoc, lt-irrefl, pow-suc}
 use native.Mathlib.Omega.{arith}
 use lib.Dec.{lit<}
+use lib.Count.{leadingZeros}
 use lib.Pow as Pow
-use lib.Pow.{pow-pos, pow-add}
+use lib.Pow.{pow-add}
 use Rattle.number_floats.specs.Size.{sizeOf, count}
 use Rattle.number_bf16_half_root.specs.Half.{subnormal, halfSize, half}
 use Rattle.number_floats.proofs.Ways.{lt-or-ge}
 use Rattle.number_floats.proofs.Sizes.{at-kept}
-use Rattle.number_bf16_half_root.proofs.half.Fields.{few, subnormal-is, shifted, at-subnormal, at-normal, half-size-lt}
+use Rattle.number_bf16_half_root.proofs.half.Fields.{subnormal-is, shifted, at-subnormal, at-normal, half-size-lt}
 
 number : (k t : ℕ) → 0 < k → t < 2 ^ 10 → count (2 ^ 23) (k * 2 ^ 23 + t * 2 ^ 13) ≡ (2 ^ 10 + t) * 2 ^ 12 * 2 ^ k
 number zero t p l = absurd (lt-irrefl 0 p)
@@ -27,18 +28,16 @@ small : (m : ℕ) → m < 2 ^ 10 → (0 < m) ⊎ (m ≤ 0) → count (2 ^ 23) (s
 unfolding subnormal
 small m l (inr g) = let z : m ≡ 0 = omega arith in ap (λ (x : ℕ). count (2 ^ 23) (subnormal x)) z ∙ sym (ap (λ (x : ℕ). x * 2 ^ 125) z)
 small m l (inl p) =
-    let s = shifted m p l in
-    let j = s .j in
-    let n = s .n in
-    let q : j < 11 = few m j n p (s .moved) (s .hi) in
-    let d : 2 ^ 10 + n % 2 ^ 10 ≡ n = omega (arith, s .lo, s .hi) in
-    let t : j + (12 + (113 - j)) ≡ 125 = omega arith in
-    ap (count (2 ^ 23)) (subnormal-is m j n p (s .moved) (s .lo) (s .hi))
-    ∙ number (113 - j) (n % 2 ^ 10) (omega arith) (omega arith)
-    ∙ ap (λ (x : ℕ). x * 2 ^ 12 * 2 ^ (113 - j)) (d ∙ sym (s .moved))
-    ∙ mul-assoc (m * 2 ^ j) (2 ^ 12) (2 ^ (113 - j))
-    ∙ mul-assoc m (2 ^ j) (2 ^ 12 * 2 ^ (113 - j))
-    ∙ ap (λ (x : ℕ). m * x) (sym (pow-add 2 j (12 + (113 - j)) ∙ ap (λ (x : ℕ). 2 ^ j * x) (pow-add 2 12 (113 - j))) ∙ ap (λ (x : ℕ). 2 ^ x) t)
+    let s = leadingZeros 32 m - 21 in
+    let h = shifted m p l in
+    let d : 2 ^ 10 + m * 2 ^ s % 2 ^ 10 ≡ m * 2 ^ s = omega (arith, h .lo, h .hi) in
+    let t : s + (12 + (113 - s)) ≡ 125 = omega (arith, h .most) in
+    ap (count (2 ^ 23)) (subnormal-is m p)
+    ∙ number (113 - s) (m * 2 ^ s % 2 ^ 10) (omega (arith, h .most)) (omega arith)
+    ∙ ap (λ (x : ℕ). x * 2 ^ 12 * 2 ^ (113 - s)) d
+    ∙ mul-assoc (m * 2 ^ s) (2 ^ 12) (2 ^ (113 - s))
+    ∙ mul-assoc m (2 ^ s) (2 ^ 12 * 2 ^ (113 - s))
+    ∙ ap (λ (x : ℕ). m * x) (sym (pow-add 2 s (12 + (113 - s)) ∙ ap (λ (x : ℕ). 2 ^ s * x) (pow-add 2 12 (113 - s))) ∙ ap (λ (x : ℕ). 2 ^ x) t)
 
 normal : (e t : ℕ) → 0 < e → t < 2 ^ 10 → count (2 ^ 23) ((e + 127 - 15) * 2 ^ 23 + t * 2 ^ 13) ≡ sizeOf (2 ^ 10) e t * 2 ^ 125
 normal zero t p l = absurd (lt-irrefl 0 p)
