@@ -5,3 +5,5 @@ pub mod Patterns
 pub mod Values
 pub mod Unique
 pub mod Order
+pub mod Signs
+pub mod Grows
