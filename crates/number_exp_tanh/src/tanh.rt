@@ -1,7 +1,15 @@
 // T, the hyperbolic tangent of the rules.
 ghost use mathlib.Core.Path.{_≡_};
 ghost use Rattle.number_exp_tanh.specs.Tanh as S;
-ghost use Rattle.number_exp_tanh.specs.Tanh.{tanhBits};
+ghost use Rattle.number_exp_tanh.specs.Tanh.{nearZero, tanhBits};
+
+// y less its cube / 3 and so on: for small y, where F − 1 would cancel.
+fn near_zero(y: f64) -> f64
+    ensures { λ r. ⌜ r ≡ nearZero y ⌝ }
+{
+    let z = y * y;
+    y * (1.0 - z / 3.0 + z * z * 2.0 / 15.0)
+}
 
 pub fn tanh_f32(y: f32) -> f32
     ensures { λ r. ⌜ r ≡ S.T y ⌝ }
@@ -15,7 +23,11 @@ pub fn tanh_f32(y: f32) -> f32
     if y <= -10.0 {
         return -1.0;
     }
-    let f = crate::exp::exp_f64(2.0 * number_floats::narrow::widen_f32(y));
+    let d = number_floats::narrow::widen_f32(y);
+    if (-0.015625 < y) & (y < 0.015625) {
+        return number_floats::narrow::narrow_f64(near_zero(d));
+    }
+    let f = crate::exp::exp_f64(2.0 * d);
     number_floats::narrow::narrow_f64((f - 1.0) / (f + 1.0))
 }
 

@@ -7,7 +7,7 @@ use Rattle.number_floats.specs.inner.Bounds.{AtMost}
 use Rattle.number_floats.specs.Narrow.{narrow}
 use Rattle.number_exp_tanh.specs.Exp.{F}
 use Rattle.number_exp_tanh.specs.Tanh as S
-use Rattle.number_exp_tanh.specs.Tanh.{two, fromF}
+use Rattle.number_exp_tanh.specs.Tanh.{two, nearZero, fromF}
 use Rattle.number_floats.proofs.Patterns.{is-nan}
 use Rattle.number_floats.proofs.Bound.{at-most-mul}
 use Rattle.number_exp_tanh.proofs.exp.Range.{in-range, wider}
@@ -33,14 +33,8 @@ two-at-most : AtMost 2 two
 unfolding ofBits
 two-at-most = lit≤ tt
 
-exp-f64-requires : tie.Need-exp-f64-requires
-unfolding ofBits neg
-exp-f64-requires c κs =
-    let s = c .before in
-    let y = s .before .before .before .args .y in
-    let b : AtMost 10 y = in-range 10 5 1 5 1 y (lit≤ tt) (lit≤ tt) (s .before .before .if1 .left) (s .before .if2 .left) (s .if3 .left) in
-    subst (λ (z : Float). AtMost 104 (mul binary64 two z)) (sym (c .widen-f32 .ensures))
-    (wider 20 104 (mul binary64 two y) (lit≤ tt) (at-most-mul 20 (lit≤ tt) 2 10 two y (lit≤ tt) two-at-most b))
+near-zero-requires : tie.Need-near-zero-requires
+near-zero-requires c κs = search needs
 
 narrow-f64-requires : tie.Need-narrow-f64-requires
 narrow-f64-requires c κs = search needs
@@ -48,9 +42,28 @@ narrow-f64-requires c κs = search needs
 returns-4 : tie.Need-returns-4
 unfolding S.T
 returns-4 c =
-    let s = c .before .before .before in
-    rw (s .before .before .if1 .left, s .before .if2 .left, s .if3 .left)
-    (c .narrow-f64 .ensures ∙ ap (λ (f : Float). narrow (fromF f)) (c .before .exp-f64 .ensures ∙ ap (λ (z : Float). F (mul binary64 two z)) (c .before .before .widen-f32 .ensures)))
+    let s = c .before .before .before .before in
+    rw (s .before .before .if1 .left, s .before .if2 .left, s .if3 .left, c .before .before .if4 .taken)
+    (c .narrow-f64 .ensures ∙ ap narrow (c .before .near-zero .ensures ∙ ap nearZero (c .before .before .before .widen-f32 .ensures)))
+
+exp-f64-requires : tie.Need-exp-f64-requires
+unfolding ofBits neg
+exp-f64-requires c κs =
+    let s = c .before .before in
+    let y = s .before .before .before .args .y in
+    let b : AtMost 10 y = in-range 10 5 1 5 1 y (lit≤ tt) (lit≤ tt) (s .before .before .if1 .left) (s .before .if2 .left) (s .if3 .left) in
+    subst (λ (z : Float). AtMost 104 (mul binary64 two z)) (sym (c .before .widen-f32 .ensures))
+    (wider 20 104 (mul binary64 two y) (lit≤ tt) (at-most-mul 20 (lit≤ tt) 2 10 two y (lit≤ tt) two-at-most b))
+
+narrow-f64-requires-2 : tie.Need-narrow-f64-requires-2
+narrow-f64-requires-2 c κs = search needs
+
+returns-5 : tie.Need-returns-5
+unfolding S.T
+returns-5 c =
+    let s = c .before .before .before .before in
+    rw (s .before .before .if1 .left, s .before .if2 .left, s .if3 .left, c .before .before .if4 .left)
+    (c .narrow-f642 .ensures ∙ ap (λ (f : Float). narrow (fromF f)) (c .before .exp-f64 .ensures ∙ ap (λ (z : Float). F (mul binary64 two z)) (c .before .before .before .widen-f32 .ensures)))
 
 pub tanh-f32-spec : {M : Type 1} → statement M
 tanh-f32-spec =
@@ -60,6 +73,9 @@ tanh-f32-spec =
     returns-2
     returns-3
     widen-f32-requires
-    exp-f64-requires
+    near-zero-requires
     narrow-f64-requires
-    returns-4)
+    returns-4
+    exp-f64-requires
+    narrow-f64-requires-2
+    returns-5)
