@@ -11,6 +11,7 @@ use Rattle.number_bf16_half_root.specs.Half.{subnormal, halfSize, half}
 use Rattle.number_bf16_half_root.specs.Root.{wholeRoot, nearRoot, rootOfNumber, root}
 use Rattle.number_floats.specs.Narrow.{narrow}
 use Rattle.number_exp_tanh.specs.Exp.{series, E, expBits}
+use Rattle.number_exp_tanh.specs.Tanh.{nearZero, T, tanhBits}
 use Rattle.picture_limits.specs.declared.PictureSettings.{PictureSettings}
 use Rattle.picture.specs.declared.Preprocessed.{Preprocessed}
 use Rattle.picture_limits.specs.Settings.{allowed}
@@ -27,7 +28,7 @@ use Rattle.picture_tiles.specs.Tile.{tileBytes}
 use Rattle.picture_tiles.specs.Answer.{cutOf, tiled}
 use Rattle.encoder_stages.specs.Merge.{mergeOf}
 
--- ---- bf16, half, E, root
+-- ---- bf16, half, E, T, root
 
 pub bf16-tie-down : bf16 0x3F80_8000 ≡ 0x3F80_0000
 unfolding bf16
@@ -53,6 +54,10 @@ half-largest = refl
 pub exp-of-zero : expBits 0 ≡ 0x3F80_0000
 unfolding expBits E series narrow add sub mul div le ne ofInt ofBits toBits toUnsigned neg round size
 exp-of-zero = refl
+
+pub tanh-of-minus-zero : tanhBits 0x8000_0000 ≡ 0x8000_0000
+unfolding tanhBits T nearZero narrow add sub mul div le ne ofBits toBits neg
+tanh-of-minus-zero = refl
 
 -- the root of 4 is 2
 pub root-of-four : root 0x4080_0000 ≡ 0x4000_0000
