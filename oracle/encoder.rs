@@ -15,6 +15,7 @@ use std::io::Write;
 
 #[path = "bench.rs"]
 mod bench;
+mod rules;
 #[path = "sample.rs"]
 mod sample;
 #[path = "stages.rs"]
@@ -22,6 +23,8 @@ mod stages;
 
 #[allow(dead_code)]
 mod rust {
+    use super::rules::{exp_rule, tanh_rule};
+
     // What stands in the place of what is not cut: the settings that forward reads, the error, log lines and the
     // progress bar.
     pub struct PixtralVisionConfig {
@@ -74,42 +77,6 @@ mod rust {
     impl SendMutPtr {
         unsafe fn write(self, offset: usize, val: f32) {
             *self.0.add(offset) = val;
-        }
-    }
-
-    fn f(x: f64) -> f64 {
-        let l = f64::from_bits(0x3FE6_2E42_FEFA_39EF);
-        let k = (x / l + 0.5).floor();
-        let r = x - k * l;
-        let mut p = 1.0;
-        for i in (1..=10).rev() {
-            p = 1.0 + (r * p) / f64::from(i);
-        }
-        p * f64::from_bits(((1023 + k as i64) as u64) << 52)
-    }
-
-    pub fn exp_rule(x: f32) -> f32 {
-        if x.is_nan() {
-            f32::NAN
-        } else if x >= 89.0 {
-            f32::INFINITY
-        } else if x <= -104.0 {
-            0.0
-        } else {
-            f(f64::from(x)) as f32
-        }
-    }
-
-    fn tanh_rule(y: f32) -> f32 {
-        if y.is_nan() {
-            f32::NAN
-        } else if y >= 10.0 {
-            1.0
-        } else if y <= -10.0 {
-            -1.0
-        } else {
-            let f = f(2.0 * f64::from(y));
-            ((f - 1.0) / (f + 1.0)) as f32
         }
     }
 

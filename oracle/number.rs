@@ -2,12 +2,18 @@
 //!
 //! `half_to_f32` and `truncate_to_bf16_inplace` are the Rust's own, cut from its source; the root is
 //! `f32::sqrt`. E and T stand in for the Rust's calls of `exp` and `tanh`, so there is nothing to cut:
-//! they follow the rules' text, one f64 operation for each of its operations, in its order.
+//! they follow the rules' text (rules.rs). Of every pattern that is compared it is asked too that T is 0 of the zeros
+//! alone, of a subnormal that subnormal, and that 1 + T, which is what gelu takes of it, is what it was with T of 01.
 //!
 //!     number            every half; of the other rules the edges and a random run with a fixed seed
 //!     number --all      every half; of the other rules all 2^32 patterns, on two threads
 //!     number --sample   prints the Rust's answers as crates/number_replay/stdin holds them
+//!     number --errors   prints how far T is from the hyperbolic tangent, by decade (errors.rs)
 
+mod errors;
+mod rules;
+
+use rules::{exp_rule, l, tanh_before, tanh_rule};
 use std::collections::HashSet;
 use std::hint::black_box;
 use std::io::Write;
@@ -65,46 +71,19 @@ fn root(x: u32) -> u32 {
     bits(value(x).sqrt())
 }
 
-fn l() -> f64 {
-    f64::from_bits(0x3FE6_2E42_FEFA_39EF)
-}
-
-/// F. Its callers bound x, so that k is far inside the exponents of an f64.
-fn f(x: f64) -> f64 {
-    let k = (x / l() + 0.5).floor();
-    let r = x - k * l();
-    let mut p = 1.0;
-    for i in (1..=10).rev() {
-        p = 1.0 + (r * p) / f64::from(i);
-    }
-    p * f64::from_bits(((1023 + k as i64) as u64) << 52)
-}
-
 fn exp(x: u32) -> u32 {
-    let x = value(x);
-    if x.is_nan() {
-        NAN
-    } else if x >= 89.0 {
-        INFINITY
-    } else if x <= -104.0 {
-        0
-    } else {
-        bits(f(f64::from(x)) as f32)
-    }
+    bits(exp_rule(value(x)))
 }
 
 fn tanh(y: u32) -> u32 {
-    let y = value(y);
-    if y.is_nan() {
-        NAN
-    } else if y >= 10.0 {
-        1f32.to_bits()
-    } else if y <= -10.0 {
-        (-1f32).to_bits()
-    } else {
-        let f = f(2.0 * f64::from(y));
-        bits(((f - 1.0) / (f + 1.0)) as f32)
-    }
+    let t = bits(tanh_rule(value(y)));
+    let size = y & !SIGN;
+    assert!(t & !SIGN != 0 || size == 0, "T of {y:08x} is 0");
+    assert!(t == y || size >= 0x0080_0000, "T of {y:08x} is not that subnormal");
+    let before = bits(tanh_before(value(y)));
+    let plus_one = |t: u32| bits(1.0 + value(t));
+    assert!(t == before || plus_one(t) == plus_one(before), "gelu at T of {y:08x} is not what it was");
+    t
 }
 
 struct Rule {
@@ -417,8 +396,12 @@ fn main() {
         [] => report(every_half(), WIDE.each_ref().map(edges_and_random)),
         ["--all"] => report(every_half(), WIDE.each_ref().map(every_pattern)),
         ["--sample"] => sample().is_ok(),
+        ["--errors"] => {
+            errors::print(TANH.ours);
+            true
+        }
         _ => {
-            eprintln!("usage: number [--all | --sample]");
+            eprintln!("usage: number [--all | --sample | --errors]");
             std::process::exit(2);
         }
     };
