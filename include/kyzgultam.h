@@ -5,6 +5,12 @@
 #include <stddef.h>
 #include <stdint.h>
 
+/*
+ * Where two versions differ in the first or the second number, an answer may have other bits: docs/DIFFERENCES.md says
+ * which. So an archive keeps this beside what it stores. `kz --version` prints it too.
+ */
+#define KZ_VERSION "0.2.0"
+
 #ifdef __cplusplus
 extern "C" {
 #endif

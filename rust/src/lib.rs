@@ -65,3 +65,6 @@ pub use refusal::Refusal;
 pub use salvage::{salvage, BadSample, Salvaged};
 pub use settings::{EncoderSettings, Lengths, PictureSettings};
 pub use tiles::{cut, preprocess_tile, restore_tile, Cut, Tile};
+
+/// `KZ_VERSION` of the header: where two differ in the first or the second number, an answer may have other bits.
+pub const VERSION: &str = env!("CARGO_PKG_VERSION");

@@ -53,7 +53,8 @@ pub fn exp(x: f32) -> f32 {
 /// Rule T, the hyperbolic tangent with the same bits on every machine. A NaN gives the NaN 0x7FC00000.
 ///
 /// ```
-/// assert_eq!(kyzgultam::tanh(0.0), 0.0);
+/// assert_eq!(kyzgultam::tanh(-0.0).to_bits(), (-0f32).to_bits());
+/// assert_eq!(kyzgultam::tanh(1e-40), 1e-40);
 /// assert_eq!(kyzgultam::tanh(-10.0), -1.0);
 /// ```
 pub fn tanh(y: f32) -> f32 {

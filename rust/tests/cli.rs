@@ -26,6 +26,16 @@ fn help_fits_a_screen() {
 }
 
 #[test]
+fn version_is_the_headers() {
+    let folder = Folder::new("version");
+    let header = fs::read_to_string(Path::new(env!("CARGO_MANIFEST_DIR")).join("../include/kyzgultam.h")).unwrap();
+    assert!(header.contains(&format!("\n#define KZ_VERSION \"{}\"\n", kyzgultam::VERSION)));
+    for words in ["--version", "-V"] {
+        assert_eq!(folder.done(words), format!("kz {}\n", kyzgultam::VERSION));
+    }
+}
+
+#[test]
 fn usage() {
     let folder = Folder::new("usage");
     sweep(&folder, "a.ppm", 8, 8, 1);

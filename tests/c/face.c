@@ -789,6 +789,8 @@ static void number(void) {
     EXPECT(kz_root(0xBF800000) == 0x7FC00000 && kz_root(0x7F800000) == 0x7F800000);
     EXPECT(kz_exp(0) == 0x3F800000 && kz_exp(0x42B20000) == 0x7F800000 && kz_exp(0xC2D00000) == 0);
     EXPECT(kz_tanh(0) == 0 && kz_tanh(0x41200000) == 0x3F800000 && kz_tanh(0xC1200000) == 0xBF800000);
+    EXPECT(kz_tanh(0x80000000) == 0x80000000 && kz_tanh(1) == 1 && kz_tanh(0x807FFFFF) == 0x807FFFFF);
+    EXPECT(kz_tanh(0x3C7FFFFF) == 0x3C7FFAAA && kz_tanh(0xBC7FFFFF) == 0xBC7FFAAA);
     EXPECT(kz_exp(0xFFFFFFFF) == 0x7FC00000 && kz_tanh(0x7F800001) == 0x7FC00000);
 }
 

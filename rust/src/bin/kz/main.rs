@@ -53,8 +53,8 @@ endian, in the order of include/kyzgultam.h. Sizes are HEIGHTxWIDTH.
   --force           write over plain files that are there already
   --skip-existing   for encode and patches: take such files for done
 
-`kz COMMAND --help` says more. Exit status: 0 done, 1 refused (the message
-names the file, the number and what to do), 2 not a command line of kz.
+`kz COMMAND --help` says more; `kz --version`. Exit status: 0 done, 1 refused
+(the message names file, number and what to do), 2 not a command line of kz.
 ";
 
 type Command = (&'static str, &'static str, &'static [&'static str], fn(&Given) -> Result<(), Fail>);
@@ -101,6 +101,9 @@ fn run(words: &[OsString]) -> Result<(), Fail> {
     if is(first, &["--help", "-h", "help"]) {
         say(format_args!("{}", HELP.trim_end()));
         return Ok(());
+    }
+    if is(first, &["--version", "-V"]) {
+        return answer(format_args!("kz {}", kyzgultam::VERSION));
     }
     let command = COMMANDS.iter().find(|(name, ..)| first == name);
     let (_, help, known, work) = command.ok_or_else(|| Fail::usage(format!("no command {}", shown::shown(first))))?;
