@@ -1,3 +1,4 @@
 pub mod Bf16
 pub mod Half
 pub mod Root
+pub mod Packed
