@@ -7,6 +7,7 @@ use lib.ListN.{length, getD, take, drop, set}
 use Rattle.number_bf16_half_root.specs.Bf16.{bf16}
 use Rattle.number_bf16_half_root.specs.Half.{half}
 use Rattle.number_bf16_half_root.specs.Root.{root}
+use Rattle.number_bf16_half_root.specs.Packed.{packed, widened}
 use Rattle.number_exp_tanh.specs.Exp.{expBits}
 use Rattle.number_exp_tanh.specs.Tanh.{tanhBits}
 use Rattle.number_replay.specs.Hex.{wordOf}
@@ -15,7 +16,7 @@ use Rattle.number_replay.specs.declared.hex.Word.the-variants.{Value, Ba
 use Rattle.number_replay.specs.declared.record.Verdict.{Verdict}
 use Rattle.number_replay.specs.declared.record.Verdict.the-variants.{Same, Differs, Bad as Unread}
 
--- the rule of a letter, at x: b, h (whose inputs have 16 bits), r, e, t
+-- the rule of a letter, at x: b, h (whose inputs have 16 bits), r, e, t, p, w (16 bits again)
 unfoldable pub answerOf : ℕ → ℕ → Word
 answerOf letter x =
     cond (eqb letter 98) (Value (bf16 x))
@@ -23,7 +24,9 @@ answerOf letter x =
     (cond (eqb letter 114) (Value (root x))
     (cond (eqb letter 101) (Value (expBits x))
     (cond (eqb letter 116) (Value (tanhBits x))
-    Bad))))
+    (cond (eqb letter 112) (Value (packed x))
+    (cond (eqb letter 119) (cond (ltb x 65536) (Value (widened x)) Bad)
+    Bad))))))
 
 -- the Rust's answer beside ours
 unfoldable pub besides : ℕ → ℕ → Word → Verdict
@@ -56,9 +59,11 @@ placeOf (Same letter) =
     (cond (eqb letter 114) 2
     (cond (eqb letter 101) 3
     (cond (eqb letter 116) 4
-    5))))
-placeOf (Differs ours) = 5
-placeOf Unread = 5
+    (cond (eqb letter 112) 5
+    (cond (eqb letter 119) 6
+    7))))))
+placeOf (Differs ours) = 7
+placeOf Unread = 7
 
 -- the counts after each of the lines
 unfoldable pub tally : List ℕ → List (List ℕ) → List ℕ

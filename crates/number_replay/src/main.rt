@@ -1,9 +1,9 @@
 // Replays answers of the Rust against `patterns` and `exps`, and writes how many records of each rule
 // agree and how many records do not.
 //
-// Standard input holds a record a line, 20 bytes: the rule's letter (b, h, r, e, t for bf16, half,
-// root, E, T), a space, the input, a space, the Rust's answer, a newline; both numbers as 8
-// lower-case hex digits. `oracle/run target/staticlib --sample` made the file stdin from the Rust
+// Standard input holds a record a line, 20 bytes: the rule's letter (b, h, r, e, t, p, w for bf16, half,
+// root, E, T, packed, widened), a space, the input, a space, the Rust's answer, a newline; both numbers as
+// 8 lower-case hex digits. `oracle/run target/staticlib --sample` made the file stdin from the Rust
 // alone.
 mod hex;
 mod record;
@@ -18,9 +18,9 @@ fn put(name: &[u8], count: u64) {
 }
 
 fn main() {
-    let mut text = [0u8; 131072];
+    let mut text = [0u8; 262144];
     let n = io::read_full(STDIN_FILENO, &mut text);
-    if n == 131072 {
+    if n == 262144 {
         io::write_all(STDOUT_FILENO, b"the input fills the buffer\n");
     }
     let counts = replay::replay(&text[..n]);
@@ -29,6 +29,8 @@ fn main() {
     put(b" root ", counts[2]);
     put(b" exp ", counts[3]);
     put(b" tanh ", counts[4]);
-    put(b" differ ", counts[5]);
+    put(b" pack ", counts[5]);
+    put(b" widen ", counts[6]);
+    put(b" differ ", counts[7]);
     io::write_all(STDOUT_FILENO, b"\n");
 }

@@ -1,6 +1,7 @@
 // One record: what its line says, and whether the rule's value is the Rust's.
 ghost use mathlib.Core.Path.{_≡_};
 ghost use Prim.Native.Nat.{_<_};
+ghost use Rattle.number_bf16_half_root.specs.Packed.{packed};
 ghost use Rattle.number_replay.specs.Records.{answerOf, placeOf, verdictFrom, verdictOf};
 use crate::hex::Word;
 
@@ -24,6 +25,23 @@ fn half(input: u32) -> Word
     }
 }
 
+fn pack(input: u32) -> u32
+    ensures { λ r. ⌜ r ≡ packed input ⌝ }
+{
+    number_bf16_half_root::packed::bf16_pack(input) as u32
+}
+
+// The letter w, 119: its input has 16 bits too.
+fn widen(input: u32) -> Word
+    ensures { λ r. ⌜ r ≡ answerOf 119 input ⌝ }
+{
+    if input < 0x1_0000 {
+        Word::Value(number_bf16_half_root::packed::bf16_widen(input as u16))
+    } else {
+        Word::Bad
+    }
+}
+
 fn answer(letter: u8, input: u32) -> Word
     ensures { λ r. ⌜ r ≡ answerOf letter input ⌝ }
 {
@@ -33,6 +51,8 @@ fn answer(letter: u8, input: u32) -> Word
         b'r' => Word::Value(number_bf16_half_root::root::root(input)),
         b'e' => Word::Value(number_exp_tanh::exp::exp(input)),
         b't' => Word::Value(number_exp_tanh::tanh::tanh(input)),
+        b'p' => Word::Value(pack(input)),
+        b'w' => widen(input),
         _ => Word::Bad,
     }
 }
@@ -77,7 +97,7 @@ pub fn judge(line: &[u8]) -> Verdict
 }
 
 fn rule_place(letter: u8) -> usize
-    ensures { λ r. ⌜ (r ≡ placeOf (Verdict.Same letter)) × (r < 6) ⌝ }
+    ensures { λ r. ⌜ (r ≡ placeOf (Verdict.Same letter)) × (r < 8) ⌝ }
 {
     match letter {
         b'b' => 0,
@@ -85,17 +105,19 @@ fn rule_place(letter: u8) -> usize
         b'r' => 2,
         b'e' => 3,
         b't' => 4,
-        _ => 5,
+        b'p' => 5,
+        b'w' => 6,
+        _ => 7,
     }
 }
 
 // Where a verdict is counted: the rules in the order of the report, then all that does not agree.
 pub fn place(v: Verdict) -> usize
-    ensures { λ r. ⌜ (r ≡ placeOf v) × (r < 6) ⌝ }
+    ensures { λ r. ⌜ (r ≡ placeOf v) × (r < 8) ⌝ }
 {
     match v {
         Verdict::Same(letter) => rule_place(letter),
-        Verdict::Differs(_) => 5,
-        Verdict::Bad => 5,
+        Verdict::Differs(_) => 7,
+        Verdict::Bad => 7,
     }
 }

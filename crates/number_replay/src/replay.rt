@@ -42,10 +42,10 @@ fn report(n: u64, line: &[u8], v: Verdict) {
     }
 }
 
-pub fn replay(text: &[u8]) -> [u64; 6]
-    ensures { λ r. ⌜ r ≡ tally (replicate 6 0) (lines (now (text .entry))) ⌝ }
+pub fn replay(text: &[u8]) -> [u64; 8]
+    ensures { λ r. ⌜ r ≡ tally (replicate 8 0) (lines (now (text .entry))) ⌝ }
 {
-    let mut counts = [0u64; 6];
+    let mut counts = [0u64; 8];
     let mut at = 0;
     let mut n: u64 = 0;
     while at < text.len() {

@@ -22,6 +22,12 @@ exp-requires c κs = search needs
 tanh-requires : tie.Need-tanh-requires
 tanh-requires c κs = search needs
 
+pack-requires : tie.Need-pack-requires
+pack-requires c κs = search needs
+
+widen-requires : tie.Need-widen-requires
+widen-requires c κs = search needs
+
 returns : tie.Need-returns
 unfolding answerOf
 returns c = rw (c .before .match .keys1) (ap Value (c .bf16 .ensures))
@@ -44,9 +50,18 @@ returns-5 c = rw (c .before .match .keys5) (ap Value (c .tanh .ensures))
 
 returns-6 : tie.Need-returns-6
 unfolding answerOf
-returns-6 c =
+returns-6 c = rw (c .before .match .keys6) (ap Value (c .pack .ensures))
+
+returns-7 : tie.Need-returns-7
+unfolding answerOf
+returns-7 c = rw (c .before .match .keys7) (c .widen .ensures)
+
+returns-8 : tie.Need-returns-8
+unfolding answerOf
+returns-8 c =
     let o = c .match .rest in
-    simp (ne-eqb _ _ (o .0 .0 .0 .0 .1), ne-eqb _ _ (o .0 .0 .0 .1), ne-eqb _ _ (o .0 .0 .1), ne-eqb _ _ (o .0 .1), ne-eqb _ _ (o .1))
+    let p = o .0 .0 .0 in
+    simp (ne-eqb _ _ (p .0 .0 .0 .1), ne-eqb _ _ (p .0 .0 .1), ne-eqb _ _ (p .0 .1), ne-eqb _ _ (p .1), ne-eqb _ _ (o .0 .0 .1), ne-eqb _ _ (o .0 .1), ne-eqb _ _ (o .1))
 
 pub answer-spec : {M : Type 1} → statement M
 answer-spec =
@@ -57,9 +72,13 @@ answer-spec =
     root-requires
     exp-requires
     tanh-requires
+    pack-requires
+    widen-requires
     returns
     returns-2
     returns-3
     returns-4
     returns-5
-    returns-6)
+    returns-6
+    returns-7
+    returns-8)

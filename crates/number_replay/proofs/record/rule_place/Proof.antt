@@ -27,9 +27,18 @@ returns-5 c = (rw (c .match .keys5), omega arith)
 
 returns-6 : tie.Need-returns-6
 unfolding placeOf
-returns-6 c =
+returns-6 c = (rw (c .match .keys6), omega arith)
+
+returns-7 : tie.Need-returns-7
+unfolding placeOf
+returns-7 c = (rw (c .match .keys7), omega arith)
+
+returns-8 : tie.Need-returns-8
+unfolding placeOf
+returns-8 c =
     let o = c .match .rest in
-    (simp (ne-eqb _ _ (o .0 .0 .0 .0 .1), ne-eqb _ _ (o .0 .0 .0 .1), ne-eqb _ _ (o .0 .0 .1), ne-eqb _ _ (o .0 .1), ne-eqb _ _ (o .1)), omega arith)
+    let p = o .0 .0 .0 in
+    (simp (ne-eqb _ _ (p .0 .0 .0 .1), ne-eqb _ _ (p .0 .0 .1), ne-eqb _ _ (p .0 .1), ne-eqb _ _ (p .1), ne-eqb _ _ (o .0 .0 .1), ne-eqb _ _ (o .0 .1), ne-eqb _ _ (o .1)), omega arith)
 
 pub rule-place-spec : {M : Type 1} → statement M
-rule-place-spec = tie.close (tie.spec returns returns-2 returns-3 returns-4 returns-5 returns-6)
+rule-place-spec = tie.close (tie.spec returns returns-2 returns-3 returns-4 returns-5 returns-6 returns-7 returns-8)

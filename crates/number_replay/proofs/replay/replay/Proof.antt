@@ -14,7 +14,7 @@ use Rattle.number_replay.proofs.replay.replay.Statement.{statement}
 use Rattle.number_replay.proofs.replay.replay.Tie as tie
 
 abbrev Inv-loop : tie.InvT-loop
-Inv-loop text counts₀ at₀ n₀ counts at n = (at ≤ length text) × (n ≤ at) × (tally counts (lines (drop at text)) ≡ tally (replicate 6 0) (lines text)) × ((k : ℕ) → getD counts k 0 ≤ at)
+Inv-loop text counts₀ at₀ n₀ counts at n = (at ≤ length text) × (n ≤ at) × (tally counts (lines (drop at text)) ≡ tally (replicate 8 0) (lines text)) × ((k : ℕ) → getD counts k 0 ≤ at)
 
 abbrev μ-loop : tie.MeasureT-loop
 μ-loop text counts₀ at₀ n₀ counts at n = length text - at
@@ -46,7 +46,7 @@ rest : (s : List ℕ) (at : ℕ) → take (length s - at) (drop at s) ≡ drop a
 rest s at = take-all (length s - at) (drop at s) (simp length-drop (le-refl (length s - at)))
 
 loop-holds : tie.Need-loop-holds Inv-loop μ-loop
-loop-holds c = (search needs, search needs, search needs, zeros 6)
+loop-holds c = (search needs, search needs, search needs, zeros 8)
 
 sub-line-len : tie.Need-sub-line-len Inv-loop μ-loop
 sub-line-len c = search needs
