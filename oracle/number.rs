@@ -1,12 +1,14 @@
-//! Compares libnumber with the Rust on the five number rules, bit for bit.
+//! Compares libnumber with the Rust on the five number rules and on packed bf16, bit for bit.
 //!
 //! `half_to_f32` and `truncate_to_bf16_inplace` are the Rust's own, cut from its source; the root is
 //! `f32::sqrt`. E and T stand in for the Rust's calls of `exp` and `tanh`, so there is nothing to cut:
 //! they follow the rules' text (rules.rs). Of every pattern that is compared it is asked too that T is 0 of the zeros
 //! alone, of a subnormal that subnormal, and that 1 + T, which is what gelu takes of it, is what it was with T of 01.
 //!
-//!     number            every half; of the other rules the edges and a random run with a fixed seed
-//!     number --all      every half; of the other rules all 2^32 patterns, on two threads
+//! What is packed is the upper half of the Rust's own rounded value, and widened the value that it is the half of.
+//!
+//!     number            every half and every packed value; of the others the edges and a random run with a fixed seed
+//!     number --all      every half and every packed value; of the others all 2^32 patterns, on two threads
 //!     number --sample   prints the Rust's answers as crates/number_replay/stdin holds them
 //!     number --errors   prints how far T is from the hyperbolic tangent, by decade (errors.rs)
 
@@ -26,6 +28,10 @@ extern "C" {
     fn kz_root(x: u32) -> u32;
     fn kz_exp(x: u32) -> u32;
     fn kz_tanh(x: u32) -> u32;
+    fn kz_bf16_pack(x: u32) -> u16;
+    fn kz_bf16_widen(b: u16) -> u32;
+    fn kz_bf16_pack_all(x: *const u32, x_len: usize, out: *mut u16, out_len: usize) -> usize;
+    fn kz_bf16_widen_all(b: *const u16, b_len: usize, out: *mut u32, out_len: usize) -> usize;
 }
 
 /// Random patterns of each rule but half in the default run.
@@ -135,7 +141,25 @@ const TANH: Rule = Rule {
     busy: |u| between(u, -10.0, 10.0),
 };
 
-const WIDE: [Rule; 4] = [BF16, ROOT, EXP, TANH];
+const PACK: Rule = Rule {
+    name: "pack",
+    letter: 'p',
+    ours: |x| unsafe { u32::from(kz_bf16_pack(x)) },
+    rust: |x| bf16(x) >> 16,
+    busy: |u| u,
+};
+
+const WIDEN: Rule = Rule {
+    name: "widen",
+    letter: 'w',
+    ours: |x| unsafe { kz_bf16_widen(x as u16) },
+    rust: |x| x << 16,
+    busy: |u| u & 0xFFFF,
+};
+
+const WIDE: [Rule; 5] = [BF16, ROOT, EXP, TANH, PACK];
+/// Those of 16 bits.
+const SHORT: [Rule; 2] = [HALF, WIDEN];
 
 fn between(u: u32, low: f64, high: f64) -> u32 {
     ((low + (high - low) * (f64::from(u) / 4_294_967_296.0)) as f32).to_bits()
@@ -299,12 +323,42 @@ impl Tally {
     }
 }
 
-fn every_half() -> Tally {
+fn every_short(rule: &Rule) -> Tally {
     let mut tally = Tally::default();
     for x in 0..=0xFFFF {
-        tally.compare(&HALF, x);
+        tally.compare(rule, x);
     }
     tally
+}
+
+/// Packs and widens slices of every two lengths up to some, and of a few longer ones, at every place in a line of memory:
+/// the values, the count, and what stands before and behind them. How many calls were made, and how many differ.
+fn slices() -> (u64, u64) {
+    let mut random = Random::new();
+    let patterns: Vec<u32> = (0..5000).map(|_| random.next()).collect();
+    let packed: Vec<u16> = patterns.iter().map(|x| (bf16(*x) >> 16) as u16).collect();
+    let lengths = || (0..70).chain([255, 256, 257, 1000, 4095, 4096, 4097]);
+    let (mut calls, mut differ) = (0, 0);
+    for (len, room) in lengths().flat_map(|len| lengths().map(move |room| (len, room))) {
+        let (from, to) = (random.next() as usize % 33, random.next() as usize % 33);
+        let count = len.min(room);
+        let mut narrow = vec![0xA5A5u16; to + room + 33];
+        let mut right = narrow.clone();
+        right[to..to + count].copy_from_slice(&packed[from..from + count]);
+        let x = &patterns[from..from + len];
+        let found = unsafe { kz_bf16_pack_all(x.as_ptr(), len, narrow[to..].as_mut_ptr(), room) };
+        differ += u64::from(found != count || narrow != right);
+        let mut wide = vec![0xA5A5_5A5Au32; to + room + 33];
+        let mut right = wide.clone();
+        for (right, b) in right[to..to + count].iter_mut().zip(&packed[from..]) {
+            *right = u32::from(*b) << 16;
+        }
+        let b = &packed[from..from + len];
+        let found = unsafe { kz_bf16_widen_all(b.as_ptr(), len, wide[to..].as_mut_ptr(), room) };
+        differ += u64::from(found != count || wide != right);
+        calls += 2;
+    }
+    (calls, differ)
 }
 
 fn edges_and_random(rule: &Rule) -> Tally {
@@ -341,19 +395,31 @@ fn every_pattern(rule: &Rule) -> Tally {
 }
 
 /// Prints the differences and the counts, and says whether nothing differs.
-fn report(half: Tally, wide: [Tally; 4]) -> bool {
-    let [bf16, root, exp, tanh] = &wide;
-    let all = [&half, bf16, root, exp, tanh];
-    let differ: u64 = all.iter().map(|t| t.differ).sum();
+fn report(short: [Tally; 2], wide: [Tally; 5]) -> bool {
+    let (calls, other) = slices();
+    let [half, widen] = &short;
+    let [bf16, root, exp, tanh, pack] = &wide;
+    let all = [half, bf16, root, exp, tanh, pack, widen];
+    let differ = all.iter().map(|t| t.differ).sum::<u64>() + other;
     for d in all.iter().flat_map(|t| &t.first).take(SHOWN) {
         println!(
             "{} {:08x}: ours {:08x}, the Rust's {:08x}",
             d.rule, d.input, d.ours, d.rust
         );
     }
+    if other > 0 {
+        println!("slices: {other} of {calls} differ");
+    }
     println!(
-        "number: half {}, bf16 {}, root {}, exp {}, tanh {} compared with the Rust; {} differ",
-        half.compared, bf16.compared, root.compared, exp.compared, tanh.compared, differ
+        "number: half {}, bf16 {}, root {}, exp {}, tanh {}, pack {}, widen {}, {calls} slices compared with the Rust; \
+         {differ} differ",
+        half.compared,
+        bf16.compared,
+        root.compared,
+        exp.compared,
+        tanh.compared,
+        pack.compared,
+        widen.compared
     );
     differ == 0
 }
@@ -386,15 +452,17 @@ fn sample() -> std::io::Result<()> {
     print(&ROOT, special(), powers())?;
     let both = || [steps(), powers()].concat();
     print(&EXP, special(), both())?;
-    print(&TANH, special(), both())
+    print(&TANH, special(), both())?;
+    print(&PACK, special(), powers())?;
+    print(&WIDEN, Vec::new(), half_edges())
 }
 
 fn main() {
     let words: Vec<String> = std::env::args().skip(1).collect();
     let words: Vec<&str> = words.iter().map(String::as_str).collect();
     let same = match words[..] {
-        [] => report(every_half(), WIDE.each_ref().map(edges_and_random)),
-        ["--all"] => report(every_half(), WIDE.each_ref().map(every_pattern)),
+        [] => report(SHORT.each_ref().map(every_short), WIDE.each_ref().map(edges_and_random)),
+        ["--all"] => report(SHORT.each_ref().map(every_short), WIDE.each_ref().map(every_pattern)),
         ["--sample"] => sample().is_ok(),
         ["--errors"] => {
             errors::print(TANH.ours);
