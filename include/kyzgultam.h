@@ -210,8 +210,8 @@ struct kz_forward_report kz_forward(struct kz_encoder_settings settings, const f
 struct kz_lengths_report kz_lengths(struct kz_encoder_settings settings, size_t grid_h, size_t grid_w);
 
 /*
- * The number rules, on bit patterns (libnumber.a). Each takes any pattern and returns; none writes anything. The
- * floating-point state is owed as above.
+ * The number rules, on bit patterns (libnumber.a). Each takes any pattern and returns; the first five and pack and
+ * widen write nothing. The floating-point state is owed as above.
  */
 
 /* An f32 rounded to bf16 (its upper 16 bits), as an f32. A NaN may become -0, as the rule says. */
@@ -228,6 +228,20 @@ uint32_t kz_exp(uint32_t x);
 
 /* Rule T, the hyperbolic tangent. A NaN gives 0x7FC00000. */
 uint32_t kz_tanh(uint32_t y);
+
+/* bf16 in 16 bits: the upper half of what kz_bf16 gives. */
+uint16_t kz_bf16_pack(uint32_t x);
+
+/* And back: the pattern whose upper half it is, which is kz_bf16(x) of a packed x. Packing it gives b again. */
+uint32_t kz_bf16_widen(uint16_t b);
+
+/*
+ * The same of the first values, as many as both lengths allow; that count is returned, and what lies behind it in the
+ * output is kept. As above each length is true of its buffer, the output does not overlap the input, and a pointer is
+ * null only where its length is 0.
+ */
+size_t kz_bf16_pack_all(const uint32_t *x, size_t x_len, uint16_t *out, size_t out_len);
+size_t kz_bf16_widen_all(const uint16_t *b, size_t b_len, uint32_t *out, size_t out_len);
 
 #ifdef __cplusplus
 }

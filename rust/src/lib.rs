@@ -60,7 +60,8 @@ mod settings;
 mod tiles;
 
 pub use calls::{forward, patch, pixtral_preprocess, restore, Patches, Picture, PixtralEncoder};
-pub use number::{bf16, exp, half_to_f32, root, tanh};
+pub use number::{bf16, bf16_pack, bf16_pack_all, bf16_widen, bf16_widen_all};
+pub use number::{exp, half_to_f32, root, tanh};
 pub use refusal::Refusal;
 pub use salvage::{salvage, BadSample, Salvaged};
 pub use settings::{EncoderSettings, Lengths, PictureSettings};

@@ -1,6 +1,6 @@
-//! The five number rules, on floats. Each takes any value.
+//! The five number rules, on floats, and bf16 packed to 16 bits. Each takes any value.
 //!
-//! Safe, since the functions of libnumber.a take any pattern and touch no memory.
+//! Safe, since the functions of libnumber.a take any pattern and touch no memory but the slices that they are lent.
 
 use crate::face;
 
@@ -59,4 +59,46 @@ pub fn exp(x: f32) -> f32 {
 /// ```
 pub fn tanh(y: f32) -> f32 {
     by(face::kz_tanh, y)
+}
+
+/// The 16 bits that [`bf16`] of a float keeps: its upper half.
+///
+/// ```
+/// assert_eq!(kyzgultam::bf16_pack(1.0 + 3.0 / 256.0), 0x3F82);
+/// ```
+pub fn bf16_pack(x: f32) -> u16 {
+    unsafe { face::kz_bf16_pack(x.to_bits()) }
+}
+
+/// The float whose upper half these 16 bits are; of [`bf16_pack`]'s the rounded float. Proved: packing it gives the
+/// bits back.
+///
+/// ```
+/// assert_eq!(kyzgultam::bf16_widen(kyzgultam::bf16_pack(0.1)), kyzgultam::bf16(0.1));
+/// ```
+pub fn bf16_widen(bits: u16) -> f32 {
+    f32::from_bits(unsafe { face::kz_bf16_widen(bits) })
+}
+
+/// Packs the first floats, as many as both slices have, and returns how many. The rest of `out` is kept.
+///
+/// ```
+/// let mut packed = [7; 3];
+/// assert_eq!(kyzgultam::bf16_pack_all(&[1.0, -2.0], &mut packed), 2);
+/// assert_eq!(packed, [0x3F80, 0xC000, 7]);
+/// ```
+pub fn bf16_pack_all(x: &[f32], out: &mut [u16]) -> usize {
+    // An f32 and its pattern have one size and one alignment, and every pattern is one of both.
+    unsafe { face::kz_bf16_pack_all(x.as_ptr().cast(), x.len(), out.as_mut_ptr(), out.len()) }
+}
+
+/// Widens the first packed values, as many as both slices have, and returns how many. The rest of `out` is kept.
+///
+/// ```
+/// let mut floats = [7.0; 3];
+/// assert_eq!(kyzgultam::bf16_widen_all(&[0x3F80, 0xC000], &mut floats), 2);
+/// assert_eq!(floats, [1.0, -2.0, 7.0]);
+/// ```
+pub fn bf16_widen_all(bits: &[u16], out: &mut [f32]) -> usize {
+    unsafe { face::kz_bf16_widen_all(bits.as_ptr(), bits.len(), out.as_mut_ptr().cast(), out.len()) }
 }

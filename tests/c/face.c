@@ -794,6 +794,22 @@ static void number(void) {
     EXPECT(kz_exp(0xFFFFFFFF) == 0x7FC00000 && kz_tanh(0x7F800001) == 0x7FC00000);
 }
 
+static void packed(void) {
+    EXPECT(kz_bf16_pack(0x3F808000) == 0x3F80 && kz_bf16_pack(0x3F818000) == 0x3F82 && kz_bf16_pack(0x7FFFFFFF) == 0x8000);
+    EXPECT(kz_bf16_widen(0x3F82) == 0x3F820000 && kz_bf16_widen(0xFF80) == 0xFF800000);
+    for (size_t len = 0; len < 40; len++)
+        for (size_t room = 0; room < 40; room++) {
+            uint32_t x[40], wide[40];
+            uint16_t narrow[40];
+            size_t count = len < room ? len : room;
+            for (size_t i = 0; i < 40; i++) x[i] = (uint32_t)(i * 2654435761u + len * 40503u), narrow[i] = 7, wide[i] = 9;
+            EXPECT(kz_bf16_pack_all(len ? x : NULL, len, room ? narrow : NULL, room) == count);
+            for (size_t i = 0; i < 40; i++) EXPECT(narrow[i] == (i < count ? kz_bf16(x[i]) >> 16 : 7));
+            EXPECT(kz_bf16_widen_all(len ? narrow : NULL, len, room ? wide : NULL, room) == count);
+            for (size_t i = 0; i < 40; i++) EXPECT(wide[i] == (i < count ? kz_bf16(x[i]) : 9));
+        }
+}
+
 int main(void) {
     for (size_t i = 0; i < FLOATS; i++) rgb[i] = (uint8_t)(i * 89 + 17);
     preprocess();
@@ -808,6 +824,7 @@ int main(void) {
     forward();
     lengths();
     number();
+    packed();
     if (!failed) puts("face.c: every call and every number is as the header says");
     return failed;
 }
