@@ -454,6 +454,7 @@ fn numpy_reads_what_is_written_and_writes_what_is_read() {
     let rgb = sweep(&folder, "a.ppm", 8, 12, 1);
     folder.done(&format!("patches a.ppm -o . {LIST}"));
     folder.done(&format!("encode a.ppm -o . {LIST}"));
+    folder.done(&format!("encode a.ppm -o half --bf16 {LIST}"));
     let script = "\
 import numpy, sys
 patches, tokens = numpy.load('a.patches.npy'), numpy.load('a.tokens.npy')
@@ -467,6 +468,13 @@ mean, std = (0.48145466, 0.4578275, 0.40821073), (0.26862954, 0.26130258, 0.2757
 for c in range(3):
     value = patches[1, 4].reshape(3, 2, 2)[c, 1, 0] * std[c] + mean[c]
     assert round(float(value) * 255) == rgb[3, 8, c], (c, value)
+# The bits are bf16's, and README's line reads them as floats.
+packed = numpy.load('half/a.tokens.npy')
+assert packed.dtype == numpy.dtype('<u2') and packed.shape == tokens.shape
+bits = tokens.view('<u4')
+assert ((packed.astype('<u4') << 16) == ((bits + 0x7FFF + (bits >> 16 & 1)) & 0xFFFF0000)).all()
+wide = (numpy.load('half/a.tokens.npy').astype('<u4') << 16).view('<f4')
+assert wide.dtype == numpy.dtype('<f4') and numpy.allclose(wide, tokens, rtol=1 / 256)
 numpy.save('same.npy', patches)
 numpy.save('wide.npy', patches.astype('<f8'))
 numpy.save('big.npy', patches.astype('>f4'))

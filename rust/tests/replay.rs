@@ -6,8 +6,8 @@
 mod sample;
 
 use kyzgultam::{
-    bf16, exp, forward, half_to_f32, pixtral_preprocess, preprocess_tile, restore, restore_tile, root, salvage, tanh,
-    BadSample, EncoderSettings, PictureSettings, Refusal, Tile,
+    bf16, bf16_pack, bf16_widen, exp, forward, half_to_f32, pixtral_preprocess, preprocess_tile, restore, restore_tile,
+    root, salvage, tanh, BadSample, EncoderSettings, PictureSettings, Refusal, Tile,
 };
 use sample::{damage, hash, marks, states, MARKS};
 
@@ -66,14 +66,16 @@ fn number_rules() {
         let bits = |at: usize| u32::from_str_radix(&line[at..at + 8], 16).unwrap();
         let x = f32::from_bits(bits(2));
         let found = match &line[..1] {
-            "b" => bf16(x),
-            "h" => half_to_f32(bits(2) as u16),
-            "r" => root(x),
-            "e" => exp(x),
-            "t" => tanh(x),
+            "b" => bf16(x).to_bits(),
+            "h" => half_to_f32(bits(2) as u16).to_bits(),
+            "r" => root(x).to_bits(),
+            "e" => exp(x).to_bits(),
+            "t" => tanh(x).to_bits(),
+            "p" => u32::from(bf16_pack(x)),
+            "w" => bf16_widen(bits(2) as u16).to_bits(),
             _ => panic!("{line}"),
         };
-        assert_eq!(found.to_bits(), bits(11), "{line}");
+        assert_eq!(found, bits(11), "{line}");
     }
 }
 

@@ -4,8 +4,9 @@ use crate::fail::Fail;
 use crate::given::Given;
 use crate::model::{refused_settings, Lent, Model, Random};
 use crate::{room, say};
-use kyzgultam::{BadSample, PictureSettings};
+use kyzgultam::{BadSample, PictureSettings, Refusal};
 use std::fs;
+use std::hint::black_box;
 use std::io::{stderr, Write};
 use std::process::Command;
 use std::time::{Duration, Instant};
@@ -16,22 +17,23 @@ kz bench [--size HxW] [--weights FILE] [--tables FILE] [--settings LIST]
 
 The first form runs the Rust (on one thread, with E and T) and the port on
 the same inputs in the same run: preprocess, restore, and forward of a model
-of real width at grids from 4x4 to 32x32. It prints the times, the ratios,
-each stage's share, and how the time grows from 64 to 1024 tokens; one bit
-that differs ends it with status 1. That takes some five minutes; --quick has
-small grids alone and takes one. It is oracle/run of the repository where kz
-was built, with the archives that kz was linked with. The Rust's source is
-../shared/docs/src from the repository's root, or KZ_RUST_SRC. Behind restore
-a tile is timed, the first of a sweep of 3000x2000, in turn with a picture of
-the same 1540x1540 pixels, which needs no resizing; and salvage of 1540x1540,
-with no sample bad and with every one, in turn with restore of the good ones.
+of real width at grids from 4x4 to 32x32. It prints times, ratios, each stage's
+share, and how the time grows from 64 to 1024 tokens; one bit that differs ends
+it with status 1. That takes some five minutes; --quick has small grids alone
+and takes one. It is oracle/run of the repository where kz was built, with the
+archives that kz was linked with; the Rust's source is ../shared/docs/src from
+its root, or KZ_RUST_SRC. Behind restore a tile is timed, the first of a sweep
+of 3000x2000, in turn with a picture of the same 1540x1540 pixels, which needs
+no resizing; salvage of 1540x1540, with no sample bad and with every one, in
+turn with restore of the good ones; and bf16 packed and widened, in turn with a
+copy of as many bytes.
 
 The second form, and the first where the source or rustc is missing, times
 the port alone on noise, on one core: the best of the runs that fit into half
 a second, at least one. `share` is the part of a sweep's time. Without --size
 three sizes are timed, the largest without forward. The model is as for
-`kz encode`. Then tile and salvage are timed as above and, last, restore of the
-largest by three choices of mean and deviation, all whatever --settings say:
+`kz encode`. Then tile, salvage and bf16 are timed as above and, last, restore
+of the largest by three choices of mean and deviation, whatever --settings say:
 the Rust's, 0.2 and 0.25 as for grey ultrasound, and 0.2 and 1e38, by which a
 byte has to be found by halving.
 ";
@@ -70,6 +72,8 @@ fn beside_the_rust(quick: bool) -> Result<bool, Fail> {
             tiles()?;
             say(format_args!(""));
             salvages()?;
+            say(format_args!(""));
+            packs()?;
             say(format_args!(""));
         }
         let status = Command::new(&oracle).arg(ARCHIVES).args(words).status();
@@ -117,6 +121,8 @@ fn alone(given: &Given) -> Result<(), Fail> {
     tiles()?;
     say(format_args!(""));
     salvages()?;
+    say(format_args!(""));
+    packs()?;
     let (height, width) = sizes[sizes.len() - 1];
     choices(&s.picture, height, width)
 }
@@ -210,6 +216,49 @@ fn salvages() -> Result<(), Fail> {
         let right = if bad == 0 { saved == rgb } else { saved.iter().all(|byte| *byte == 0) };
         if found != Ok(bad) || !right || back != rgb {
             return Err(Fail::Refused("salvage does not give the picture back: this is a fault, report it".into()));
+        }
+    }
+    Ok(())
+}
+
+/// Times packing and widening, each in turn with a plain copy that reads and writes as many bytes.
+fn packs() -> Result<(), Fail> {
+    say(format_args!("{:<24}{:>10}{:>10}", "bf16, GB/s", "bf16", "copy"));
+    for (size, floats) in [("32 KiB", 1 << 13), ("64 MiB", 1 << 24)] {
+        let advice = "try it again where there is more";
+        let mut wide = room::empty(floats, "floats", advice).map_err(Fail::Refused)?;
+        wide.extend((0..floats as u32).map(|i| f32::from_bits(0x3F80_0000 | (i.wrapping_mul(0x9E37_79B9) >> 9))));
+        let mut packed = room::zeros(floats, "packed floats", advice).map_err(Fail::Refused)?;
+        let mut back = room::zeros(floats, "floats widened", advice).map_err(Fail::Refused)?;
+        let bytes = 3 * floats;
+        let from: Vec<u8> = room::zeros(bytes, "bytes to copy", advice).map_err(Fail::Refused)?;
+        let mut to = room::zeros(bytes, "a copy", advice).map_err(Fail::Refused)?;
+        let mut copy = || {
+            to.copy_from_slice(black_box(&from));
+            black_box(&to);
+            Ok::<(), Refusal>(())
+        };
+        let pack = in_turn(
+            || {
+                black_box(kyzgultam::bf16_pack_all(black_box(&wide), &mut packed));
+                Ok(())
+            },
+            &mut copy,
+        );
+        let widen = in_turn(
+            || {
+                black_box(kyzgultam::bf16_widen_all(black_box(&packed), &mut back));
+                Ok(())
+            },
+            &mut copy,
+        );
+        for (name, times) in [("pack", pack), ("widen", widen)] {
+            let [ours, copied] = times.map_err(refused_settings)?.map(|t| 2.0 * bytes as f64 / t.as_secs_f64() / 1e9);
+            let name = format!("{name} of {size}");
+            say(format_args!("{name:<24}{ours:>10.2}{copied:>10.2}   {:.3} times as fast", ours / copied));
+        }
+        if wide.iter().zip(&back).any(|(x, y)| kyzgultam::bf16(*x).to_bits() != y.to_bits()) {
+            return Err(Fail::Refused("widening does not give the rounded floats: this is a fault, report it".into()));
         }
     }
     Ok(())

@@ -5,6 +5,7 @@ use crate::given::Given;
 use crate::log::{self, Log};
 use crate::model::{allowed, refused_settings, Lent, Model};
 use crate::netpbm::Picture;
+use crate::npy::Element;
 use crate::progress::Progress;
 use crate::shown::shown;
 use crate::source::Source;
@@ -17,15 +18,15 @@ use std::path::{Path, PathBuf};
 
 pub const ENCODE: &str = "\
 kz encode SWEEP.ppm .. -o DIR [--tiles] [--weights FILE] [--tables FILE]
-          [--settings LIST] [--log FILE] [--force | --skip-existing]
+          [--settings LIST] [--bf16] [--log FILE] [--force | --skip-existing]
 
 Writes the token vectors of each SWEEP (P5 or P6) to DIR/SWEEP.tokens.npy,
 an array of NumPy: rows x columns x text; with --tiles those of each tile, not
-resized (this and --log: `kz patches --help`). Weights and tables are plain
-floats: f32, little-endian, in the order of include/kyzgultam.h; of tables all
-cosines, then all sines. Without --weights they come from a seed; without
---tables they are those that the Rust makes for theta 10000. A list that was
-cut off goes on with --skip-existing: files that are there count as done.
+resized (this and --log: `kz patches --help`); with --bf16 rounded to bf16, as
+'<u2', in half the room. Weights and tables are plain floats: f32, little-
+endian, in the order of include/kyzgultam.h; of tables all cosines, then all
+sines. Without --weights they come from a seed, without --tables they are the
+Rust's for theta 10000. --skip-existing goes on with a list that was cut off.
 
 --settings is a list as patch=14,image=560; what it leaves out is built in:
   patch 14 (1..32)   hidden 64 (4..2048)  layers 2 (0..48)
@@ -395,6 +396,15 @@ impl List<'_> {
         self.folder.join(name)
     }
 
+    /// What the files hold.
+    fn element(&self) -> Element {
+        if self.given.bf16 {
+            Element::Bf16
+        } else {
+            Element::Float
+        }
+    }
+
     /// Does the work that writes a file, unless that is there and is taken for done.
     fn unless_done(
         &self,
@@ -404,7 +414,7 @@ impl List<'_> {
         work: impl FnOnce() -> Result<String, Fail>,
     ) -> Result<String, Fail> {
         match files::vacant(out, self.given.force).and_then(|()| work()) {
-            Err(Fail::Taken(_)) if self.given.skip => finished(out, grid, floats),
+            Err(Fail::Taken(_)) if self.given.skip => finished(out, grid, floats, self.element()),
             done => done,
         }
     }
@@ -420,11 +430,15 @@ impl List<'_> {
     ) -> Result<String, Fail> {
         let [h, w, len] = vectors.shape(grid);
         let floats = vectors.of(patches, grid).map_err(fail)?;
+        let element = self.element();
         files::write(out, self.given.force, |to| {
-            npy::head(to, [h, w, len])?;
-            files::put(to, floats)
+            npy::head(to, element, [h, w, len])?;
+            match element {
+                Element::Float => files::put(to, floats),
+                Element::Bf16 => files::put_bf16(to, floats),
+            }
         })?;
-        Ok(format!("{}: {h}x{w} {} of {len} floats", shown(out), V::NAME))
+        Ok(format!("{}: {h}x{w} {} of {len} {}", shown(out), V::NAME, element.name()))
     }
 
     /// Does the work for each sweep. One that is refused is named, and the others are still done, unless nothing can be
@@ -492,9 +506,9 @@ const OTHER: &str = "give it another name";
 
 /// What is said of a file that is there and is skipped: one of another form is not taken for done. Of a tile the grid
 /// is known too.
-fn finished(out: &Path, grid: Option<(usize, usize)>, floats: usize) -> Result<String, Fail> {
+fn finished(out: &Path, grid: Option<(usize, usize)>, floats: usize, element: Element) -> Result<String, Fail> {
     let unlike = |words: String| Fail::file(out, format!("was not skipped: it {words}"));
-    let [h, w, found] = npy::shape(&mut Source::open(out)?).map_err(unlike)?;
+    let [h, w, found] = npy::shape(&mut Source::open(out)?, element).map_err(unlike)?;
     if found != floats {
         let words = format!("has vectors of {found} floats, and these --settings give {floats}");
         return Err(unlike(format!("{words}; give another -o")));

@@ -22,6 +22,20 @@ pub fn put(to: &mut dyn Write, floats: &[f32]) -> io::Result<()> {
     Ok(())
 }
 
+/// Writes floats as bf16, packed to little-endian u16.
+pub fn put_bf16(to: &mut dyn Write, floats: &[f32]) -> io::Result<()> {
+    let mut packed = [0; 1024];
+    let mut bytes = [0; 2048];
+    for some in floats.chunks(1024) {
+        let count = kyzgultam::bf16_pack_all(some, &mut packed);
+        for (two, value) in bytes.chunks_exact_mut(2).zip(&packed[..count]) {
+            two.copy_from_slice(&value.to_le_bytes());
+        }
+        to.write_all(&bytes[..2 * count])?;
+    }
+    Ok(())
+}
+
 pub fn folder(folder: &Path) -> Result<(), Fail> {
     fs::create_dir_all(folder).map_err(|e| Fail::file(folder, format!("this folder cannot be made: {e}")))
 }

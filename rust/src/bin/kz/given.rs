@@ -8,7 +8,7 @@ use std::os::unix::ffi::OsStrExt;
 use std::path::PathBuf;
 
 /// The options without a value.
-const BARE: [&str; 5] = ["--all", "--force", "--quick", "--skip-existing", "--tiles"];
+const BARE: [&str; 6] = ["--all", "--bf16", "--force", "--quick", "--skip-existing", "--tiles"];
 
 /// Whether a word is an option, known or not. A single - is a name.
 fn dashed(word: &OsStr) -> bool {
@@ -45,6 +45,7 @@ fn value_of(name: &str, value: Option<&OsStr>) -> Result<OsString, Fail> {
 pub struct Given {
     pub files: Vec<PathBuf>,
     pub all: bool,
+    pub bf16: bool,
     pub force: bool,
     pub quick: bool,
     pub skip: bool,
@@ -63,6 +64,7 @@ impl Given {
                 given.files.push(PathBuf::from(word));
             } else if BARE.iter().any(|bare| word == bare && known.contains(bare)) {
                 given.all |= word == "--all";
+                given.bf16 |= word == "--bf16";
                 given.force |= word == "--force";
                 given.quick |= word == "--quick";
                 given.skip |= word == "--skip-existing";

@@ -101,7 +101,7 @@ const OWN: &str = "give the --settings that the sweep was cut with";
 fn join(file: &Path, index: usize, name: &str, settings: &PictureSettings, sweep: &mut Picture) -> Result<(), Fail> {
     let tile = settings.tile(sweep.height, sweep.width, index).map_err(refused_settings)?;
     let mut source = Source::open(file)?;
-    let [h, w, depth] = npy::shape(&mut source).map_err(|why| Fail::file(file, why))?;
+    let [h, w, depth] = npy::shape(&mut source, npy::Element::Float).map_err(|why| Fail::file(file, why))?;
     let right = [tile.grid_h, tile.grid_w, tile.floats / (tile.grid_h * tile.grid_w)];
     let unlike = |found: String| {
         let of = format!("tile {name} of a sweep of {}x{} has {}x{}", sweep.height, sweep.width, right[0], right[1]);

@@ -64,7 +64,7 @@ const COMMANDS: [Command; 7] = [
     (
         "encode",
         encode::ENCODE,
-        &["-o", "--tiles", "--weights", "--tables", "--settings", "--log", "--force", "--skip-existing"],
+        &["-o", "--tiles", "--weights", "--tables", "--settings", "--bf16", "--log", "--force", "--skip-existing"],
         encode::encode,
     ),
     (

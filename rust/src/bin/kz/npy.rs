@@ -1,17 +1,51 @@
-//! NumPy's .npy, version 1.0: little-endian f32 in C order, of three sizes. It says its own shape.
+//! NumPy's .npy, version 1.0: little-endian f32, or bf16 as u16, in C order, of three sizes. It says which, and its shape.
 
 use crate::source::Source;
 use std::io::{self, Read, Write};
 
 pub type Shape = [usize; 3];
 
+/// What a file holds.
+#[derive(Clone, Copy, Debug, PartialEq, Eq)]
+pub enum Element {
+    Float,
+    /// bf16 packed to 16 bits, for which NumPy has no type of its own.
+    Bf16,
+}
+
+impl Element {
+    const ALL: [Element; 2] = [Element::Float, Element::Bf16];
+
+    fn descr(self) -> &'static str {
+        match self {
+            Element::Float => "<f4",
+            Element::Bf16 => "<u2",
+        }
+    }
+
+    fn bytes(self) -> usize {
+        match self {
+            Element::Float => 4,
+            Element::Bf16 => 2,
+        }
+    }
+
+    pub fn name(self) -> &'static str {
+        match self {
+            Element::Float => "floats",
+            Element::Bf16 => "bf16 values",
+        }
+    }
+}
+
 const MAGIC: &[u8] = b"\x93NUMPY";
 /// What stands before the header: the magic, the version and the header's length.
 const FRONT: usize = MAGIC.len() + 4;
 
-/// Writes what stands before the floats. As NumPy does, it fills up to a multiple of 64 bytes.
-pub fn head(to: &mut dyn Write, [a, b, c]: Shape) -> io::Result<()> {
-    let mut text = format!("{{'descr': '<f4', 'fortran_order': False, 'shape': ({a}, {b}, {c}), }}");
+/// Writes what stands before the elements. As NumPy does, it fills up to a multiple of 64 bytes.
+pub fn head(to: &mut dyn Write, element: Element, [a, b, c]: Shape) -> io::Result<()> {
+    let descr = element.descr();
+    let mut text = format!("{{'descr': '{descr}', 'fortran_order': False, 'shape': ({a}, {b}, {c}), }}");
     let full = (FRONT + text.len() + 1).next_multiple_of(64);
     text.extend(std::iter::repeat_n(' ', full - FRONT - text.len() - 1));
     text.push('\n');
@@ -26,8 +60,19 @@ pub fn begins(source: &mut Source<impl Read>) -> io::Result<bool> {
     Ok(source.look(MAGIC.len())? == MAGIC)
 }
 
-/// Takes what stands before the floats: their shape, which fits the bytes that are left, where these are known.
-pub fn shape(source: &mut Source<impl Read>) -> Result<Shape, String> {
+/// Takes what stands before the elements, which are to be of one kind: their shape, which fits the bytes that are left,
+/// where these are known.
+pub fn shape(source: &mut Source<impl Read>, wanted: Element) -> Result<Shape, String> {
+    match any(source)? {
+        (element, shape) if element == wanted => Ok(shape),
+        (element, _) => {
+            Err(format!("holds {} ({}), and is to hold {}", element.name(), element.descr(), wanted.name()))
+        }
+    }
+}
+
+/// The same of elements of either kind.
+fn any(source: &mut Source<impl Read>) -> Result<(Element, Shape), String> {
     let unread = |e: io::Error| format!("cannot be read: {e}");
     let short = || "ends inside its .npy header; get the whole file".to_string();
     let mut front = [0; FRONT];
@@ -46,22 +91,23 @@ pub fn shape(source: &mut Source<impl Read>) -> Result<Shape, String> {
     if source.take(&mut header).map_err(unread)? < header.len() {
         return Err(short());
     }
-    let shape = parse(&header).map_err(|why| format!("has a .npy header that is not read: {why}; {WANTED}"))?;
+    let (element, shape) =
+        parse(&header).map_err(|why| format!("has a .npy header that is not read: {why}; {WANTED}"))?;
     let [a, b, c] = shape;
-    let len = a.checked_mul(b).and_then(|ab| ab.checked_mul(c)).and_then(|floats| floats.checked_mul(4));
+    let len = a.checked_mul(b).and_then(|ab| ab.checked_mul(c)).and_then(|count| count.checked_mul(element.bytes()));
     match (len, source.left()) {
         (None, _) => Err(format!("says a shape that no file has, {a}x{b}x{c}; write it again")),
         (Some(len), Some(left)) if len as u64 != left => Err(format!(
             "is damaged: its shape {a}x{b}x{c} asks for {len} bytes, and {left} stand behind its header; write it again"
         )),
-        _ => Ok(shape),
+        _ => Ok((element, shape)),
     }
 }
 
 const WANTED: &str = "it is to have '<f4', fortran_order False and a shape of three sizes, as numpy.save writes them";
 
 /// A header's text: a dict of Python with three keys in any order, spaces and one newline.
-fn parse(header: &[u8]) -> Result<Shape, String> {
+fn parse(header: &[u8]) -> Result<(Element, Shape), String> {
     let text = std::str::from_utf8(header).ok().filter(|text| text.is_ascii()).ok_or("it is no ASCII")?;
     let text = text.strip_suffix('\n').ok_or("it does not end in a newline")?;
     let mut words = Words { text };
@@ -87,11 +133,12 @@ fn parse(header: &[u8]) -> Result<Shape, String> {
     if !words.rest().is_empty() {
         return Err("something stands behind its dict".into());
     }
-    match (descr.ok_or("it has no descr")?, order.ok_or("it has no fortran_order")?) {
-        ("<f4", "False") => shape.ok_or("it has no shape".into()),
-        ("<f4", _) => Err("its fortran_order is not False".into()),
-        _ => Err("its descr is not '<f4'".into()),
+    let (descr, order) = (descr.ok_or("it has no descr")?, order.ok_or("it has no fortran_order")?);
+    let element = Element::ALL.into_iter().find(|e| e.descr() == descr).ok_or("its descr is not '<f4'")?;
+    if order != "False" {
+        return Err("its fortran_order is not False".into());
     }
+    Ok((element, shape.ok_or("it has no shape")?))
 }
 
 const THREE: &str = "its shape is not of three sizes";
@@ -160,8 +207,8 @@ mod tests {
 
     /// The shape, with the length known and not.
     fn read(bytes: &[u8]) -> Result<Shape, String> {
-        let known = shape(&mut Source::new(bytes, Some(bytes.len() as u64)));
-        let unknown = shape(&mut Source::new(bytes, None));
+        let known = shape(&mut Source::new(bytes, Some(bytes.len() as u64)), Element::Float);
+        let unknown = shape(&mut Source::new(bytes, None), Element::Float);
         assert!(known == unknown || known.as_ref().is_err_and(|e| e.contains("stand behind its header")));
         known
     }
@@ -169,13 +216,13 @@ mod tests {
     #[test]
     fn written_as_numpy_writes() {
         let mut bytes = Vec::new();
-        head(&mut bytes, [36, 48, 588]).unwrap();
+        head(&mut bytes, Element::Float, [36, 48, 588]).unwrap();
         let text = b"{'descr': '<f4', 'fortran_order': False, 'shape': (36, 48, 588), }";
         assert_eq!(bytes[..10], *b"\x93NUMPY\x01\x00\x76\x00");
         assert_eq!(bytes[10..10 + text.len()], *text);
         assert!(bytes.len() == 128 && bytes.ends_with(b"  \n"));
         let mut bytes = Vec::new();
-        head(&mut bytes, [usize::MAX; 3]).unwrap();
+        head(&mut bytes, Element::Bf16, [usize::MAX; 3]).unwrap();
         assert_eq!(bytes.len() % 64, 0);
     }
 
@@ -191,8 +238,25 @@ mod tests {
             assert_eq!(read(&file(header, 24)), Ok([1, 2, 3]), "{header:?}");
         }
         let mut empty = Vec::new();
-        head(&mut empty, [0, 7, 9]).unwrap();
+        head(&mut empty, Element::Float, [0, 7, 9]).unwrap();
         assert_eq!(read(&empty), Ok([0, 7, 9]));
+    }
+
+    #[test]
+    fn elements_are_told_apart() {
+        let of = |bytes: &[u8], wanted| shape(&mut Source::new(bytes, Some(bytes.len() as u64)), wanted);
+        for (element, other, words) in [
+            (Element::Float, Element::Bf16, "holds floats (<f4), and is to hold bf16 values"),
+            (Element::Bf16, Element::Float, "holds bf16 values (<u2), and is to hold floats"),
+        ] {
+            let mut bytes = Vec::new();
+            head(&mut bytes, element, [1, 2, 3]).unwrap();
+            bytes.extend(vec![0; 6 * element.bytes()]);
+            assert_eq!(of(&bytes, element), Ok([1, 2, 3]));
+            assert_eq!(of(&bytes, other), Err(words.into()));
+            bytes.pop();
+            assert!(of(&bytes, element).unwrap_err().contains("is damaged"));
+        }
     }
 
     #[test]
@@ -207,6 +271,9 @@ mod tests {
             (full("'<f8'", "False", "(1, 2, 3)"), "not '<f4'"),
             (full("'>f4'", "False", "(1, 2, 3)"), "not '<f4'"),
             (full("'|u1'", "False", "(1, 2, 3)"), "not '<f4'"),
+            (full("'>u2'", "False", "(1, 2, 6)"), "not '<f4'"),
+            (full("'<u2'", "False", "(1, 2, 6)"), "holds bf16 values (<u2)"),
+            (full("'<u2'", "False", "(1, 2, 3)"), "asks for 12 bytes, and 24 stand"),
             (full("[('a', '<f4')]", "False", "(1, 2, 3)"), "quoted word"),
             (full("'<f4'", "True", "(1, 2, 3)"), "not False"),
             (full("'<f4'", "0", "(1, 2, 3)"), "not False"),
@@ -254,7 +321,7 @@ mod tests {
     #[test]
     fn hostile_files() {
         let mut whole = Vec::new();
-        head(&mut whole, [1, 2, 3]).unwrap();
+        head(&mut whole, Element::Float, [1, 2, 3]).unwrap();
         whole.extend([0; 24]);
         for len in 0..whole.len() {
             assert!(read(&whole[..len]).is_err(), "{len}");

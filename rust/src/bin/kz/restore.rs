@@ -114,7 +114,7 @@ fn grid(
 ) -> Result<(usize, usize, usize), Fail> {
     let named = file.extension().is_some_and(|e| e == "npy");
     if named || npy::begins(source).map_err(unread(file))? {
-        let [h, w, depth] = npy::shape(source).map_err(|why| Fail::file(file, why))?;
+        let [h, w, depth] = npy::shape(source, npy::Element::Float).map_err(|why| Fail::file(file, why))?;
         return match asked.filter(|grid| *grid != (h, w)) {
             None => Ok((h, w, depth)),
             Some(grid) => {
