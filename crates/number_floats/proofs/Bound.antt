@@ -41,7 +41,7 @@ at-most-neg n (inf s) h = h
 at-most-neg n (fin s m e) h = h
 
 -- ---- the sign of what `round` gives
-abbrev Signed : Bool → Float → Type 0
+abbrev pub Signed : Bool → Float → Type 0
 Signed s nan = ⊥
 Signed s (inf t) = t ≡ s
 Signed s (fin t m e) = t ≡ s

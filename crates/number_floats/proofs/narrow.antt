@@ -1,3 +1,4 @@
 pub mod Pick
 pub mod Core
+pub mod Wide
 pub mod Meets

@@ -2,15 +2,15 @@
 use mathlib.Core.Path.{_≡_, refl, sym, ap, ap₂, _∙_, subst}
 use mathlib.Core.Logic.{_⊎_, inl, inr}
 use mathlib.Core.Bool.{Bool, true, false, cond}
-use Prim.Native.Nat.{ℕ, zero, suc, _+_, _-_, _*_, _/_, _%_, _^_, _≤_, _<_, compare}
-use native.Mathlib.Nat.{mul-one, mul-assoc, mul-comm, mul-right-comm, add-zero, add-comm, div-add-mod', eq-or-lt-of-le, lt-irrefl, lt-of-lt-of-le, le-of-eq, le-trans, le-of-lt, not-le-of-lt, le-div-iff-mul-le, mul-pos}
+use Prim.Native.Nat.{ℕ, _+_, _-_, _*_, _/_, _%_, _^_, _≤_, _<_, compare}
+use native.Mathlib.Nat.{mul-one, mul-assoc, div-add-mod', eq-or-lt-of-le, le-of-eq, le-trans, le-of-lt, not-le-of-lt, le-div-iff-mul-le, mul-pos}
 use native.Mathlib.Omega.{arith}
-use borrow.Author.Tests.{lt-ltb, le-ltb}
+use borrow.Author.Tests.{le-ltb}
 use lib.IntN.{ℤ}
-use lib.Dec.{T, leb, ltb, lit<, lit≤}
+use lib.Dec.{T, leb, lit<, lit≤}
 use lib.Pow.{pow-pos, pow-add, shr-shr}
 use lib.Ieee.{Float, nan, inf, fin, binary32, binary64, up, down, size, odd, units, round, ofBits, toBits, fits}
-use lib.Ieee.Bits.{toBits-lt}
+use lib.Ieee.Bits.{ofBits-toBits, toBits-lt}
 use lib.Ieee.Digits.{size-reaches}
 use lib.Ieee.Exact.{HasValue, units-val}
 use lib.Ieee.Fits.{down-pos, nan-fits, inf-fits, round-is, round-fits, kept-lt, nearest-le}
@@ -23,7 +23,7 @@ use Rattle.number_floats.proofs.Sizes.{grows, size-same, at-kept}
 use Rattle.number_floats.proofs.Patterns.{nan-above}
 use Rattle.number_floats.proofs.Values.{number-of-bits, infinity-of-bits, pattern-of-number, sign-bit}
 use Rattle.number_floats.proofs.narrow.Pick.{weakly, at-top, unique}
-use Rattle.number_floats.proofs.narrow.Core.{sized, sized-grows, rounded}
+use Rattle.number_floats.proofs.narrow.Core.{sized-grows, rounded}
 
 abbrev top : ℕ
 top = 0x7F80_0000
@@ -132,6 +132,11 @@ unfolding S.narrow
 narrow-fits nan = nan-fits binary32
 narrow-fits (inf s) = inf-fits binary32 s
 narrow-fits (fin s m e) = round-fits binary32 s (m * up e) (down e)
+
+-- to the pattern and back is the float itself
+pub there-and-back : (x : Float) → T (fits binary64 x) → ofBits binary32 (S.narrowBits (toBits binary64 x)) ≡ S.narrow x
+unfolding S.narrowBits
+there-and-back x h = ap (λ (y : Float). ofBits binary32 (toBits binary32 (S.narrow y))) (ofBits-toBits binary64 x h) ∙ ofBits-toBits binary32 (S.narrow x) (narrow-fits x)
 
 of-number : (x : Float) (s : Bool) (u : ℕ) → HasValue x s u (2 ^ 1074) → (leb (2 ^ 31) (toBits binary32 (S.narrow x)) ≡ s) × Nearest size32 top u (toBits binary32 (S.narrow x) % 2 ^ 31)
 unfolding S.narrow

@@ -39,7 +39,7 @@ module _ (s : Bool) (m : ℕ) (e : ℤ) (f : T (fits binary64 (fin s (suc m) e))
   abbrev D : Bool
   D = ltb (suc m * up e) (2 ^ 1024 * down e)
 
-  digits-lt : suc m < 2 ^ 53
+  pub digits-lt : suc m < 2 ^ 53
   unfolding fits
   digits-lt = ltb→lt (suc m) (2 ^ 53) (and-r A B (and-l (A && B) C (and-l (A && B && C) D f)))
 

@@ -1,17 +1,12 @@
 -- `number_floats::narrow::narrow_f64` meets its contract: to the pattern and back is the float itself. Assumes nothing.
-use mathlib.Core.Path.{_≡_, sym, ap, _∙_, subst}
+use mathlib.Core.Path.{sym, ap, _∙_, subst}
 use borrow.Author.Needs.{needs}
 use lib.Dec.{T}
-use lib.Ieee.{Float, binary32, binary64, fits, ofBits, toBits}
-use lib.Ieee.Bits.{ofBits-toBits}
+use lib.Ieee.{binary32, ofBits}
 use Rattle.number_floats.specs.Narrow as S
-use Rattle.number_floats.proofs.narrow.Meets.{narrow-fits}
+use Rattle.number_floats.proofs.narrow.Meets.{there-and-back}
 use Rattle.number_floats.proofs.narrow.narrow_f64.Statement.{statement}
 use Rattle.number_floats.proofs.narrow.narrow_f64.Tie as tie
-
-there-and-back : (x : Float) → T (fits binary64 x) → ofBits binary32 (S.narrowBits (toBits binary64 x)) ≡ S.narrow x
-unfolding S.narrowBits
-there-and-back x h = ap (λ (y : Float). ofBits binary32 (toBits binary32 (S.narrow y))) (ofBits-toBits binary64 x h) ∙ ofBits-toBits binary32 (S.narrow x) (narrow-fits x)
 
 bits-of-f64-requires : tie.Need-bits-of-f64-requires
 bits-of-f64-requires c κs = search needs

@@ -1,37 +1,21 @@
 -- `narrow::narrow_size` meets its contract. Assumes nothing.
-use mathlib.Core.Path.{_≡_, refl, sym, ap, ap₂, _∙_, subst}
-use mathlib.Core.Logic.{_⊎_, inl, inr}
-use Prim.Native.Nat.{ℕ, zero, suc, _+_, _-_, _*_, _/_, _%_, _^_, _≤_, _<_, zero-le, compare}
-use native.Mathlib.Nat.{add-comm, mod-lt, lt-of-lt-of-le, le-trans, le-of-lt, le-of-eq, div-lt-iff-lt-mul, zero-add, lt-irrefl, mod-eq-of-lt}
+use mathlib.Core.Path.{_≡_, refl, sym, ap₂, subst}
+use mathlib.Core.Logic.{inl}
+use Prim.Native.Nat.{ℕ, suc, _+_, _-_, _*_, _/_, _%_, _^_, _≤_, _<_, zero-le, compare}
+use native.Mathlib.Nat.{lt-of-lt-of-le, le-trans, le-of-lt, le-of-eq, div-lt-iff-lt-mul, zero-add}
 use native.Mathlib.Omega.{arith}
 use borrow.Author.Needs.{needs}
 use lib.Dec.{lit<, lit≤}
-use lib.Bits.{bitAnd, and-mask}
-use lib.Pow.{pow-pos, pow-mono, shr-lt, shl-exact}
+use lib.Pow.{pow-mono, shr-lt, shl-exact}
 use lib.Ieee.Nearest.{closest}
 use lib.Ieee.Fits.{nearest-le}
-use Rattle.number_floats.specs.Size.{sizeOf, count, size32, size64, Nearest}
+use Rattle.number_floats.specs.Size.{size32, size64, Nearest}
 use Rattle.number_floats.proofs.Sizes.{grows}
 use Rattle.number_floats.proofs.narrow.Pick.{low}
 use Rattle.number_floats.proofs.narrow.Core.{sized-grows, rounded}
+use Rattle.number_floats.proofs.narrow.Wide.{m, top, m-lt, normal, wide}
 use Rattle.number_floats.proofs.narrow.narrow_size.Statement.{statement}
 use Rattle.number_floats.proofs.narrow.narrow_size.Tie as tie
-
--- the code's digits, the leading one with them
-abbrev m : ℕ → ℕ
-m a = bitAnd a 0xF_FFFF_FFFF_FFFF + 0x10_0000_0000_0000
-
-abbrev top : ℕ
-top = 0x7F80_0000
-
-m-is : (a : ℕ) → m a ≡ 2 ^ 52 + a % 2 ^ 52
-m-is a = ap (λ (n : ℕ). n + 2 ^ 52) (and-mask a 52) ∙ add-comm (a % 2 ^ 52) (2 ^ 52)
-
-m-lt : (a : ℕ) → m a < 2 ^ 53
-m-lt a = omega (arith, m-is a)
-
-m-ge : (a : ℕ) → 2 ^ 52 ≤ m a
-m-ge a = omega (arith, m-is a)
 
 -- a size below half of the smallest f32
 quarter : (v h x : ℕ) → v < h → h * 4 ≡ x → (v < x) × (2 * v ≤ x)
@@ -42,13 +26,6 @@ tiny a h =
     let l : size64 a < 2 ^ 923 = grows (2 ^ 52) (lit< tt) a (872 * 2 ^ 52) (div-lt-iff-lt-mul (lit< tt) .0 h) in
     let r : (size64 a < 2 ^ 925) × (2 * size64 a ≤ 2 ^ 925) = quarter (size64 a) (2 ^ 923) (2 ^ 925) l refl in
     low size32 (sized-grows 925) top (size64 a) 0 zero-le (r .0) zero-le (r .1) (λ _. refl)
-
--- a size whose field is above 0
-normal : (a e : ℕ) → 0 < e → a / 2 ^ 52 ≡ e → m a * 2 ^ (e - 1) ≡ size64 a
-normal a zero p h = absurd (lt-irrefl 0 p)
-normal a (suc x) p h =
-    let z : suc x - 1 ≡ x = omega arith in
-    ap₂ (λ (n k : ℕ). n * 2 ^ k) (m-is a) z ∙ sym (ap (λ (n : ℕ). sizeOf (2 ^ 52) n (a % 2 ^ 52)) h)
 
 closest-le : (a b : ℕ) → closest a b ≤ suc (a / b)
 closest-le a b = nearest-le (a / b) (compare (a % b * 2) b)
@@ -70,20 +47,6 @@ module _ (a e : ℕ) (E : a / 2 ^ 52 ≡ e) where
         (subst (λ (n : ℕ). Nearest size32 top (m a * 2 ^ (e - 1)) n) (zero-add r)
         (rounded top 925 (m a) (e - 1) (926 - e) 0 f kept-lt (inl refl) .0
         (le-trans (le-of-eq (zero-add r)) (le-trans low-le (lit≤ tt)))))
-
-  -- in it, and above
-  wide : (r : ℕ) → 897 ≤ e → r ≡ (e - 897) * 2 ^ 23 + closest (m a) (2 ^ 29)
-      → (r ≤ top → Nearest size32 top (size64 a) r) × (top ≤ r → Nearest size32 top (size64 a) top)
-  wide r lo d =
-      let f : 29 + (e - 1) ≡ e - 897 + 925 = omega arith in
-      let x : m a / 2 ^ 29 < 2 ^ 24 = omega (arith, m-lt a) in
-      let y : 2 ^ 23 ≤ m a / 2 ^ 29 = omega (arith, m-ge a) in
-      subst (λ (n : ℕ). (n ≤ top → Nearest size32 top (size64 a) n) × (top ≤ n → Nearest size32 top (size64 a) top)) (sym d)
-      (subst (λ (v : ℕ). (k ≤ top → Nearest size32 top v k) × (top ≤ k → Nearest size32 top v top)) (normal a e (omega arith) E)
-      (rounded top 925 (m a) (e - 1) 29 (e - 897) f x (inr y)))
-    where
-      k : ℕ
-      k = (e - 897) * 2 ^ 23 + closest (m a) (2 ^ 29)
 
   wide-le : closest (m a) (2 ^ 29) ≤ 2 ^ 24
   wide-le = le-trans (closest-le (m a) (2 ^ 29)) (omega (arith, m-lt a))
