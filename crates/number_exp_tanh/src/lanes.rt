@@ -11,6 +11,11 @@ use crate::exp::exp_f32;
 use crate::exp::k_of;
 use crate::exp::r_of;
 use crate::exp::two_to;
+use crate::straight::all_inside;
+use crate::straight::k_inside;
+use crate::straight::narrow_lanes;
+use crate::straight::r_inside;
+use crate::straight::scaled;
 
 fn is_between(x: f32) -> bool
     ensures { λ r. ⌜ r ≡ between x ⌝ }
@@ -92,11 +97,22 @@ fn end_lanes(x: [f32; 16], k: [f64; 16], p: [f64; 16]) -> [f32; 16]
     r
 }
 
-// E of each.
-pub fn exp_sixteen(x: [f32; 16]) -> [f32; 16]
+// E of each, whatever they are.
+fn exp_any(x: [f32; 16]) -> [f32; 16]
     ensures { λ r. ⌜ r ≡ tab 16 (λ l. E (getD x l nan)) ⌝ }
 {
     let k = k_lanes(x);
     let p = series_lanes(r_lanes(x, k));
     end_lanes(x, k, p)
+}
+
+// E of each; without a branch where all are from -86 to 88, as scores less their largest mostly are.
+pub fn exp_sixteen(x: [f32; 16]) -> [f32; 16]
+    ensures { λ r. ⌜ r ≡ tab 16 (λ l. E (getD x l nan)) ⌝ }
+{
+    if all_inside(x) {
+        let k = k_inside(x);
+        return narrow_lanes(scaled(series_lanes(r_inside(x, k)), k));
+    }
+    exp_any(x)
 }

@@ -3,4 +3,5 @@
 // No public function here has a `requires`, and a NaN gives what the rules say.
 pub mod exp;
 pub mod lanes;
+mod straight;
 pub mod tanh;

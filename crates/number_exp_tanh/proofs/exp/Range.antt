@@ -40,7 +40,7 @@ in-range n a i b j (fin true m e) p q t h l =
     let w : b * 2 ^ j * down e ≤ n * down e = mul-le-mul-right (down e) q in
     omega arith
 
-L-is : L ≡ fin false 0x16_2E42_FEFA_39EF (negsuc 52)
+pub L-is : L ≡ fin false 0x16_2E42_FEFA_39EF (negsuc 52)
 unfolding ofBits
 L-is = refl
 
@@ -51,8 +51,11 @@ half-at-most = lit≤ tt
 quotient : (x : Float) → AtMost 104 x → AtMost 151 (div binary64 x L)
 quotient x h = subst (λ (z : Float). AtMost 151 (div binary64 x z)) (sym L-is) (at-most-div 151 (lit≤ tt) 104 x false 0x16_2E42_FEFA_39EF (negsuc 52) tt (lit< tt) (lit≤ tt) h)
 
+pub sum-at-most : (x : Float) → AtMost 104 x → AtMost 152 (add binary64 (div binary64 x L) oneHalf)
+sum-at-most x h = at-most-add 152 (lit≤ tt) 151 1 (div binary64 x L) oneHalf (lit≤ tt) (quotient x h) half-at-most
+
 pub k-at-most : (x : Float) → AtMost 104 x → AtMost 152 (kOf x)
-k-at-most x h = at-most-floor 152 (lit≤ tt) (add binary64 (div binary64 x L) oneHalf) (at-most-add 152 (lit≤ tt) 151 1 (div binary64 x L) oneHalf (lit≤ tt) (quotient x h) half-at-most)
+k-at-most x h = at-most-floor 152 (lit≤ tt) (add binary64 (div binary64 x L) oneHalf) (sum-at-most x h)
 
 pub wider : (i n : ℕ) (x : Float) → i ≤ n → AtMost i x → AtMost n x
 wider i n nan l h = h

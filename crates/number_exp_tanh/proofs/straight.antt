@@ -1,0 +1,11 @@
+pub mod Wholes
+pub mod Large
+pub mod Floored
+pub mod Halves
+pub mod Powers
+pub mod Narrows
+pub mod Insides
+pub mod Grid
+pub mod Reduced
+pub mod Rests
+pub mod Normals
