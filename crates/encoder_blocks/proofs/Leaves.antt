@@ -2,11 +2,10 @@
 use mathlib.Core.Bool.{Bool, true, _&&_, cond}
 use mathlib.Core.Path.{_≡_, refl, sym, ap, _∙_}
 use mathlib.Core.List.{List, [], _∷_}
-use Prim.Native.Nat.{ℕ, zero, suc, _+_, _*_, _≤_}
+use Prim.Native.Nat.{ℕ, zero, suc, _≤_}
 use native.Mathlib.Omega.{arith}
 use lib.ListN.{length}
 use lib.Ieee.{Float}
-use Rattle.buffers.specs.Region.{region}
 use Rattle.buffers.proofs.Regions.{length-region}
 use Rattle.encoder_elements.specs.Element.{added, gated, rounded}
 use Rattle.encoder_elements.proofs.Lengths.{length-rounded}
@@ -14,9 +13,9 @@ use Rattle.encoder_steps.specs.Run.{Run, stopped, went, fine, answer, ran, hand
 use Rattle.encoder_steps.proofs.Writes.{answer-went, then-went}
 use Rattle.encoder_steps.proofs.Fronts.{front-is}
 use Rattle.encoder_blocks.specs.declared.Sizes.{Sizes}
-use Rattle.encoder_blocks.specs.Sizes.{nOf, mOf}
-use Rattle.encoder_blocks.specs.Weights.{layerOf}
-use Rattle.encoder_blocks.specs.Block.{normed2, gateOf, upOf, downOf, attnRun, feedRun, blockRun}
+use Rattle.encoder_settings.specs.Weights.{nthLayer}
+use Rattle.encoder_blocks.specs.Sizes.{dimOf, nOf, mOf}
+use Rattle.encoder_blocks.specs.Block.{normed, innerOf, outerOf, attnRun, feedRun, blockRun}
 use Rattle.encoder_blocks.specs.Layers.{layersRun}
 use Rattle.encoder_blocks.specs.inner.Live.{hAt}
 use Rattle.encoder_blocks.specs.inner.Room.{layersFit}
@@ -27,35 +26,35 @@ block-long : (z : Sizes) (w cos sin h l : List Float) → blockRun z w cos sin h
 unfolding blockRun feedRun
 block-long z w cos sin h l e =
     let g = then-went (attnRun z w cos sin h) (feedRun z w) l e in
-    let x = normed2 z w (g .0) in
-    let a = gated (mOf z) (gateOf z w x) (upOf z w x) in
-    let d = downOf z w a in
+    let x = normed z "ffn_norm" w (g .0) in
+    let a = gated (mOf z) (innerOf z "gate" w x) (innerOf z "up" w x) in
+    let d = outerOf z "down" w a in
     let h′ = added (nOf z) (g .0) d in
     let b = rounded (nOf z) h′ in
-    ap length (sym (answer-went (fine true (x ∷ gateOf z w x ∷ upOf z w x ∷ a ∷ d ∷ h′ ∷ b ∷ [])) b l (g .1))) ∙ length-rounded (nOf z) h′
+    ap length (sym (answer-went (fine true (x ∷ innerOf z "gate" w x ∷ innerOf z "up" w x ∷ a ∷ d ∷ h′ ∷ b ∷ [])) b l (g .1))) ∙ length-rounded (nOf z) h′
 
-layers-long : (z : Sizes) (at : ℕ) (w cos sin : List Float) (n : ℕ) (h l : List Float) → length h ≡ nOf z → layersRun z at w cos sin n h ≡ went l → length l ≡ nOf z
+layers-long : (z : Sizes) (w cos sin : List Float) (n : ℕ) (h l : List Float) → length h ≡ nOf z → layersRun z w cos sin n h ≡ went l → length l ≡ nOf z
 unfolding layersRun
-layers-long z at w cos sin zero h l k e = ap length (sym (answer-went true h l e)) ∙ k
-layers-long z at w cos sin (suc n) h l k e =
-    let v = region w (at + n * layerOf z) (layerOf z) in
-    let g = then-went (layersRun z at w cos sin n h) (blockRun z v cos sin) l e in
+layers-long z w cos sin zero h l k e = ap length (sym (answer-went true h l e)) ∙ k
+layers-long z w cos sin (suc n) h l k e =
+    let v = nthLayer (dimOf z) (z .inter) n w in
+    let g = then-went (layersRun z w cos sin n h) (blockRun z v cos sin) l e in
     block-long z v cos sin (g .0) l (g .1)
 
 -- where all fits, the run is what the call says and leaves at the front
-pub layers-done : (z : Sizes) (s t w cos sin : List Float) (row at count : ℕ) (r : Bool)
-    → LayersFits z (length s) (length w) (length cos) (length sin) row at count
-    → r ≡ (layersFit z (length s) (length w) (length cos) (length sin) row at count && ran (layersRun z at w cos sin count (hAt z s)))
-    → t ≡ cond (layersFit z (length s) (length w) (length cos) (length sin) row at count) (handed (layersRun z at w cos sin count (hAt z s)) s) s
-    → answer r (hAt z t) ≡ layersRun z at w cos sin count (hAt z s)
-layers-done z s t w cos sin row at count r f e g =
+pub layers-done : (z : Sizes) (s t w cos sin : List Float) (row count : ℕ) (r : Bool)
+    → LayersFits z (length s) (length w) (length cos) (length sin) row count
+    → r ≡ (layersFit z (length s) (length w) (length cos) (length sin) row count && ran (layersRun z w cos sin count (hAt z s)))
+    → t ≡ cond (layersFit z (length s) (length w) (length cos) (length sin) row count) (handed (layersRun z w cos sin count (hAt z s)) s) s
+    → answer r (hAt z t) ≡ layersRun z w cos sin count (hAt z s)
+layers-done z s t w cos sin row count r f e g =
     let b = layers-fit z f in
-    let R = layersRun z at w cos sin count (hAt z s) in
+    let R = layersRun z w cos sin count (hAt z s) in
     let k : nOf z ≤ length s = omega (arith, f .turn .scratch) in
     let e′ : r ≡ ran R = e ∙ ap (λ c. c && ran R) b in
     let g′ : t ≡ handed R s = g ∙ ap (λ c. cond c (handed R s) s) b in
     rw (e′, g′) (go k R refl)
   where
-    go : nOf z ≤ length s → (R : Run) → layersRun z at w cos sin count (hAt z s) ≡ R → answer (ran R) (hAt z (handed R s)) ≡ R
+    go : nOf z ≤ length s → (R : Run) → layersRun z w cos sin count (hAt z s) ≡ R → answer (ran R) (hAt z (handed R s)) ≡ R
     go k stopped q = refl
-    go k (went l) q = ap went (front-is l s (nOf z) (layers-long z at w cos sin count (hAt z s) l (length-region s 0 (nOf z) (omega (arith, k))) q) k)
+    go k (went l) q = ap went (front-is l s (nOf z) (layers-long z w cos sin count (hAt z s) l (length-region s 0 (nOf z) (omega (arith, k))) q) k)

@@ -2,27 +2,28 @@
 use mathlib.Core.Bool.{Bool, true, _&&_}
 use mathlib.Core.Path.{_≡_, sym, ap, _∙_}
 use mathlib.Core.List.{List}
-use Prim.Native.Nat.{ℕ, _+_, _*_, _≤_, _<_}
+use Prim.Native.Nat.{ℕ, _+_, _*_, _≤_}
 use native.Mathlib.Omega.{arith}
 use lib.ListN.{length}
 use lib.Ieee.{Float}
 use Rattle.buffers.specs.Rows.{tab}
 use Rattle.buffers.specs.Region.{region, put}
 use Rattle.number_floats.specs.Constants.{zero32}
-use Rattle.buffers.specs.inner.Apart.{Apart, before, after}
+use Rattle.buffers.specs.inner.Apart.{before, after}
 use Rattle.buffers.proofs.Regions.{length-put, region-put, region-put-same}
 use Rattle.encoder_blocks.specs.declared.Sizes.{Sizes}
-use Rattle.encoder_blocks.specs.Sizes.{hdOf, dimOf, nOf, mOf}
-use Rattle.encoder_blocks.specs.Weights.{norm1W, squareW, norm2W, gateW, upW, downW}
+use Rattle.encoder_blocks.specs.Sizes.{hdOf, dimOf, nOf, mOf, partsOf}
+use Prim.Native.String.{String}
+use Rattle.encoder_settings.specs.Weights.{part}
 use Rattle.buffers.specs.Each.{blank}
 use Rattle.encoder_kernels.specs.Finite.{sound}
 use Rattle.encoder_elements.specs.Element.{added, gated, rounded}
 use Rattle.encoder_steps.specs.Run.{fine, answer, thenRun}
 use Rattle.encoder_steps.specs.inner.Step.{Wrote}
 use Rattle.encoder_steps.proofs.Writes.{answer-then, got, long, left}
-use Rattle.encoder_blocks.specs.Block.{squareOf, normed1, normed2, turnedAll, mixed, scored, gateOf, upOf, downOf, attnRun, feedRun, blockRun}
+use Rattle.encoder_blocks.specs.Block.{normed, squareOf, innerOf, outerOf, turnedAll, mixed, scored, attnRun, feedRun, blockRun}
 use Rattle.encoder_blocks.specs.inner.Live.{hAt, qAt, kAt, vAt, gAt, uAt, AttnIn, AttnTurn, AttnMix, FeedIn, FeedOut}
-use Rattle.encoder_blocks.specs.inner.Fits.{BlockFits, ScoreRow, SquareAt}
+use Rattle.encoder_blocks.specs.inner.Fits.{BlockFits, ScoreRow}
 use Rattle.encoder_attention.specs.inner.Fits.{KeysFit}
 use Rattle.encoder_attention.specs.inner.Keys.{turnedKeys}
 use Rattle.encoder_attention.proofs.Keys.{length-turned}
@@ -34,17 +35,21 @@ use Rattle.encoder_kernels.proofs.Turn.{length-rotate}
 use Rattle.encoder_attention.proofs.Attends.{length-attention}
 
 module _ (z : Sizes) where
-  pub length-square : (i : ℕ) (w x : List Float) → length (squareOf z i w x) ≡ nOf z
+  pub length-normed : (name : String) (w h : List Float) → length (normed z name w h) ≡ nOf z
+  unfolding normed
+  length-normed name w h = length-norm (z .tokens) (dimOf z) (part (partsOf z) name w) h
+
+  pub length-square : (name : String) (w x : List Float) → length (squareOf z name w x) ≡ nOf z
   unfolding squareOf
-  length-square i w x = length-linear (z .tokens) (dimOf z) (dimOf z) (squareW z i w) x
+  length-square name w x = length-linear (z .tokens) (dimOf z) (dimOf z) (part (partsOf z) name w) x
 
-  pub length-normed1 : (w h : List Float) → length (normed1 z w h) ≡ nOf z
-  unfolding normed1
-  length-normed1 w h = length-norm (z .tokens) (dimOf z) (norm1W z w) h
+  pub length-inner : (name : String) (w x : List Float) → length (innerOf z name w x) ≡ mOf z
+  unfolding innerOf
+  length-inner name w x = length-linear (z .tokens) (dimOf z) (z .inter) (part (partsOf z) name w) x
 
-  pub length-normed2 : (w h : List Float) → length (normed2 z w h) ≡ nOf z
-  unfolding normed2
-  length-normed2 w h = length-norm (z .tokens) (dimOf z) (norm2W z w) h
+  pub length-outer : (name : String) (w x : List Float) → length (outerOf z name w x) ≡ nOf z
+  unfolding outerOf
+  length-outer name w x = length-linear (z .tokens) (z .inter) (dimOf z) (part (partsOf z) name w) x
 
   pub length-turned-all : (cos sin x : List Float) → length (turnedAll z cos sin x) ≡ nOf z
   unfolding turnedAll
@@ -53,18 +58,6 @@ module _ (z : Sizes) where
   pub length-mixed : (q k v : List Float) → length (mixed z q k v) ≡ nOf z
   unfolding mixed
   length-mixed q k v = length-attention (z .tokens) (z .heads) (hdOf z) (z .scaling) q k v
-
-  pub length-gate : (w x : List Float) → length (gateOf z w x) ≡ mOf z
-  unfolding gateOf
-  length-gate w x = length-linear (z .tokens) (dimOf z) (z .inter) (gateW z w) x
-
-  pub length-up : (w x : List Float) → length (upOf z w x) ≡ mOf z
-  unfolding upOf
-  length-up w x = length-linear (z .tokens) (dimOf z) (z .inter) (upW z w) x
-
-  pub length-down : (w x : List Float) → length (downOf z w x) ≡ nOf z
-  unfolding downOf
-  length-down w x = length-linear (z .tokens) (z .inter) (dimOf z) (downW z w) x
 
 -- each piece from its stages
 module _ (z : Sizes) (w s : List Float) (f : 7 * nOf z + 2 * mOf z ≤ length s) where
@@ -75,18 +68,18 @@ module _ (z : Sizes) (w s : List Float) (f : 7 * nOf z + 2 * mOf z ≤ length s)
   m = mOf z
 
   pub attn-in : (s₁ s₂ s₃ s₄ : List Float) (ok a b c r : Bool)
-      → Wrote s s₁ n (normed1 z w (hAt z s)) ok a
-      → Wrote s₁ s₂ (2 * n) (squareOf z 0 w (region s₁ n n)) a b
-      → Wrote s₂ s₃ (3 * n) (squareOf z 1 w (region s₂ n n)) b c
-      → Wrote s₃ s₄ (4 * n) (squareOf z 2 w (region s₃ n n)) c r
+      → Wrote s s₁ n (normed z "attention_norm" w (hAt z s)) ok a
+      → Wrote s₁ s₂ (2 * n) (squareOf z "q" w (region s₁ n n)) a b
+      → Wrote s₂ s₃ (3 * n) (squareOf z "k" w (region s₂ n n)) b c
+      → Wrote s₃ s₄ (4 * n) (squareOf z "v" w (region s₃ n n)) c r
       → AttnIn z w s s₄ ok r
   unfolding fine
   attn-in s₁ s₂ s₃ s₄ ok a b c r w₁ w₂ w₃ w₄ =
-      let x = normed1 z w (hAt z s) in
-      let l₁ = length-normed1 z w (hAt z s) in
-      let l₂ = length-square z 0 w (region s₁ n n) in
-      let l₃ = length-square z 1 w (region s₂ n n) in
-      let l₄ = length-square z 2 w (region s₃ n n) in
+      let x = normed z "attention_norm" w (hAt z s) in
+      let l₁ = length-normed z "attention_norm" w (hAt z s) in
+      let l₂ = length-square z "q" w (region s₁ n n) in
+      let l₃ = length-square z "k" w (region s₂ n n) in
+      let l₄ = length-square z "v" w (region s₃ n n) in
       let k₁ = long w₁ n l₁ in
       let k₂ = long w₂ n l₂ in
       let k₃ = long w₃ n l₃ in
@@ -95,9 +88,9 @@ module _ (z : Sizes) (w s : List Float) (f : 7 * nOf z + 2 * mOf z ≤ length s)
       let x₃ : region s₃ n n ≡ x = left w₃ n l₃ n n (before (omega arith)) ∙ x₂ in
       record {
         h-is = left w₄ n l₄ 0 n (before (omega arith)) ∙ left w₃ n l₃ 0 n (before (omega arith)) ∙ left w₂ n l₂ 0 n (before (omega arith)) ∙ left w₁ n l₁ 0 n (before (omega arith));
-        q-is = left w₄ n l₄ (2 * n) n (before (omega arith)) ∙ left w₃ n l₃ (2 * n) n (before (omega arith)) ∙ got w₂ n l₂ (omega arith) ∙ ap (squareOf z 0 w) x₁;
-        k-is = left w₄ n l₄ (3 * n) n (before (omega arith)) ∙ got w₃ n l₃ (omega arith) ∙ ap (squareOf z 1 w) x₂;
-        v-is = got w₄ n l₄ (omega arith) ∙ ap (squareOf z 2 w) x₃;
+        q-is = left w₄ n l₄ (2 * n) n (before (omega arith)) ∙ left w₃ n l₃ (2 * n) n (before (omega arith)) ∙ got w₂ n l₂ (omega arith) ∙ ap (squareOf z "q" w) x₁;
+        k-is = left w₄ n l₄ (3 * n) n (before (omega arith)) ∙ got w₃ n l₃ (omega arith) ∙ ap (squareOf z "k" w) x₂;
+        v-is = got w₄ n l₄ (omega arith) ∙ ap (squareOf z "v" w) x₃;
         fine-is = cc;
       }
 
@@ -124,7 +117,7 @@ module _ (z : Sizes) (w s : List Float) (f : 7 * nOf z + 2 * mOf z ≤ length s)
       → s₁ ≡ put (blank zero32 row (z .tokens) (put s n (turnedKeys (z .tokens) (dimOf z) (kAt z s)))) (5 * n) (mixed z (qAt z s) (kAt z s) (vAt z s))
       → length s₁ ≡ length s
       → f₂ ≡ sound (region s₁ (5 * n) n)
-      → Wrote s₁ s₂ (6 * n) (squareOf z 3 w (region s₁ (5 * n) n)) ((ok && f₁) && f₂) b
+      → Wrote s₁ s₂ (6 * n) (squareOf z "o" w (region s₁ (5 * n) n)) ((ok && f₁) && f₂) b
       → Wrote s₂ s₃ 0 (added n (hAt z s₂) (region s₂ (6 * n) n)) b r
       → AttnMix z w s s₃ ok r
   unfolding fine
@@ -134,7 +127,7 @@ module _ (z : Sizes) (w s : List Float) (f : 7 * nOf z + 2 * mOf z ≤ length s)
       let T = turnedKeys t (dimOf z) (kAt z s) in
       let s₀ = put s n T in
       let la = length-mixed z (qAt z s) (kAt z s) (vAt z s) in
-      let l₁ = length-square z 3 w (region s₁ (5 * n) n) in
+      let l₁ = length-square z "o" w (region s₁ (5 * n) n) in
       let k₂ = long w₁ n l₁ in
       let l₂ = length-added n (hAt z s₂) (region s₂ (6 * n) n) in
       let a₁ : region s₁ (5 * n) n ≡ A =
@@ -143,44 +136,44 @@ module _ (z : Sizes) (w s : List Float) (f : 7 * nOf z + 2 * mOf z ≤ length s)
       ap (λ u. region u 0 n) e₂ ∙ region-put (blank zero32 row t s₀) (5 * n) A 0 n (rw la (before (omega arith))) ∙ blank-region zero32 row t s₀ 0 n (before (omega arith))
       ∙ region-put s n T 0 n (rw (length-turned t (dimOf z) (kAt z s)) (before (omega arith))) in
       let h₂ : hAt z s₂ ≡ hAt z s = left w₁ n l₁ 0 n (before (omega arith)) ∙ h₁ in
-      let o₂ : region s₂ (6 * n) n ≡ squareOf z 3 w A = got w₁ n l₁ (omega arith) ∙ ap (squareOf z 3 w) a₁ in
+      let o₂ : region s₂ (6 * n) n ≡ squareOf z "o" w A = got w₁ n l₁ (omega arith) ∙ ap (squareOf z "o" w) a₁ in
       record {
         h-is = got w₂ n l₂ (omega arith) ∙ rw (h₂, o₂);
         fine-is = cc;
       }
 
   pub feed-in : (s₁ s₂ s₃ : List Float) (ok a b r : Bool)
-      → Wrote s s₁ n (normed2 z w (hAt z s)) ok a
-      → Wrote s₁ s₂ (7 * n) (gateOf z w (region s₁ n n)) a b
-      → Wrote s₂ s₃ (7 * n + m) (upOf z w (region s₂ n n)) b r
+      → Wrote s s₁ n (normed z "ffn_norm" w (hAt z s)) ok a
+      → Wrote s₁ s₂ (7 * n) (innerOf z "gate" w (region s₁ n n)) a b
+      → Wrote s₂ s₃ (7 * n + m) (innerOf z "up" w (region s₂ n n)) b r
       → FeedIn z w s s₃ ok r
   unfolding fine
   feed-in s₁ s₂ s₃ ok a b r w₁ w₂ w₃ =
-      let x = normed2 z w (hAt z s) in
-      let l₁ = length-normed2 z w (hAt z s) in
-      let l₂ = length-gate z w (region s₁ n n) in
-      let l₃ = length-up z w (region s₂ n n) in
+      let x = normed z "ffn_norm" w (hAt z s) in
+      let l₁ = length-normed z "ffn_norm" w (hAt z s) in
+      let l₂ = length-inner z "gate" w (region s₁ n n) in
+      let l₃ = length-inner z "up" w (region s₂ n n) in
       let k₁ = long w₁ n l₁ in
       let k₂ = long w₂ m l₂ in
       let x₁ : region s₁ n n ≡ x = got w₁ n l₁ (omega arith) in
       let x₂ : region s₂ n n ≡ x = left w₂ m l₂ n n (before (omega arith)) ∙ x₁ in
       record {
         h-is = left w₃ m l₃ 0 n (before (omega arith)) ∙ left w₂ m l₂ 0 n (before (omega arith)) ∙ left w₁ n l₁ 0 n (before (omega arith));
-        g-is = left w₃ m l₃ (7 * n) m (before (omega arith)) ∙ got w₂ m l₂ (omega arith) ∙ ap (gateOf z w) x₁;
-        u-is = got w₃ m l₃ (omega arith) ∙ ap (upOf z w) x₂;
+        g-is = left w₃ m l₃ (7 * n) m (before (omega arith)) ∙ got w₂ m l₂ (omega arith) ∙ ap (innerOf z "gate" w) x₁;
+        u-is = got w₃ m l₃ (omega arith) ∙ ap (innerOf z "up" w) x₂;
         fine-is = cc;
       }
 
   pub feed-out : (s₁ s₂ s₃ s₄ : List Float) (ok a b c r : Bool)
       → Wrote s s₁ (7 * n) (gated m (gAt z s) (uAt z s)) ok a
-      → Wrote s₁ s₂ (6 * n) (downOf z w (gAt z s₁)) a b
+      → Wrote s₁ s₂ (6 * n) (outerOf z "down" w (gAt z s₁)) a b
       → Wrote s₂ s₃ 0 (added n (hAt z s₂) (region s₂ (6 * n) n)) b c
       → Wrote s₃ s₄ 0 (rounded n (hAt z s₃)) c r
       → FeedOut z w s s₄ ok r
   unfolding fine
   feed-out s₁ s₂ s₃ s₄ ok a b c r w₁ w₂ w₃ w₄ =
       let l₁ = length-gated m (gAt z s) (uAt z s) in
-      let l₂ = length-down z w (gAt z s₁) in
+      let l₂ = length-outer z "down" w (gAt z s₁) in
       let l₃ = length-added n (hAt z s₂) (region s₂ (6 * n) n) in
       let l₄ = length-rounded n (hAt z s₃) in
       let k₁ = long w₁ m l₁ in
@@ -188,8 +181,8 @@ module _ (z : Sizes) (w s : List Float) (f : 7 * nOf z + 2 * mOf z ≤ length s)
       let k₃ = long w₃ n l₃ in
       let g₁ : gAt z s₁ ≡ gated m (gAt z s) (uAt z s) = got w₁ m l₁ (omega arith) in
       let h₂ : hAt z s₂ ≡ hAt z s = left w₂ n l₂ 0 n (before (omega arith)) ∙ left w₁ m l₁ 0 n (before (omega arith)) in
-      let d₂ : region s₂ (6 * n) n ≡ downOf z w (gated m (gAt z s) (uAt z s)) = got w₂ n l₂ (omega arith) ∙ ap (downOf z w) g₁ in
-      let h₃ : hAt z s₃ ≡ added n (hAt z s) (downOf z w (gated m (gAt z s) (uAt z s))) = got w₃ n l₃ (omega arith) ∙ rw (h₂, d₂) in
+      let d₂ : region s₂ (6 * n) n ≡ outerOf z "down" w (gated m (gAt z s) (uAt z s)) = got w₂ n l₂ (omega arith) ∙ ap (outerOf z "down" w) g₁ in
+      let h₃ : hAt z s₃ ≡ added n (hAt z s) (outerOf z "down" w (gated m (gAt z s) (uAt z s))) = got w₃ n l₃ (omega arith) ∙ rw (h₂, d₂) in
       record {
         h-is = got w₄ n l₄ (omega arith) ∙ ap (rounded n) h₃;
         fine-is = cc;
@@ -206,10 +199,6 @@ module _ (z : Sizes) (w s : List Float) (f : 7 * nOf z + 2 * mOf z ≤ length s)
       answer-then c e (hAt z s₃) (hAt z s₅) (feedRun z w) second ∙ ap (λ u. thenRun u (feedRun z w)) first
 
 -- what a call asks, at a scratch of the same length
-pub square-at : (z : Sizes) {len len′ lenw : ℕ} (i x y : ℕ) → len′ ≡ len → BlockFits z len lenw → i < 4
-    → x + nOf z ≤ len → y + nOf z ≤ len → Apart x (nOf z) y (nOf z) → SquareAt z len′ lenw i x y
-square-at z i x y e f h a b p = record { fits = rw e f; which = h; xIn = rw e a; yIn = rw e b; apart = p }
-
 pub attend-at : (z : Sizes) {len lenw row : ℕ} → BlockFits z len lenw → ScoreRow z len row
     → KeysFit len (2 * nOf z) (3 * nOf z) (4 * nOf z) (nOf z) row (5 * nOf z) (z .tokens) (z .heads) (z .half + z .half)
 attend-at z f r =

@@ -10,21 +10,12 @@ use lib.Dec.{leb, ltb, eqb}
 use Rattle.buffers.specs.inner.Room.{inside}
 use Rattle.buffers.proofs.Rooms.{and-parts, two}
 use Rattle.encoder_blocks.specs.declared.Sizes.{Sizes}
-use Rattle.encoder_blocks.specs.Sizes.{hdOf, dimOf, nOf, mOf}
-use Rattle.encoder_blocks.specs.Weights.{layerOf}
+use Rattle.encoder_settings.specs.Weights.{floats}
+use Rattle.encoder_blocks.specs.Sizes.{hdOf, dimOf, nOf, mOf, partsOf}
 use Rattle.encoder_blocks.specs.inner.Room.{sizesFit, lengthsFit, layersFit}
-use Rattle.encoder_blocks.specs.inner.Fits.{LayersFits, SizesFit}
+use Rattle.encoder_blocks.specs.inner.Fits.{LayersFits, SizesFit, Products}
 
 -- the products of small sizes
-pub record Products (z : Sizes) : Type 0 where
-  pub grid : z .side * z .side ≤ 4194304
-  pub table : z .side * z .side * hdOf z ≤ 1073741824
-  pub hiddens : nOf z ≤ 8589934592
-  pub inners : mOf z ≤ 34359738368
-  pub squares : dimOf z * dimOf z ≤ 4194304
-  pub inner : z .inter * dimOf z ≤ 16777216
-  pub outer : dimOf z * z .inter ≤ 16777216
-
 pub products : (z : Sizes) → SizesFit z → Products z
 products z f =
     let g : z .side * z .side ≤ 4194304 = mul-le-mul (f .tables) (f .tables) in
@@ -32,6 +23,8 @@ products z f =
     let m : z .side * z .«grid_w» ≤ 4194304 = mul-le-mul (f .tables) w in
     let t : z .tokens ≤ 4194304 = omega (arith, m, f .high) in
     record {
+      narrow = f .narrow;
+      small = f .small;
       grid = g;
       table = mul-le-mul g (f .narrow);
       hiddens = mul-le-mul t (f .small);
@@ -73,26 +66,25 @@ module _ (z : Sizes) where
       two (le-leb (z .half) 128 narrow) (two (le-leb (z .side) 2048 (f .tables)) (two (le-leb (z .«grid_w») (z .side) (f .wide))
       (two (two (le-leb (0 + dimOf z) 2048 small) (le-leb (z .tokens) (z .side * z .«grid_w») (f .high))) (two (le-leb (z .inter) 8192 (f .inner)) (lt-ltb 0 (z .«grid_w») (f .some))))))
 
-  module _ {lens lenw lenc lenn row at count : ℕ} where
-    pub layers-say : layersFit z lens lenw lenc lenn row at count ≡ true → LayersFits z lens lenw lenc lenn row at count
+  module _ {lens lenw lenc lenn row count : ℕ} where
+    pub layers-say : layersFit z lens lenw lenc lenn row count ≡ true → LayersFits z lens lenw lenc lenn row count
     unfolding layersFit lengthsFit
     layers-say h =
         let table = z .side * z .side * hdOf z in
         let tables = eqb lenc table && eqb lenn table in
         let held = leb (7 * nOf z + 2 * mOf z) row && inside lens row (z .tokens) in
-        let p = and-parts (sizesFit z) ((tables && (held && leb (dimOf z) lens)) && inside lenw at (count * layerOf z)) h in
-        let a = and-parts (tables && (held && leb (dimOf z) lens)) (inside lenw at (count * layerOf z)) (p .1) in
+        let p = and-parts (sizesFit z) ((tables && (held && leb (dimOf z) lens)) && inside lenw 0 (count * floats (partsOf z))) h in
+        let a = and-parts (tables && (held && leb (dimOf z) lens)) (inside lenw 0 (count * floats (partsOf z))) (p .1) in
         let b = and-parts tables (held && leb (dimOf z) lens) (a .0) in
         let c = and-parts (eqb lenc table) (eqb lenn table) (b .0) in
         let d = and-parts held (leb (dimOf z) lens) (b .1) in
         let e = and-parts (leb (7 * nOf z + 2 * mOf z) row) (inside lens row (z .tokens)) (d .0) in
         let f = sizes-say (p .0) in
-        let q = products z f in
         let behind = leb-true (7 * nOf z + 2 * mOf z) row (e .0) in
         let within = leb-true (row + z .tokens) lens (e .1) in
+        let all = leb-true (0 + count * floats (partsOf z)) lenw (a .1) in
         record {
-          weights = leb-true (at + count * layerOf z) lenw (a .1);
-          one = omega (arith, q .squares, q .inner, q .outer, f .small);
+          weights = omega (arith, all);
           inner = f .inner;
           turn = record {
             scratch = omega (arith, behind, within);
@@ -109,12 +101,19 @@ module _ (z : Sizes) where
           scores = record { behind = behind; inside = within };
         }
 
-    pub layers-fit : LayersFits z lens lenw lenc lenn row at count → layersFit z lens lenw lenc lenn row at count ≡ true
+    sizes-of : LayersFits z lens lenw lenc lenn row count → SizesFit z
+    sizes-of f = let t = f .turn in record { narrow = t .narrow; small = t .small; tables = t .tables; some = t .some; wide = t .wide; high = t .high; inner = f .inner }
+
+    pub layers-products : LayersFits z lens lenw lenc lenn row count → Products z
+    layers-products f = products z (sizes-of f)
+
+    pub layers-fit : LayersFits z lens lenw lenc lenn row count → layersFit z lens lenw lenc lenn row count ≡ true
     unfolding layersFit lengthsFit
     layers-fit f =
         let t = f .turn in
         let table = z .side * z .side * hdOf z in
-        two (sizes-fit (record { narrow = t .narrow; small = t .small; tables = t .tables; some = t .some; wide = t .wide; high = t .high; inner = f .inner }))
+        let all : 0 + count * floats (partsOf z) ≤ lenw = omega (arith, f .weights) in
+        two (sizes-fit (sizes-of f))
         (two (two (two (eq-eqb lenc table (t .cosines)) (eq-eqb lenn table (t .sines)))
         (two (two (le-leb (7 * nOf z + 2 * mOf z) row (f .scores .behind)) (le-leb (row + z .tokens) lens (f .scores .inside))) (le-leb (dimOf z) lens (t .dimIn))))
-        (le-leb (at + count * layerOf z) lenw (f .weights)))
+        (le-leb (0 + count * floats (partsOf z)) lenw all))

@@ -2,26 +2,26 @@
 use mathlib.Core.Path.{_≡_, sym, _∙_}
 use mathlib.Core.Bool.{Bool, _&&_}
 use mathlib.Core.List.{List}
-use Prim.Native.Nat.{ℕ, _+_, _*_}
+use Prim.Native.Nat.{ℕ, _+_}
 use native.Mathlib.Numerals.{add-one}
 use lib.Ieee.{Float}
-use Rattle.buffers.specs.Region.{region}
 use Rattle.encoder_blocks.specs.declared.Sizes.{Sizes}
-use Rattle.encoder_blocks.specs.Weights.{layerOf}
+use Rattle.encoder_settings.specs.Weights.{floats, nthLayer}
+use Rattle.encoder_blocks.specs.Sizes.{dimOf, partsOf}
 use Rattle.encoder_steps.specs.Run.{answer}
 use Rattle.encoder_blocks.specs.Block.{blockRun}
 use Rattle.encoder_blocks.specs.Layers.{layersRun}
 use Rattle.encoder_blocks.specs.inner.Fits.{BlockFits, TurnFits}
 use Rattle.encoder_steps.proofs.Writes.{answer-then}
 
-pub layers-turn : (z : Sizes) (at : ℕ) (w cos sin h p hs hs′ : List Float) (l : ℕ) (ok r : Bool)
-    → p ≡ region w (at + l * layerOf z) (layerOf z)
-    → answer ok hs ≡ layersRun z at w cos sin l h → answer r hs′ ≡ blockRun z p cos sin hs
-    → answer (ok && r) hs′ ≡ layersRun z at w cos sin (l + 1) h
+pub layers-turn : (z : Sizes) (w cos sin h p hs hs′ : List Float) (l : ℕ) (ok r : Bool)
+    → p ≡ nthLayer (dimOf z) (z .inter) l w
+    → answer ok hs ≡ layersRun z w cos sin l h → answer r hs′ ≡ blockRun z p cos sin hs
+    → answer (ok && r) hs′ ≡ layersRun z w cos sin (l + 1) h
 unfolding layersRun
-layers-turn z at w cos sin h p hs hs′ l ok r d e f =
+layers-turn z w cos sin h p hs hs′ l ok r d e f =
     rw add-one (answer-then ok r hs hs′ (blockRun z p cos sin) (sym f) ∙ rw (e, d))
 
 -- what the block asks, at a layer's part of the weights
-pub block-at : (z : Sizes) {lens lenw : ℕ} (lenc lenn : ℕ) → lenw ≡ layerOf z → TurnFits z lens lenc lenn → BlockFits z lens lenw
+pub block-at : (z : Sizes) {lens lenw : ℕ} (lenc lenn : ℕ) → lenw ≡ floats (partsOf z) → TurnFits z lens lenc lenn → BlockFits z lens lenw
 block-at z lenc lenn l f = record { scratch = f .scratch; weights = l; small = f .small; narrow = f .narrow; dimIn = f .dimIn }

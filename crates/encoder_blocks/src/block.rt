@@ -1,14 +1,13 @@
 // One encoder block.
 ghost use mathlib.Core.Path.{_≡_};
-ghost use Prim.Native.Nat.{_+_};
 ghost use lib.ListN.{length};
 ghost use Rattle.buffers.specs.Region.{region};
 ghost use Rattle.encoder_blocks.specs.Sizes.{nOf};
 ghost use Rattle.encoder_steps.specs.Run.{answer};
 ghost use Rattle.encoder_steps.specs.inner.Step.{Wrote};
-ghost use Rattle.encoder_blocks.specs.Block.{blockRun, normed1, normed2, squareOf, turnedAll};
+ghost use Rattle.encoder_blocks.specs.Block.{blockRun, normed, turnedAll};
 ghost use Rattle.encoder_blocks.specs.inner.Live.{hAt, AttnIn, AttnTurn, AttnMix, FeedIn, FeedOut};
-ghost use Rattle.encoder_blocks.specs.inner.Fits.{BlockFits, TurnFits, TurnAt, ScoreRow, SquareAt};
+ghost use Rattle.encoder_blocks.specs.inner.Fits.{BlockFits, TurnFits, TurnAt, ScoreRow};
 use crate::Sizes;
 use buffers::part;
 use encoder_attention::attention::attend;
@@ -23,7 +22,7 @@ use encoder_steps::round_fine;
 // The norm before the attention, of h.
 pub(crate) fn norm1(s: &mut [f32], z: Sizes, w: &[f32], ok: bool) -> bool
     requires { ⌜ BlockFits z (length (now s)) (length (now w)) ⌝ }
-    ensures { λ r. ⌜ Wrote (now (s .entry)) (now (s .exit)) (nOf z) (normed1 z (now (w .entry)) (hAt z (now (s .entry)))) ok r ⌝ }
+    ensures { λ r. ⌜ Wrote (now (s .entry)) (now (s .exit)) (nOf z) (normed z "attention_norm" (now (w .entry)) (hAt z (now (s .entry)))) ok r ⌝ }
 {
     let t = z.tokens;
     let half = z.half;
@@ -31,37 +30,21 @@ pub(crate) fn norm1(s: &mut [f32], z: Sizes, w: &[f32], ok: bool) -> bool
     norm_fine(s, 0, t * dim, t, dim, part(w, 0, dim), ok)
 }
 
-// Square matrix i of the layer, from x to y.
-pub(crate) fn square(
-    s: &mut [f32],
-    z: Sizes,
-    i: usize,
-    x: usize,
-    y: usize,
-    w: &[f32],
-    ok: bool,
-) -> bool
-    requires { ⌜ SquareAt z (length (now s)) (length (now w)) i x y ⌝ }
-    ensures { λ r. ⌜ Wrote (now (s .entry)) (now (s .exit)) y (squareOf z i (now (w .entry)) (region (now (s .entry)) x (nOf z))) ok r ⌝ }
-{
-    let t = z.tokens;
-    let half = z.half;
-    let dim = z.heads * (half + half);
-    let dd = dim * dim;
-    matrix(s, x, y, t, dim, dim, w, dim + i * dd, ok)
-}
-
 // Norm, q, k, v.
 pub(crate) fn attn_in(s: &mut [f32], z: Sizes, w: &[f32], ok: bool) -> bool
     requires { ⌜ BlockFits z (length (now s)) (length (now w)) ⌝ }
     ensures { λ r. ⌜ AttnIn z (now (w .entry)) (now (s .entry)) (now (s .exit)) ok r ⌝ }
 {
+    let t = z.tokens;
     let half = z.half;
-    let n = z.tokens * (z.heads * (half + half));
+    let dim = z.heads * (half + half);
+    let n = t * dim;
+    let at = dim + dim * dim;
+    let bt = at + dim * dim;
     let a = norm1(s, z, w, ok);
-    let b = square(s, z, 0, n, 2 * n, w, a);
-    let c = square(s, z, 1, n, 3 * n, w, b);
-    square(s, z, 2, n, 4 * n, w, c)
+    let b = matrix(s, n, 2 * n, t, dim, dim, w, dim, a);
+    let c = matrix(s, n, 3 * n, t, dim, dim, w, at, b);
+    matrix(s, n, 4 * n, t, dim, dim, w, bt, c)
 }
 
 // Rotation of what stands at x.
@@ -104,7 +87,9 @@ pub(crate) fn attn_mix(s: &mut [f32], z: Sizes, row: usize, w: &[f32], ok: bool)
     let t = z.tokens;
     let half = z.half;
     let heads = z.heads;
-    let n = t * (heads * (half + half));
+    let dim = heads * (half + half);
+    let n = t * dim;
+    let at = dim + 3 * (dim * dim);
     let f = attend(
         s,
         2 * n,
@@ -119,14 +104,14 @@ pub(crate) fn attn_mix(s: &mut [f32], z: Sizes, row: usize, w: &[f32], ok: bool)
         z.scaling,
     );
     let g = finite(part(s, 5 * n, n));
-    let a = square(s, z, 3, 5 * n, 6 * n, w, (ok & f) & g);
+    let a = matrix(s, 5 * n, 6 * n, t, dim, dim, w, at, (ok & f) & g);
     add_fine(s, 0, 6 * n, n, a)
 }
 
 // The norm before the feed-forward, of h.
 pub(crate) fn norm2(s: &mut [f32], z: Sizes, w: &[f32], ok: bool) -> bool
     requires { ⌜ BlockFits z (length (now s)) (length (now w)) ⌝ }
-    ensures { λ r. ⌜ Wrote (now (s .entry)) (now (s .exit)) (nOf z) (normed2 z (now (w .entry)) (hAt z (now (s .entry)))) ok r ⌝ }
+    ensures { λ r. ⌜ Wrote (now (s .entry)) (now (s .exit)) (nOf z) (normed z "ffn_norm" (now (w .entry)) (hAt z (now (s .entry)))) ok r ⌝ }
 {
     let t = z.tokens;
     let half = z.half;

@@ -9,32 +9,29 @@ ghost use Rattle.encoder_blocks.specs.inner.Room.{layersFit};
 ghost use Rattle.encoder_blocks.specs.inner.Fits.{LayersFits};
 use crate::Sizes;
 use crate::block::pixtral_block_forward;
+use crate::room::layer_floats;
 use crate::room::layers_fit;
 use buffers::clear;
 use buffers::clear_at;
 use buffers::part;
 
-// The layers, whose weights start at place at of w.
+// The layers, whose weights are w.
 pub(crate) fn each_layer(
     s: &mut [f32],
     z: Sizes,
     row: usize,
     w: &[f32],
-    at: usize,
     count: usize,
     cos: &[f32],
     sin: &[f32],
 ) -> bool
-    requires { ⌜ LayersFits z (length (now s)) (length (now w)) (length (now cos)) (length (now sin)) row at count ⌝ }
-    ensures { λ r. ⌜ answer r (hAt z (now (s .exit))) ≡ layersRun z at (now (w .entry)) (now (cos .entry)) (now (sin .entry)) count (hAt z (now (s .entry))) ⌝ }
+    requires { ⌜ LayersFits z (length (now s)) (length (now w)) (length (now cos)) (length (now sin)) row count ⌝ }
+    ensures { λ r. ⌜ answer r (hAt z (now (s .exit))) ≡ layersRun z (now (w .entry)) (now (cos .entry)) (now (sin .entry)) count (hAt z (now (s .entry))) ⌝ }
 {
-    let half = z.half;
-    let inter = z.inter;
-    let dim = z.heads * (half + half);
-    let size = 2 * dim + 4 * (dim * dim) + 2 * (inter * dim) + dim * inter;
+    let size = layer_floats(z);
     let mut ok = true;
     let mut l = 0usize;
-    let mut a = at;
+    let mut a = 0usize;
     while l < count {
         let r = pixtral_block_forward(s, z, row, part(w, a, size), cos, sin);
         ok = ok & r;
@@ -44,25 +41,24 @@ pub(crate) fn each_layer(
     ok
 }
 
-// The layers, on h at 0; what they hand on then stands there, with +0 behind it. Says whether all fits and every stage
+// The layers, whose weights are w, on h at 0; what they hand on then stands there, with +0 behind it. Says whether all fits and every stage
 // was finite; where one was not, all of the scratch is +0.
 pub fn layers(
     s: &mut [f32],
     z: Sizes,
     row: usize,
     w: &[f32],
-    at: usize,
     count: usize,
     cos: &[f32],
     sin: &[f32],
 ) -> bool
-    ensures { λ r. ⌜ r ≡ (layersFit z (length (now (s .entry))) (length (now (w .entry))) (length (now (cos .entry))) (length (now (sin .entry))) row at count
-        && ran (layersRun z at (now (w .entry)) (now (cos .entry)) (now (sin .entry)) count (hAt z (now (s .entry))))) ⌝ }
-    ensures { λ r. ⌜ now (s .exit) ≡ cond (layersFit z (length (now (s .entry))) (length (now (w .entry))) (length (now (cos .entry))) (length (now (sin .entry))) row at count)
-        (handed (layersRun z at (now (w .entry)) (now (cos .entry)) (now (sin .entry)) count (hAt z (now (s .entry)))) (now (s .entry))) (now (s .entry)) ⌝ }
+    ensures { λ r. ⌜ r ≡ (layersFit z (length (now (s .entry))) (length (now (w .entry))) (length (now (cos .entry))) (length (now (sin .entry))) row count
+        && ran (layersRun z (now (w .entry)) (now (cos .entry)) (now (sin .entry)) count (hAt z (now (s .entry))))) ⌝ }
+    ensures { λ r. ⌜ now (s .exit) ≡ cond (layersFit z (length (now (s .entry))) (length (now (w .entry))) (length (now (cos .entry))) (length (now (sin .entry))) row count)
+        (handed (layersRun z (now (w .entry)) (now (cos .entry)) (now (sin .entry)) count (hAt z (now (s .entry)))) (now (s .entry))) (now (s .entry)) ⌝ }
 {
-    if layers_fit(z, s.len(), w.len(), cos.len(), sin.len(), row, at, count) {
-        let ok = each_layer(s, z, row, w, at, count, cos, sin);
+    if layers_fit(z, s.len(), w.len(), cos.len(), sin.len(), row, count) {
+        let ok = each_layer(s, z, row, w, count, cos, sin);
         if ok {
             let half = z.half;
             let n = z.tokens * (z.heads * (half + half));

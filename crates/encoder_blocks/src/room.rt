@@ -1,7 +1,9 @@
 // Whether what the layers are handed fits. No test forms a number that could wrap.
 ghost use mathlib.Core.Path.{_≡_};
+ghost use Rattle.encoder_settings.specs.Weights.{floats};
+ghost use Rattle.encoder_blocks.specs.Sizes.{partsOf};
 ghost use Rattle.encoder_blocks.specs.inner.Room.{sizesFit, lengthsFit, layersFit};
-ghost use Rattle.encoder_blocks.specs.inner.Fits.{SizesFit};
+ghost use Rattle.encoder_blocks.specs.inner.Fits.{Products};
 use crate::Sizes;
 use buffers::room::inside;
 use buffers::room::rows_inside;
@@ -24,6 +26,17 @@ pub(crate) fn sizes_fit(z: Sizes) -> bool
     (rows_inside(2048, 0, z.heads, half + half) & few) & ((z.inter <= 8192) & (0 < z.grid_w))
 }
 
+// The weights of a layer.
+pub(crate) fn layer_floats(z: Sizes) -> usize
+    requires { ⌜ Products z ⌝ }
+    ensures { λ r. ⌜ r ≡ floats (partsOf z) ⌝ }
+{
+    let i = z.inter;
+    let half = z.half;
+    let h = z.heads * (half + half);
+    2 * h + 4 * (h * h) + 2 * (i * h) + h * i
+}
+
 // Tables, scratch and weights are long enough.
 pub(crate) fn lengths_fit(
     z: Sizes,
@@ -32,11 +45,10 @@ pub(crate) fn lengths_fit(
     lenc: usize,
     lenn: usize,
     row: usize,
-    at: usize,
     count: usize,
 ) -> bool
-    requires { ⌜ SizesFit z ⌝ }
-    ensures { λ r. ⌜ r ≡ lengthsFit z lens lenw lenc lenn row at count ⌝ }
+    requires { ⌜ Products z ⌝ }
+    ensures { λ r. ⌜ r ≡ lengthsFit z lens lenw lenc lenn row count ⌝ }
 {
     let t = z.tokens;
     let inter = z.inter;
@@ -45,10 +57,10 @@ pub(crate) fn lengths_fit(
     let dim = z.heads * hd;
     let table = z.side * z.side * hd;
     let used = 7 * (t * dim) + 2 * (t * inter);
-    let size = 2 * dim + 4 * (dim * dim) + 2 * (inter * dim) + dim * inter;
+    let size = layer_floats(z);
     let tables = (lenc == table) & (lenn == table);
     let places = ((used <= row) & inside(lens, row, t)) & (dim <= lens);
-    (tables & places) & rows_inside(lenw, at, count, size)
+    (tables & places) & rows_inside(lenw, 0, count, size)
 }
 
 pub(crate) fn layers_fit(
@@ -58,13 +70,12 @@ pub(crate) fn layers_fit(
     lenc: usize,
     lenn: usize,
     row: usize,
-    at: usize,
     count: usize,
 ) -> bool
-    ensures { λ r. ⌜ r ≡ layersFit z lens lenw lenc lenn row at count ⌝ }
+    ensures { λ r. ⌜ r ≡ layersFit z lens lenw lenc lenn row count ⌝ }
 {
     if sizes_fit(z) {
-        return lengths_fit(z, lens, lenw, lenc, lenn, row, at, count);
+        return lengths_fit(z, lens, lenw, lenc, lenn, row, count);
     }
     false
 }

@@ -1,5 +1,5 @@
 -- What allowed settings and an allowed grid say of the sizes and their products. Assumes nothing.
-use mathlib.Core.Path.{_≡_}
+use mathlib.Core.Path.{_≡_, ap}
 use mathlib.Core.Bool.{true, _&&_}
 use Prim.Native.Nat.{ℕ, _*_, _%_, _≤_}
 use native.Mathlib.Nat.{div-le-self}
@@ -16,9 +16,10 @@ use Rattle.picture_limits.proofs.Places.{square, times}
 use Rattle.picture_limits.proofs.Sides as Sides
 use Rattle.picture_limits.proofs.Sides.{within-says}
 use Rattle.encoder_settings.specs.declared.EncoderSettings.{EncoderSettings}
-use Rattle.encoder_settings.specs.Weights.{layerFloats}
+use Rattle.encoder_settings.specs.Weights.{floats, layer}
 use Rattle.encoder_settings.specs.Settings.{ranged, scalingAllowed, allowed}
 use Rattle.encoder_settings.specs.inner.Bounds.{Bounded, Counted}
+use Rattle.encoder_settings.proofs.Weights.{layer-long}
 
 pub record Ranges (s : EncoderSettings) : Type 0 where
   pub hidden : (4 ≤ s .«hidden_size») × (s .«hidden_size» ≤ 2048)
@@ -82,8 +83,8 @@ bounded s a =
     let PP = times (most (s .picture)) (most (s .picture)) 2048 2048 P P in
     let f : patchFloats (s .picture .«patch_size») ≤ 3072 = omega arith in
     let hi = times h i 2048 8192 (r .hidden .1) (r .inner .1) in
-    let l : layerFloats h i ≤ 67112960 = omega arith in
-    let L = times (s .«num_layers») (layerFloats h i) 48 67112960 (r .layers) l in
+    let l : floats (layer h i) ≤ 67112960 = omega arith in
+    let L = times (s .«num_layers») (floats (layer h i)) 48 67112960 (r .layers) l in
     record {
       patch-low = q .patch-low;
       merge-low = q .merge-low;
@@ -98,6 +99,7 @@ bounded s a =
       inner = ih;
       projection = times h (patchFloats (s .picture .«patch_size»)) 2048 3072 (r .hidden .1) f;
       layers = omega (arith, L);
+      layers-are = ap (λ (n : ℕ). s .«num_layers» * n) (layer-long h i);
       merged = hm;
       merging = times h (h * (m * m)) 2048 32768 (r .hidden .1) hm;
       linear-1 = times x h 8192 2048 (r .text .1) (r .hidden .1);

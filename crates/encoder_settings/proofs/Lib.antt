@@ -1,3 +1,4 @@
+pub mod Weights
 pub mod Bounds
 pub mod Accepted
 pub mod Compared

@@ -12,12 +12,11 @@ use Rattle.picture_limits.specs.Refusal as R
 use Rattle.picture_limits.specs.Refusal.{unless}
 use Rattle.picture_limits.specs.Settings as P
 use Rattle.picture_limits.specs.Settings.{within}
-use Rattle.picture_limits.specs.Places.{patchFloats}
 use Rattle.picture_limits.specs.Shape.{most, shaped}
 use Rattle.encoder_settings.specs.declared.EncoderSettings.{EncoderSettings}
 use Rattle.encoder_settings.specs.declared.Checked.{Checked}
 use Rattle.encoder_settings.specs.declared.Checked.the-variants.{Accepted, Refused}
-use Rattle.encoder_settings.specs.Weights.{layerFloats, projectorFloats}
+use Rattle.encoder_settings.specs.Weights.{floats, weights}
 
 abbrev pub ranged : EncoderSettings → Bool
 ranged s =
@@ -35,11 +34,9 @@ allowed s =
 abbrev pub mergeArea : PictureSettings → ℕ
 mergeArea s = s .«spatial_merge_size» * s .«spatial_merge_size»
 
--- all weights: patch_conv, ln_pre, the layers, the projector
+-- 9: all weights
 abbrev pub weightFloats : EncoderSettings → ℕ
-weightFloats s =
-    s .«hidden_size» * patchFloats (s .picture .«patch_size») + s .«hidden_size» + s .«num_layers» * layerFloats (s .«hidden_size») (s .«intermediate_size»)
-    + projectorFloats (s .«hidden_size») (s .«hidden_size» * mergeArea (s .picture)) (s .«text_hidden_size»)
+weightFloats s = floats (weights s)
 
 -- either rotary table
 abbrev pub tableFloats : EncoderSettings → ℕ

@@ -1,10 +1,64 @@
--- How many weights a layer and the projector have. Assumes nothing.
+-- The weights: one slice, of named parts that stand one behind the other. A norm has H floats; a matrix is row-major, [out, in],
+-- and has out * in. H hidden, I intermediate, X text. Assumes nothing.
+use mathlib.Core.Bool.{cond}
+use mathlib.Core.List.{List, [], _∷_}
 use Prim.Native.Nat.{ℕ, _+_, _*_}
+use Prim.Native.String.{String}
+use lib.ListN.{take, drop}
+use lib.Text.{eqt}
+use lib.Ieee.{Float}
+use Rattle.buffers.specs.Region.{region}
+use Rattle.picture_limits.specs.Places.{patchFloats}
+use Rattle.encoder_settings.specs.declared.EncoderSettings.{EncoderSettings}
 
--- a layer, by the hidden and the intermediate size: two norms; q, k, v, o; gate, up; down
-abbrev pub layerFloats : ℕ → ℕ → ℕ
-layerFloats h i = 2 * h + 4 * (h * h) + 2 * (i * h) + h * i
+-- ---- a table: the parts in order, each by its name and its count of floats
 
--- the projector, by the hidden size, the width of a merged row and the text size
-abbrev pub projectorFloats : ℕ → ℕ → ℕ → ℕ
-projectorFloats h wide x = h + h * wide + x * h + x * x
+abbrev pub Table : Type 0
+Table = List (String × ℕ)
+
+-- the floats of all parts
+abbrev pub floats : Table → ℕ
+floats [] = 0
+floats (p ∷ t) = p .1 + floats t
+
+-- a slice cut into its parts: each name with the floats that are its own
+unfoldable pub cut : Table → List Float → List (String × List Float)
+cut [] w = []
+cut (p ∷ t) w = (p .0, take (p .1) w) ∷ cut t (drop (p .1) w)
+
+-- the floats under a name
+unfoldable pub named : List (String × List Float) → String → List Float
+named [] name = []
+named (p ∷ ps) name = cond (eqt (p .0) name) (p .1) (named ps name)
+
+-- the part of that name, of a slice w
+abbrev pub part : Table → String → List Float → List Float
+part t name w = named (cut t w) name
+
+-- ---- the tables
+
+-- with F floats a patch
+abbrev pub embedding : ℕ → ℕ → Table
+embedding H F = ("patch_conv", H * F) ∷ ("ln_pre", H) ∷ []
+
+abbrev pub layer : ℕ → ℕ → Table
+layer H I =
+    ("attention_norm", H) ∷ ("q", H * H) ∷ ("k", H * H) ∷ ("v", H * H) ∷ ("o", H * H)
+    ∷ ("ffn_norm", H) ∷ ("gate", I * H) ∷ ("up", I * H) ∷ ("down", H * I) ∷ []
+
+-- layer l of a slice w of layers
+abbrev pub nthLayer : ℕ → ℕ → ℕ → List Float → List Float
+nthLayer H I l w = region w (l * floats (layer H I)) (floats (layer H I))
+
+-- with wide floats a merged row
+abbrev pub projector : ℕ → ℕ → ℕ → Table
+projector H wide X = ("norm", H) ∷ ("merging_layer", H * wide) ∷ ("linear_1", X * H) ∷ ("linear_2", X * X) ∷ []
+
+-- all weights: the embedding's, those of each layer, the projector's
+abbrev pub weights : EncoderSettings → Table
+weights s =
+    let H = s .«hidden_size» in
+    let m = s .picture .«spatial_merge_size» in
+    ("embedding", floats (embedding H (patchFloats (s .picture .«patch_size»))))
+    ∷ ("layers", s .«num_layers» * floats (layer H (s .«intermediate_size»)))
+    ∷ ("projector", floats (projector H (H * (m * m)) (s .«text_hidden_size»))) ∷ []

@@ -1,16 +1,17 @@
 -- The embedding from its stages, and the whole run from its pieces. Assumes nothing.
-use mathlib.Core.Bool.{Bool, _&&_}
-use mathlib.Core.Path.{_≡_, ap, _∙_}
-use mathlib.Core.List.{List}
+use mathlib.Core.Bool.{Bool, true, false, _&&_}
+use mathlib.Core.Path.{_≡_, refl, sym, ap, _∙_}
+use mathlib.Core.List.{List, [], _∷_}
 use Prim.Native.Nat.{ℕ, _*_, _≤_}
 use native.Mathlib.Omega.{arith}
 use lib.ListN.{length}
 use lib.Ieee.{Float}
 use Rattle.buffers.specs.Region.{region}
+use Rattle.encoder_settings.specs.Weights.{part, embedding}
 use Rattle.encoder_blocks.specs.declared.Sizes.{Sizes}
 use Rattle.encoder_blocks.specs.Sizes.{dimOf, nOf}
 use Rattle.encoder_elements.specs.Element.{rounded}
-use Rattle.encoder_steps.specs.Run.{Run, fine, answer, thenRun}
+use Rattle.encoder_steps.specs.Run.{Run, fine, answer, checked, thenRun}
 use Rattle.encoder_stages.specs.Embed.{patchConv, lnPre, embedRun}
 use Rattle.encoder_stages.specs.inner.Inputs.{inputsFine}
 use Rattle.encoder_steps.specs.inner.Step.{Wrote}
@@ -27,11 +28,11 @@ module _ (z : Sizes) (f : ℕ) (w x s : List Float) (room : 2 * nOf z ≤ length
 
   length-conv : length (patchConv z f w x) ≡ n
   unfolding patchConv
-  length-conv = length-linear (z .tokens) f (dimOf z) (region w 0 (dimOf z * f)) x
+  length-conv = length-linear (z .tokens) f (dimOf z) (part (embedding (dimOf z) f) "patch_conv" w) x
 
   length-pre : (h : List Float) → length (lnPre z f w h) ≡ n
   unfolding lnPre
-  length-pre h = length-norm (z .tokens) (dimOf z) (region w (dimOf z * f) (dimOf z)) h
+  length-pre h = length-norm (z .tokens) (dimOf z) (part (embedding (dimOf z) f) "ln_pre" w) h
 
   pub embedded : (s₁ s₂ s₃ s₄ : List Float) (ok a b c r : Bool)
       → Wrote s s₁ n (patchConv z f w x) ok a
@@ -55,10 +56,25 @@ module _ (z : Sizes) (f : ℕ) (w x s : List Float) (room : 2 * nOf z ≤ length
         fine-is = cc;
       }
 
-pub embed-run : (z : Sizes) (f : ℕ) (w cos sin x t : List Float) (ok r : Bool) → ok ≡ inputsFine x w cos sin → Embedded z f w x t ok r
-    → answer r (hAt z t) ≡ embedRun z f w cos sin x
+fine-not : (ls : List (List Float)) → fine false ls ≡ false
+unfolding fine
+fine-not [] = refl
+fine-not (l ∷ ls) = fine-not ls
+
+fine-and : (ok : Bool) (ls : List (List Float)) → fine ok ls ≡ (ok && fine true ls)
+fine-and true ls = refl
+fine-and false ls = fine-not ls
+
+pub embed-run : (z : Sizes) (f : ℕ) (w v cos sin x t : List Float) (ok r : Bool) → ok ≡ inputsFine x w cos sin → Embedded z f v x t ok r
+    → answer r (hAt z t) ≡ thenRun (checked (x ∷ w ∷ cos ∷ sin ∷ []) x) (embedRun z f v)
 unfolding fine embedRun
-embed-run z f w cos sin x t ok r e g = rw (g .h-is, g .fine-is, e)
+embed-run z f w v cos sin x t ok r e g =
+    let a = patchConv z f v x in
+    let b = rounded (nOf z) a in
+    let c = lnPre z f v b in
+    let k = fine true (a ∷ b ∷ c ∷ rounded (nOf z) c ∷ []) in
+    ap (λ u. answer u (hAt z t)) (g .fine-is ∙ fine-and ok (a ∷ b ∷ c ∷ rounded (nOf z) c ∷ []))
+    ∙ answer-then ok k x (hAt z t) (embedRun z f v) (ap (answer k) (sym (g .h-is))) ∙ ap (λ u. thenRun (answer u x) (embedRun z f v)) e
 
 -- three runs one after another
 pub three : (a b c : Bool) (l m n : List Float) (r : Run) (f g : List Float → Run) → answer a l ≡ r → f l ≡ answer b m → g m ≡ answer c n

@@ -11,6 +11,7 @@ use Rattle.buffers.specs.Rows.{tab, rows}
 use Rattle.buffers.specs.Region.{region, put}
 use Rattle.buffers.proofs.Regions.{length-put, region-put-same}
 use Rattle.buffers.proofs.Lists.{length-tab, length-rows}
+use Rattle.encoder_settings.specs.Weights.{part, projector}
 use Rattle.encoder_kernels.specs.Finite.{sound}
 use Rattle.encoder_elements.specs.Element.{gelued}
 use Rattle.encoder_stages.specs.Merge.{placeOf, mergedToken, mergeOf}
@@ -43,19 +44,19 @@ length-merge merge gh gw dim x =
 module _ (t dim o wide text : ℕ) where
   length-normed : (w h : List Float) → length (projNorm t dim o wide text w h) ≡ t * dim
   unfolding projNorm
-  length-normed w h = length-norm t dim (region w 0 dim) h
+  length-normed w h = length-norm t dim (part (projector dim wide text) "norm" w) h
 
   length-folded : (w g : List Float) → length (mergingLayer t dim o wide text w g) ≡ o * dim
   unfolding mergingLayer
-  length-folded w g = length-linear o wide dim (region w dim (dim * wide)) g
+  length-folded w g = length-linear o wide dim (part (projector dim wide text) "merging_layer" w) g
 
   length-first : (w g : List Float) → length (linear1 t dim o wide text w g) ≡ o * text
   unfolding linear1
-  length-first w g = length-linear o dim text (region w (dim + dim * wide) (text * dim)) g
+  length-first w g = length-linear o dim text (part (projector dim wide text) "linear_1" w) g
 
   length-second : (w g : List Float) → length (linear2 t dim o wide text w g) ≡ o * text
   unfolding linear2
-  length-second w g = length-linear o text text (region w (dim + dim * wide + text * dim) (text * text)) g
+  length-second w g = length-linear o text text (part (projector dim wide text) "linear_2" w) g
 
   length-merged : (merge gh gw : ℕ) (x : List Float) → gh / merge * (gw / merge) ≡ o → wide ≡ dim * (merge * merge) → length (mergeOf merge gh gw dim x) ≡ o * wide
   length-merged merge gh gw x e g = length-merge merge gh gw dim x ∙ cc

@@ -1,7 +1,7 @@
 -- What an acceptance says of a run: its places and sizes fit. Assumes nothing.
 use mathlib.Core.Path.{_≡_, refl, sym, ap, _∙_}
 use mathlib.Core.List.{List}
-use Prim.Native.Nat.{ℕ, zero, suc, _+_, _*_, _/_, _%_, _≤_, _<_}
+use Prim.Native.Nat.{ℕ, zero, suc, _+_, _*_, _-_, _/_, _%_, _≤_, _<_}
 use native.Mathlib.Nat.{suc-mul, mul-le-mul-right, mul-comm, mul-left-comm, mul-mul-mul-comm, mul-pos, mul-div-cancel, div-le-self, div-mul-cancel, dvd-of-mod-eq-zero, le-div-iff-mul-le}
 use native.Mathlib.Omega.{arith}
 use lib.Ieee.{Float}
@@ -10,13 +10,15 @@ use Rattle.picture_limits.specs.Places.{patchFloats}
 use Rattle.picture_limits.specs.Shape.{most}
 use Rattle.encoder_settings.specs.declared.EncoderSettings.{EncoderSettings}
 use Rattle.encoder_settings.specs.Settings.{mergeArea}
+use Rattle.encoder_settings.specs.Weights.{floats}
+use Rattle.encoder_settings.proofs.Weights.{layer-long}
 use Rattle.encoder_settings.proofs.Accepted.{Lengths, Ready}
 use Rattle.encoder_blocks.specs.declared.Sizes.{Sizes}
-use Rattle.encoder_blocks.specs.Sizes.{hdOf, dimOf}
-use Rattle.encoder_stages.specs.inner.Live.{regionsOf}
-use Rattle.encoder_stages.specs.Forward.{sizesOf, placesOf, runOf, forwardRun}
+use Rattle.encoder_blocks.specs.Sizes.{hdOf, dimOf, partsOf}
+use Rattle.encoder_stages.specs.inner.Live.{regionsOf, countsOf}
+use Rattle.encoder_stages.specs.Forward.{sizesOf, runOf, forwardRun}
 use Rattle.encoder_blocks.specs.inner.Fits.{TurnFits, LayersFits}
-use Rattle.encoder_stages.specs.inner.Fits.{PlacesFit, RegionsFit, EmbedFits, SourceFits, MergeFits, ProjFits, RunFits}
+use Rattle.encoder_stages.specs.inner.Fits.{CountsFit, RegionsFit, EmbedFits, SourceFits, MergeFits, ProjFits, RunFits}
 
 -- the two halves of a head
 halves : (d : ℕ) → d % 4 ≡ 0 → d / 2 + d / 2 ≡ d
@@ -74,8 +76,8 @@ module _ (s : EncoderSettings) (gh gw lenx lenw lenc lenn out lens t o : ℕ) (r
   merged : o * (H * (m * m)) ≡ t * H
   merged = mul-left-comm o H (m * m) ∙ ap (λ (k : ℕ). H * k) whole ∙ mul-comm H t
 
-  place-fits : PlacesFit s z
-  place-fits =
+  counts-fit : CountsFit s z
+  counts-fit =
       let b = r .bounds in
       record {
         narrow = rw head-is (r .settings .ranges .width .1);
@@ -85,12 +87,9 @@ module _ (s : EncoderSettings) (gh gw lenx lenw lenc lenn out lens t o : ℕ) (r
         squares = rw dim-is (b .squares);
         inner = rw dim-is (b .inner);
         outer = rw dim-is (b .outer);
-        layers = rw dim-is (b .layers);
+        layers = rw dim-is (omega (arith, b .layers, b .layers-are));
         merge-area = b .merge-area;
-        wide = rw dim-is (b .merged);
-        merging = rw dim-is (b .merging);
-        linear-1 = rw dim-is (b .linear-1);
-        linear-2 = b .linear-2;
+        merged = rw dim-is (b .merged);
       }
 
   regions-fit : RegionsFit z (o * s .«text_hidden_size»)
@@ -103,14 +102,14 @@ module _ (s : EncoderSettings) (gh gw lenx lenw lenc lenn out lens t o : ℕ) (r
         texts = r .counts .texts;
       }
 
-  embed-fits : EmbedFits z lenx lens lenw (placesOf s z .floats)
+  embed-fits : EmbedFits z lenx lens (countsOf s z .embedding) (countsOf s z .patch)
   embed-fits =
       record {
         narrow = rw head-is (r .settings .ranges .width .1);
         small = rw dim-is (r .bounds .hidden-high);
         xin = r .patches-are ∙ ap (λ (k : ℕ). k * patchFloats (s .picture .«patch_size»)) (sym (r .tokens-are));
         room = rw dim-is (omega (arith, l .scratch-holds));
-        weights = rw dim-is (omega (arith, l .weights-are));
+        weights = omega arith;
       }
 
   side-holds : (g : ℕ) → g * s .picture .«patch_size» ≤ s .picture .«image_size» → g ≤ most (s .picture)
@@ -132,11 +131,10 @@ module _ (s : EncoderSettings) (gh gw lenx lenw lenc lenn out lens t o : ℕ) (r
         sines = l .sin-are ∙ ap (λ (k : ℕ). p * p * k) (sym head-is);
       }
 
-  layers-fit : LayersFits z lens lenw lenc lenn (regionsOf z (o * s .«text_hidden_size») .row) (placesOf s z .layers) (s .«num_layers»)
+  layers-fit : LayersFits z lens (countsOf s z .layers) lenc lenn (regionsOf z (o * s .«text_hidden_size») .row) (s .«num_layers»)
   layers-fit =
       record {
-        weights = rw dim-is (omega (arith, l .weights-are));
-        one = rw dim-is (omega (arith, r .bounds .squares, r .bounds .inner, r .bounds .outer, r .bounds .hidden-high));
+        weights = let e : countsOf s z .layers ≡ s .«num_layers» * floats (partsOf z) = ap (λ (n : ℕ). s .«num_layers» * n) (layer-long (dimOf z) (z .inter)) in omega arith;
         inner = r .settings .ranges .inner .1;
         turn = turn-fits;
         scores = record { behind = omega arith; inside = rw dim-is (omega (arith, l .scratch-holds)) };
@@ -187,12 +185,12 @@ module _ (s : EncoderSettings) (gh gw lenx lenw lenc lenn out lens t o : ℕ) (r
         apart = before (omega (arith, e));
       }
 
-  project-fits : ProjFits t (dimOf z) o (placesOf s z .wide) (s .«text_hidden_size») lens (placesOf s z .size) m gh gw (regionsOf z (o * s .«text_hidden_size») .linear)
+  project-fits : ProjFits t (dimOf z) o (countsOf s z .merged) (s .«text_hidden_size») lens (lenw - (countsOf s z .embedding + countsOf s z .layers)) m gh gw (regionsOf z (o * s .«text_hidden_size») .linear)
   project-fits =
       let f : o * (dimOf z * (m * m)) ≡ t * dimOf z = rw dim-is merged in
       record {
         small = rw dim-is (r .bounds .hidden-high);
-        weights = omega arith;
+        weights = rw dim-is (omega (arith, l .weights-are, r .bounds .layers-are));
         same = ap (λ (k : ℕ). k * dimOf z) (sym (r .tokens-are));
         count = count;
         wide-is = refl;
@@ -207,11 +205,13 @@ module _ (s : EncoderSettings) (gh gw lenx lenw lenc lenn out lens t o : ℕ) (r
   run-fits =
       record {
         dim-is = dim-is;
-        places = place-fits;
+        counts = counts-fit;
         regions = regions-fit;
+        embedding-is = rw dim-is (omega arith);
+        layers-is = rw dim-is (r .bounds .layers-are);
+        weights-is = l .weights-are;
         embeds = embed-fits;
         layers = layers-fit;
-        part = rw dim-is (omega (arith, l .weights-are));
         projects = project-fits;
       }
 

@@ -1,8 +1,9 @@
--- Patch projection and ln_pre, each rounded to bf16; f floats a patch. Assumes nothing.
+-- Patch projection and ln_pre, each rounded to bf16; f floats a patch. w is the embedding's part of the weights.
+-- Assumes nothing.
 use mathlib.Core.List.{List, [], _∷_}
-use Prim.Native.Nat.{ℕ, _*_}
+use Prim.Native.Nat.{ℕ}
 use lib.Ieee.{Float}
-use Rattle.buffers.specs.Region.{region}
+use Rattle.encoder_settings.specs.Weights.{part, embedding}
 use Rattle.encoder_blocks.specs.declared.Sizes.{Sizes}
 use Rattle.encoder_blocks.specs.Sizes.{dimOf, nOf}
 use Rattle.encoder_linear.specs.Linear.{linearOf}
@@ -11,15 +12,15 @@ use Rattle.encoder_kernels.specs.Norm.{normOf}
 use Rattle.encoder_steps.specs.Run.{Run, checked}
 
 unfoldable pub patchConv : Sizes → ℕ → List Float → List Float → List Float
-patchConv z f w x = linearOf (z .tokens) f (dimOf z) (region w 0 (dimOf z * f)) x
+patchConv z f w x = linearOf (z .tokens) f (dimOf z) (part (embedding (dimOf z) f) "patch_conv" w) x
 
 unfoldable pub lnPre : Sizes → ℕ → List Float → List Float → List Float
-lnPre z f w h = normOf (z .tokens) (dimOf z) (region w (dimOf z * f) (dimOf z)) h
+lnPre z f w h = normOf (z .tokens) (dimOf z) (part (embedding (dimOf z) f) "ln_pre" w) h
 
-unfoldable pub embedRun : Sizes → ℕ → List Float → List Float → List Float → List Float → Run
-embedRun z f w cos sin x =
+unfoldable pub embedRun : Sizes → ℕ → List Float → List Float → Run
+embedRun z f w x =
     let a = patchConv z f w x in
     let b = rounded (nOf z) a in
     let c = lnPre z f w b in
     let d = rounded (nOf z) c in
-    checked (x ∷ w ∷ cos ∷ sin ∷ a ∷ b ∷ c ∷ d ∷ []) d
+    checked (a ∷ b ∷ c ∷ d ∷ []) d

@@ -1,19 +1,16 @@
 -- Forward, stage by stage: from the patches to the token vectors, or stopped where a stage holds a value that is not
 -- finite. Assumes nothing.
-use mathlib.Core.List.{List}
-use Prim.Native.Nat.{ℕ, _+_, _*_, _/_}
+use mathlib.Core.List.{List, [], _∷_}
+use Prim.Native.Nat.{ℕ, _*_, _/_}
 use lib.Ieee.{Float}
-use Rattle.buffers.specs.Region.{region}
 use Rattle.picture_limits.specs.Places.{patchFloats}
 use Rattle.picture_limits.specs.Shape.{most}
 use Rattle.encoder_settings.specs.declared.EncoderSettings.{EncoderSettings}
-use Rattle.encoder_settings.specs.Weights.{projectorFloats}
+use Rattle.encoder_settings.specs.Weights.{part, weights}
 use Rattle.encoder_settings.specs.Settings.{mergeArea}
 use Rattle.encoder_blocks.specs.declared.Sizes.{Sizes}
-use Rattle.encoder_stages.specs.declared.Places.{Places}
 use Rattle.encoder_blocks.specs.Sizes.{dimOf}
-use Rattle.encoder_blocks.specs.Weights.{layerOf}
-use Rattle.encoder_steps.specs.Run.{Run, thenRun}
+use Rattle.encoder_steps.specs.Run.{Run, checked, thenRun}
 use Rattle.encoder_stages.specs.Embed.{embedRun}
 use Rattle.encoder_blocks.specs.Layers.{layersRun}
 use Rattle.encoder_stages.specs.Project.{projectRun}
@@ -31,31 +28,14 @@ sizesOf s t gw =
       scaling = s .scaling;
     }
 
--- where the layers' weights and the projector's start
-abbrev pub layersAt : Sizes → ℕ → ℕ
-layersAt z f = dimOf z * f + dimOf z
-
-abbrev pub projectorAt : Sizes → ℕ → ℕ → ℕ
-projectorAt z f count = layersAt z f + count * layerOf z
-
--- the places in the weights that follow from them
-abbrev pub placesOf : EncoderSettings → Sizes → Places
-placesOf s z =
-    record {
-      floats = patchFloats (s .picture .«patch_size»);
-      layers = layersAt z (patchFloats (s .picture .«patch_size»));
-      projector = projectorAt z (patchFloats (s .picture .«patch_size»)) (s .«num_layers»);
-      wide = dimOf z * mergeArea (s .picture);
-      size = projectorFloats (dimOf z) (dimOf z * mergeArea (s .picture)) (s .«text_hidden_size»);
-    }
-
--- t tokens of a grid gh by gw, of which o are left: the embedding, the layers, the projector
+-- t tokens of a grid gh by gw, of which o are left: the inputs are examined, then the embedding, the layers, the projector
 unfoldable pub runOf : EncoderSettings → ℕ → ℕ → ℕ → ℕ → List Float → List Float → List Float → List Float → Run
 runOf s gh gw t o w cos sin x =
     let z = sizesOf s t gw in
-    let p = placesOf s z in
-    thenRun (thenRun (embedRun z (p .floats) w cos sin x) (layersRun z (p .layers) w cos sin (s .«num_layers»)))
-    (projectRun t (dimOf z) o (p .wide) (s .«text_hidden_size») (s .picture .«spatial_merge_size») gh gw (region w (p .projector) (p .size)))
+    thenRun (thenRun (thenRun (checked (x ∷ w ∷ cos ∷ sin ∷ []) x)
+    (embedRun z (patchFloats (s .picture .«patch_size»)) (part (weights s) "embedding" w)))
+    (layersRun z (part (weights s) "layers" w) cos sin (s .«num_layers»)))
+    (projectRun t (dimOf z) o (dimOf z * mergeArea (s .picture)) (s .«text_hidden_size») (s .picture .«spatial_merge_size») gh gw (part (weights s) "projector" w))
 
 abbrev pub forwardRun : EncoderSettings → ℕ → ℕ → List Float → List Float → List Float → List Float → Run
 forwardRun s gh gw = runOf s gh gw (gh * gw) (gh * gw / mergeArea (s .picture))

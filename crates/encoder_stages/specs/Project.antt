@@ -1,9 +1,8 @@
--- The projector: norm, spatial merge, merging layer, linear_1, gelu, linear_2. Its weights are w: the norm, then the
--- three matrices. Assumes nothing.
+-- The projector: norm, spatial merge, merging layer, linear_1, gelu, linear_2. w is its part of the weights. Assumes nothing.
 use mathlib.Core.List.{List, [], _∷_}
-use Prim.Native.Nat.{ℕ, _+_, _*_}
+use Prim.Native.Nat.{ℕ, _*_}
 use lib.Ieee.{Float}
-use Rattle.buffers.specs.Region.{region}
+use Rattle.encoder_settings.specs.Weights.{part, projector}
 use Rattle.encoder_linear.specs.Linear.{linearOf}
 use Rattle.encoder_kernels.specs.Norm.{normOf}
 use Rattle.encoder_elements.specs.Element.{gelued}
@@ -13,16 +12,16 @@ use Rattle.encoder_steps.specs.Run.{Run, checked}
 -- t tokens of dim; o output tokens, whose merged rows have wide floats; text
 module _ (t dim o wide text : ℕ) where
   unfoldable pub projNorm : List Float → List Float → List Float
-  projNorm w h = normOf t dim (region w 0 dim) h
+  projNorm w h = normOf t dim (part (projector dim wide text) "norm" w) h
 
   unfoldable pub mergingLayer : List Float → List Float → List Float
-  mergingLayer w g = linearOf o wide dim (region w dim (dim * wide)) g
+  mergingLayer w g = linearOf o wide dim (part (projector dim wide text) "merging_layer" w) g
 
   unfoldable pub linear1 : List Float → List Float → List Float
-  linear1 w a = linearOf o dim text (region w (dim + dim * wide) (text * dim)) a
+  linear1 w a = linearOf o dim text (part (projector dim wide text) "linear_1" w) a
 
   unfoldable pub linear2 : List Float → List Float → List Float
-  linear2 w b = linearOf o text text (region w (dim + dim * wide + text * dim) (text * text)) b
+  linear2 w b = linearOf o text text (part (projector dim wide text) "linear_2" w) b
 
   unfoldable pub projectRun : ℕ → ℕ → ℕ → List Float → List Float → Run
   projectRun merge gh gw w h =

@@ -44,7 +44,7 @@ pub(crate) fn from_fine(
     ok & finite(part(s, y, e))
 }
 
-// Patch projection and ln_pre, each rounded to bf16: h at 0.
+// Patch projection and ln_pre, each rounded to bf16: h at 0. w is the embedding's part of the weights.
 pub(crate) fn embed(x: &[f32], s: &mut [f32], z: Sizes, f: usize, w: &[f32], ok: bool) -> bool
     requires { ⌜ EmbedFits z (length (now x)) (length (now s)) (length (now w)) f ⌝ }
     ensures { λ r. ⌜ Embedded z f (now (w .entry)) (now (x .entry)) (now (s .exit)) ok r ⌝ }

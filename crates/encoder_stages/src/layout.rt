@@ -1,10 +1,10 @@
-// The sizes of a call, and the places in weights and scratch that follow from them.
+// The sizes of a call, how they cut the weights, and the places in the scratch that follow from them.
 ghost use mathlib.Core.Path.{_≡_};
 ghost use Prim.Native.Nat.{_≤_};
-ghost use Rattle.encoder_stages.specs.inner.Live.{regionsOf};
-ghost use Rattle.encoder_stages.specs.Forward.{sizesOf, placesOf};
-ghost use Rattle.encoder_stages.specs.inner.Fits.{PlacesFit, RegionsFit};
-use crate::Places;
+ghost use Rattle.encoder_stages.specs.inner.Live.{regionsOf, countsOf};
+ghost use Rattle.encoder_stages.specs.Forward.{sizesOf};
+ghost use Rattle.encoder_stages.specs.inner.Fits.{CountsFit, RegionsFit};
+use crate::Counts;
 use crate::Regions;
 use encoder_blocks::Sizes;
 use encoder_settings::EncoderSettings;
@@ -25,9 +25,9 @@ pub(crate) fn sizes_of(s: EncoderSettings, t: usize, gw: usize) -> Sizes
     }
 }
 
-pub(crate) fn places(s: EncoderSettings, z: Sizes) -> Places
-    requires { ⌜ PlacesFit s z ⌝ }
-    ensures { λ r. ⌜ r ≡ placesOf s z ⌝ }
+pub(crate) fn counts_of(s: EncoderSettings, z: Sizes) -> Counts
+    requires { ⌜ CountsFit s z ⌝ }
+    ensures { λ r. ⌜ r ≡ countsOf s z ⌝ }
 {
     let q = s.picture;
     let p = q.patch_size;
@@ -35,17 +35,13 @@ pub(crate) fn places(s: EncoderSettings, z: Sizes) -> Places
     let i = z.inter;
     let half = z.half;
     let h = z.heads * (half + half);
-    let x = s.text_hidden_size;
     let f = 3 * (p * p);
-    let at = h * f + h;
     let layer = 2 * h + 4 * (h * h) + 2 * (i * h) + h * i;
-    let wide = h * (m * m);
-    Places {
-        floats: f,
-        layers: at,
-        projector: at + s.num_layers * layer,
-        wide: wide,
-        size: h + h * wide + x * h + x * x,
+    Counts {
+        patch: f,
+        embedding: h * f + h,
+        layers: s.num_layers * layer,
+        merged: h * (m * m),
     }
 }
 

@@ -4,14 +4,12 @@ mod layout;
 mod projector;
 pub mod run;
 
-// The floats of a patch, where the layers and the projector stand in the weights, the width of a merged row, and the
-// floats of the projector.
-pub(crate) struct Places {
-    pub floats: usize,
+// The floats of a patch, of the embedding's weights, of all layers' weights and of a merged row.
+pub(crate) struct Counts {
+    pub patch: usize,
+    pub embedding: usize,
     pub layers: usize,
-    pub projector: usize,
-    pub wide: usize,
-    pub size: usize,
+    pub merged: usize,
 }
 
 // Where linear_1's result and the score row stand in the scratch.

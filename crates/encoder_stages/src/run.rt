@@ -11,7 +11,7 @@ ghost use Rattle.encoder_stages.specs.Vectors.{ranBy, leftBy, ranOf, lef
 ghost use Rattle.encoder_stages.specs.inner.Fits.{RunFits};
 use crate::embed::embed;
 use crate::embed::inputs_fine;
-use crate::layout::places;
+use crate::layout::counts_of;
 use crate::layout::regions;
 use crate::layout::sizes_of;
 use crate::projector::projector_forward;
@@ -44,21 +44,23 @@ pub(crate) fn encode(
 {
     let q = s.picture;
     let z = sizes_of(s, t, gw);
-    let p = places(s, z);
+    let p = counts_of(s, z);
     let r = regions(z, o * s.text_hidden_size);
     let half = z.half;
     let h = z.heads * (half + half);
+    let at = p.embedding + p.layers;
     let ok = inputs_fine(patches, w, cos, sin);
-    let a = embed(patches, scratch, z, p.floats, w, ok);
-    let b = layers(scratch, z, r.row, w, p.layers, s.num_layers, cos, sin);
-    let v = part(w, p.projector, p.size);
+    let a = embed(patches, scratch, z, p.patch, part(w, 0, p.embedding), ok);
+    let v = part(w, p.embedding, p.layers);
+    let b = layers(scratch, z, r.row, v, s.num_layers, cos, sin);
+    let u = part(w, at, w.len() - at);
     let c = projector_forward(
         scratch,
-        v,
+        u,
         t,
         h,
         o,
-        p.wide,
+        p.merged,
         s.text_hidden_size,
         q.spatial_merge_size,
         gh,

@@ -1,15 +1,14 @@
 -- What the inner functions ask of the places and lengths that they are handed. Assumes nothing.
 use mathlib.Core.Path.{_≡_}
 use Prim.Native.Nat.{ℕ, _+_, _*_, _≤_, _<_}
-use Rattle.buffers.specs.inner.Apart.{Apart}
 use Rattle.encoder_blocks.specs.declared.Sizes.{Sizes}
-use Rattle.encoder_blocks.specs.Sizes.{hdOf, dimOf, nOf, mOf}
-use Rattle.encoder_blocks.specs.Weights.{layerOf}
+use Rattle.encoder_settings.specs.Weights.{floats}
+use Rattle.encoder_blocks.specs.Sizes.{hdOf, dimOf, nOf, mOf, partsOf}
 
 -- what a block asks of its shape and of the lengths of scratch and weights
 pub record BlockFits (z : Sizes) (lens lenw : ℕ) : Type 0 where
   pub scratch : 7 * nOf z + 2 * mOf z ≤ lens
-  pub weights : lenw ≡ layerOf z
+  pub weights : lenw ≡ floats (partsOf z)
   pub small : dimOf z ≤ 2048
   pub narrow : hdOf z ≤ 256
   pub dimIn : dimOf z ≤ lens
@@ -32,23 +31,14 @@ pub record TurnFits (z : Sizes) (lens lenc lenn : ℕ) : Type 0 where
   pub cosines : lenc ≡ z .side * z .side * hdOf z
   pub sines : lenn ≡ z .side * z .side * hdOf z
 
--- a linear layer by matrix i of q, k, v, o, from x to y
-pub record SquareAt (z : Sizes) (lens lenw i x y : ℕ) : Type 0 where
-  pub fits : BlockFits z lens lenw
-  pub which : i < 4
-  pub xIn : x + nOf z ≤ lens
-  pub yIn : y + nOf z ≤ lens
-  pub apart : Apart x (nOf z) y (nOf z)
-
 -- rotation at x
 pub record TurnAt (z : Sizes) (lens lenc lenn x : ℕ) : Type 0 where
   pub fits : TurnFits z lens lenc lenn
   pub xIn : x + nOf z ≤ lens
 
--- count layers, whose weights start at place at
-pub record LayersFits (z : Sizes) (lens lenw lenc lenn row at count : ℕ) : Type 0 where
-  pub weights : at + count * layerOf z ≤ lenw
-  pub one : layerOf z ≤ 67112960
+-- count layers
+pub record LayersFits (z : Sizes) (lens lenw lenc lenn row count : ℕ) : Type 0 where
+  pub weights : count * floats (partsOf z) ≤ lenw
   pub inner : z .inter ≤ 8192
   pub turn : TurnFits z lens lenc lenn
   pub scores : ScoreRow z lens row
@@ -62,3 +52,15 @@ pub record SizesFit (z : Sizes) : Type 0 where
   pub wide : z .«grid_w» ≤ z .side
   pub high : z .tokens ≤ z .side * z .«grid_w»
   pub inner : z .inter ≤ 8192
+
+-- and the products of such sizes
+pub record Products (z : Sizes) : Type 0 where
+  pub narrow : hdOf z ≤ 256
+  pub small : dimOf z ≤ 2048
+  pub grid : z .side * z .side ≤ 4194304
+  pub table : z .side * z .side * hdOf z ≤ 1073741824
+  pub hiddens : nOf z ≤ 8589934592
+  pub inners : mOf z ≤ 34359738368
+  pub squares : dimOf z * dimOf z ≤ 4194304
+  pub inner : z .inter * dimOf z ≤ 16777216
+  pub outer : dimOf z * z .inter ≤ 16777216

@@ -9,7 +9,7 @@ use Rattle.encoder_blocks.specs.declared.Sizes.{Sizes}
 use Rattle.encoder_blocks.specs.Sizes.{nOf, mOf}
 use Rattle.encoder_elements.specs.Element.{added, gated, rounded}
 use Rattle.encoder_steps.specs.Run.{fine}
-use Rattle.encoder_blocks.specs.Block.{squareOf, normed1, normed2, turnedAll, mixed, scored, gateOf, upOf, downOf}
+use Rattle.encoder_blocks.specs.Block.{normed, squareOf, innerOf, outerOf, turnedAll, mixed, scored}
 
 -- the regions of a scratch
 abbrev pub hAt : Sizes → List Float → List Float
@@ -33,10 +33,10 @@ uAt z s = region s (7 * nOf z + mOf z) (mOf z)
 -- the pieces, each from a scratch s to a scratch t: norm, q, k, v
 pub record AttnIn (z : Sizes) (w s t : List Float) (ok r : Bool) : Type 0 where
   pub h-is : hAt z t ≡ hAt z s
-  pub q-is : qAt z t ≡ squareOf z 0 w (normed1 z w (hAt z s))
-  pub k-is : kAt z t ≡ squareOf z 1 w (normed1 z w (hAt z s))
-  pub v-is : vAt z t ≡ squareOf z 2 w (normed1 z w (hAt z s))
-  pub fine-is : r ≡ (let x = normed1 z w (hAt z s) in fine ok (x ∷ squareOf z 0 w x ∷ squareOf z 1 w x ∷ squareOf z 2 w x ∷ []))
+  pub q-is : qAt z t ≡ squareOf z "q" w (normed z "attention_norm" w (hAt z s))
+  pub k-is : kAt z t ≡ squareOf z "k" w (normed z "attention_norm" w (hAt z s))
+  pub v-is : vAt z t ≡ squareOf z "v" w (normed z "attention_norm" w (hAt z s))
+  pub fine-is : r ≡ (let x = normed z "attention_norm" w (hAt z s) in fine ok (x ∷ squareOf z "q" w x ∷ squareOf z "k" w x ∷ squareOf z "v" w x ∷ []))
 
 -- rotated q and k
 pub record AttnTurn (z : Sizes) (cos sin s t : List Float) (ok r : Bool) : Type 0 where
@@ -48,19 +48,19 @@ pub record AttnTurn (z : Sizes) (cos sin s t : List Float) (ok r : Bool) : Type 
 
 -- scores, sums, o, residual
 pub record AttnMix (z : Sizes) (w s t : List Float) (ok r : Bool) : Type 0 where
-  pub h-is : hAt z t ≡ added (nOf z) (hAt z s) (squareOf z 3 w (mixed z (qAt z s) (kAt z s) (vAt z s)))
-  pub fine-is : r ≡ (let a = mixed z (qAt z s) (kAt z s) (vAt z s) in let o = squareOf z 3 w a in
+  pub h-is : hAt z t ≡ added (nOf z) (hAt z s) (squareOf z "o" w (mixed z (qAt z s) (kAt z s) (vAt z s)))
+  pub fine-is : r ≡ (let a = mixed z (qAt z s) (kAt z s) (vAt z s) in let o = squareOf z "o" w a in
       fine ok (scored z (qAt z s) (kAt z s) ∷ a ∷ o ∷ added (nOf z) (hAt z s) o ∷ []))
 
 -- norm, gate, up
 pub record FeedIn (z : Sizes) (w s t : List Float) (ok r : Bool) : Type 0 where
   pub h-is : hAt z t ≡ hAt z s
-  pub g-is : gAt z t ≡ gateOf z w (normed2 z w (hAt z s))
-  pub u-is : uAt z t ≡ upOf z w (normed2 z w (hAt z s))
-  pub fine-is : r ≡ (let x = normed2 z w (hAt z s) in fine ok (x ∷ gateOf z w x ∷ upOf z w x ∷ []))
+  pub g-is : gAt z t ≡ innerOf z "gate" w (normed z "ffn_norm" w (hAt z s))
+  pub u-is : uAt z t ≡ innerOf z "up" w (normed z "ffn_norm" w (hAt z s))
+  pub fine-is : r ≡ (let x = normed z "ffn_norm" w (hAt z s) in fine ok (x ∷ innerOf z "gate" w x ∷ innerOf z "up" w x ∷ []))
 
 -- silu * up, down, residual, bf16
 pub record FeedOut (z : Sizes) (w s t : List Float) (ok r : Bool) : Type 0 where
-  pub h-is : hAt z t ≡ rounded (nOf z) (added (nOf z) (hAt z s) (downOf z w (gated (mOf z) (gAt z s) (uAt z s))))
-  pub fine-is : r ≡ (let a = gated (mOf z) (gAt z s) (uAt z s) in let d = downOf z w a in let h = added (nOf z) (hAt z s) d in
+  pub h-is : hAt z t ≡ rounded (nOf z) (added (nOf z) (hAt z s) (outerOf z "down" w (gated (mOf z) (gAt z s) (uAt z s))))
+  pub fine-is : r ≡ (let a = gated (mOf z) (gAt z s) (uAt z s) in let d = outerOf z "down" w a in let h = added (nOf z) (hAt z s) d in
       fine ok (a ∷ d ∷ h ∷ rounded (nOf z) h ∷ []))

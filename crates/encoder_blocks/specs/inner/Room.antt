@@ -4,8 +4,8 @@ use Prim.Native.Nat.{ℕ, _+_, _*_}
 use lib.Dec.{leb, ltb, eqb}
 use Rattle.buffers.specs.inner.Room.{inside}
 use Rattle.encoder_blocks.specs.declared.Sizes.{Sizes}
-use Rattle.encoder_blocks.specs.Sizes.{hdOf, dimOf, nOf, mOf}
-use Rattle.encoder_blocks.specs.Weights.{layerOf}
+use Rattle.encoder_settings.specs.Weights.{floats}
+use Rattle.encoder_blocks.specs.Sizes.{hdOf, dimOf, nOf, mOf, partsOf}
 
 -- no product of the sizes is large
 unfoldable pub sizesFit : Sizes → Bool
@@ -14,11 +14,11 @@ sizesFit z =
     && ((inside 2048 0 (dimOf z) && leb (z .tokens) (z .side * z .«grid_w»)) && (leb (z .inter) 8192 && ltb 0 (z .«grid_w»)))))
 
 -- tables, scratch and weights are long enough
-unfoldable pub lengthsFit : Sizes → ℕ → ℕ → ℕ → ℕ → ℕ → ℕ → ℕ → Bool
-lengthsFit z lens lenw lenc lenn row at count =
+unfoldable pub lengthsFit : Sizes → ℕ → ℕ → ℕ → ℕ → ℕ → ℕ → Bool
+lengthsFit z lens lenw lenc lenn row count =
     ((eqb lenc (z .side * z .side * hdOf z) && eqb lenn (z .side * z .side * hdOf z))
     && ((leb (7 * nOf z + 2 * mOf z) row && inside lens row (z .tokens)) && leb (dimOf z) lens))
-    && inside lenw at (count * layerOf z)
+    && inside lenw 0 (count * floats (partsOf z))
 
-unfoldable pub layersFit : Sizes → ℕ → ℕ → ℕ → ℕ → ℕ → ℕ → ℕ → Bool
-layersFit z lens lenw lenc lenn row at count = sizesFit z && lengthsFit z lens lenw lenc lenn row at count
+unfoldable pub layersFit : Sizes → ℕ → ℕ → ℕ → ℕ → ℕ → ℕ → Bool
+layersFit z lens lenw lenc lenn row count = sizesFit z && lengthsFit z lens lenw lenc lenn row count

@@ -1,10 +1,15 @@
 -- What allowed settings say of the sizes and their products, so that no product wraps. Assumes nothing.
-use Prim.Native.Nat.{ℕ, _*_, _≤_}
+use mathlib.Core.Path.{_≡_}
+use Prim.Native.Nat.{ℕ, _+_, _*_, _≤_}
 use Rattle.picture_limits.specs.Places.{patchFloats}
 use Rattle.picture_limits.specs.Shape.{most}
 use Rattle.encoder_settings.specs.declared.EncoderSettings.{EncoderSettings}
-use Rattle.encoder_settings.specs.Weights.{layerFloats}
+use Rattle.encoder_settings.specs.Weights.{floats, layer}
 use Rattle.encoder_settings.specs.Settings.{mergeArea}
+
+-- a layer's floats, as the code works them out
+abbrev pub layerSum : ℕ → ℕ → ℕ
+layerSum H I = 2 * H + 4 * (H * H) + 2 * (I * H) + H * I
 
 pub record Bounded (s : EncoderSettings) : Type 0 where
   pub patch-low : 1 ≤ s .picture .«patch_size»
@@ -19,7 +24,8 @@ pub record Bounded (s : EncoderSettings) : Type 0 where
   pub outer : s .«hidden_size» * s .«intermediate_size» ≤ 16777216
   pub inner : s .«intermediate_size» * s .«hidden_size» ≤ 16777216
   pub projection : s .«hidden_size» * patchFloats (s .picture .«patch_size») ≤ 6291456
-  pub layers : s .«num_layers» * layerFloats (s .«hidden_size») (s .«intermediate_size») ≤ 4294967296
+  pub layers : s .«num_layers» * floats (layer (s .«hidden_size») (s .«intermediate_size»)) ≤ 4294967296
+  pub layers-are : s .«num_layers» * layerSum (s .«hidden_size») (s .«intermediate_size») ≡ s .«num_layers» * floats (layer (s .«hidden_size») (s .«intermediate_size»))
   pub merged : s .«hidden_size» * mergeArea (s .picture) ≤ 32768
   pub merging : s .«hidden_size» * (s .«hidden_size» * mergeArea (s .picture)) ≤ 67108864
   pub linear-1 : s .«text_hidden_size» * s .«hidden_size» ≤ 16777216

@@ -1,16 +1,16 @@
 -- What the inner functions ask of the places and lengths that they are handed. Assumes nothing.
 use mathlib.Core.Path.{_≡_}
-use Prim.Native.Nat.{ℕ, _+_, _*_, _/_, _≤_, _<_}
+use Prim.Native.Nat.{ℕ, _+_, _*_, _-_, _/_, _≤_, _<_}
 use Rattle.buffers.specs.inner.Apart.{Apart}
 use Rattle.encoder_blocks.specs.declared.Sizes.{Sizes}
 use Rattle.encoder_blocks.specs.Sizes.{hdOf, dimOf, nOf, mOf}
-use Rattle.encoder_blocks.specs.Weights.{layerOf}
 use Rattle.encoder_blocks.specs.inner.Fits.{LayersFits}
 use Rattle.encoder_settings.specs.declared.EncoderSettings.{EncoderSettings}
 use Rattle.picture_limits.specs.Places.{patchFloats}
-use Rattle.encoder_settings.specs.Settings.{mergeArea}
-use Rattle.encoder_stages.specs.inner.Live.{regionsOf}
-use Rattle.encoder_stages.specs.Forward.{sizesOf, placesOf}
+use Rattle.encoder_settings.specs.Weights.{floats, embedding, layer, projector}
+use Rattle.encoder_settings.specs.Settings.{mergeArea, weightFloats}
+use Rattle.encoder_stages.specs.inner.Live.{regionsOf, countsOf}
+use Rattle.encoder_stages.specs.Forward.{sizesOf}
 
 -- place p of the merged rows
 pub record SourceFits (p merge gh gw dim : ℕ) : Type 0 where
@@ -40,7 +40,7 @@ pub record MergeFits (lens x y total merge gh gw dim : ℕ) : Type 0 where
 -- the projector on h at 0, its result at at + o * text
 pub record ProjFits (t dim o wide text lens lenw merge gh gw at : ℕ) : Type 0 where
   pub small : dim ≤ 2048
-  pub weights : dim + dim * wide + text * dim + text * text ≤ lenw
+  pub weights : floats (projector dim wide text) ≤ lenw
   pub same : gh * gw * dim ≡ t * dim
   pub count : gh / merge * (gw / merge) ≡ o
   pub wide-is : wide ≡ dim * (merge * merge)
@@ -56,10 +56,10 @@ pub record EmbedFits (z : Sizes) (lenx lens lenw f : ℕ) : Type 0 where
   pub small : dimOf z ≤ 2048
   pub xin : lenx ≡ z .tokens * f
   pub room : 2 * nOf z ≤ lens
-  pub weights : dimOf z * f + dimOf z ≤ lenw
+  pub weights : floats (embedding (dimOf z) f) ≤ lenw
 
--- the places in the weights, of a call of the sizes z: no product wraps
-pub record PlacesFit (s : EncoderSettings) (z : Sizes) : Type 0 where
+-- how the weights are cut, of a call of the sizes z: no product wraps
+pub record CountsFit (s : EncoderSettings) (z : Sizes) : Type 0 where
   pub narrow : hdOf z ≤ 256
   pub small : dimOf z ≤ 2048
   pub patch-area : s .picture .«patch_size» * s .picture .«patch_size» ≤ 1024
@@ -67,14 +67,11 @@ pub record PlacesFit (s : EncoderSettings) (z : Sizes) : Type 0 where
   pub squares : dimOf z * dimOf z ≤ 4194304
   pub inner : z .inter * dimOf z ≤ 16777216
   pub outer : dimOf z * z .inter ≤ 16777216
-  pub layers : s .«num_layers» * layerOf z ≤ 4294967296
+  pub layers : countsOf s z .layers ≤ 4294967296
   pub merge-area : mergeArea (s .picture) ≤ 16
-  pub wide : dimOf z * mergeArea (s .picture) ≤ 32768
-  pub merging : dimOf z * (dimOf z * mergeArea (s .picture)) ≤ 67108864
-  pub linear-1 : s .«text_hidden_size» * dimOf z ≤ 16777216
-  pub linear-2 : s .«text_hidden_size» * s .«text_hidden_size» ≤ 67108864
+  pub merged : dimOf z * mergeArea (s .picture) ≤ 32768
 
--- those in the scratch, with e floats of token vectors
+-- the places in the scratch, with e floats of token vectors
 pub record RegionsFit (z : Sizes) (e : ℕ) : Type 0 where
   pub narrow : hdOf z ≤ 256
   pub small : dimOf z ≤ 2048
@@ -85,10 +82,13 @@ pub record RegionsFit (z : Sizes) (e : ℕ) : Type 0 where
 -- a whole run: t tokens of a grid gh by gw, of which o are left
 pub record RunFits (s : EncoderSettings) (gh gw t o lenx lenw lenc lenn lens : ℕ) : Type 0 where
   pub dim-is : dimOf (sizesOf s t gw) ≡ s .«hidden_size»
-  pub places : PlacesFit s (sizesOf s t gw)
+  pub counts : CountsFit s (sizesOf s t gw)
   pub regions : RegionsFit (sizesOf s t gw) (o * s .«text_hidden_size»)
-  pub embeds : EmbedFits (sizesOf s t gw) lenx lens lenw (placesOf s (sizesOf s t gw) .floats)
-  pub layers : LayersFits (sizesOf s t gw) lens lenw lenc lenn (regionsOf (sizesOf s t gw) (o * s .«text_hidden_size») .row) (placesOf s (sizesOf s t gw) .layers) (s .«num_layers»)
-  pub part : placesOf s (sizesOf s t gw) .projector + placesOf s (sizesOf s t gw) .size ≤ lenw
-  pub projects : ProjFits t (dimOf (sizesOf s t gw)) o (placesOf s (sizesOf s t gw) .wide) (s .«text_hidden_size») lens (placesOf s (sizesOf s t gw) .size)
+  pub embedding-is : countsOf s (sizesOf s t gw) .embedding ≡ floats (embedding (s .«hidden_size») (patchFloats (s .picture .«patch_size»)))
+  pub layers-is : countsOf s (sizesOf s t gw) .layers ≡ s .«num_layers» * floats (layer (s .«hidden_size») (s .«intermediate_size»))
+  pub weights-is : lenw ≡ weightFloats s
+  pub embeds : EmbedFits (sizesOf s t gw) lenx lens (countsOf s (sizesOf s t gw) .embedding) (countsOf s (sizesOf s t gw) .patch)
+  pub layers : LayersFits (sizesOf s t gw) lens (countsOf s (sizesOf s t gw) .layers) lenc lenn (regionsOf (sizesOf s t gw) (o * s .«text_hidden_size») .row) (s .«num_layers»)
+  pub projects : ProjFits t (dimOf (sizesOf s t gw)) o (countsOf s (sizesOf s t gw) .merged) (s .«text_hidden_size») lens
+      (lenw - (countsOf s (sizesOf s t gw) .embedding + countsOf s (sizesOf s t gw) .layers))
       (s .picture .«spatial_merge_size») gh gw (regionsOf (sizesOf s t gw) (o * s .«text_hidden_size») .linear)

@@ -1,20 +1,36 @@
--- What stands behind a block's regions in the scratch, and what the embedding leaves. Assumes nothing.
+-- What stands behind a block's regions in the scratch, how the weights are cut, and what the embedding leaves.
+-- Assumes nothing.
 use mathlib.Core.Bool.{Bool}
 use mathlib.Core.Path.{_≡_}
 use mathlib.Core.List.{List, [], _∷_}
 use Prim.Native.Nat.{ℕ, _+_, _*_}
 use lib.Ieee.{Float}
+use Rattle.picture_limits.specs.Places.{patchFloats}
+use Rattle.encoder_settings.specs.declared.EncoderSettings.{EncoderSettings}
+use Rattle.encoder_settings.specs.Settings.{mergeArea}
+use Rattle.encoder_settings.specs.inner.Bounds.{layerSum}
 use Rattle.encoder_elements.specs.Element.{rounded}
 use Rattle.encoder_steps.specs.Run.{fine}
 use Rattle.encoder_blocks.specs.declared.Sizes.{Sizes}
-use Rattle.encoder_blocks.specs.Sizes.{nOf, mOf}
+use Rattle.encoder_blocks.specs.Sizes.{dimOf, nOf, mOf}
 use Rattle.encoder_blocks.specs.inner.Live.{hAt}
+use Rattle.encoder_stages.specs.declared.Counts.{Counts}
 use Rattle.encoder_stages.specs.declared.Regions.{Regions}
 use Rattle.encoder_stages.specs.Embed.{patchConv, lnPre}
 
 -- linear_1's result, linear_2's, of e floats each, and the score row
 abbrev pub regionsOf : Sizes → ℕ → Regions
 regionsOf z e = record { linear = 7 * nOf z + 2 * mOf z; row = 7 * nOf z + 2 * mOf z + 2 * e }
+
+-- the floats of a patch, of the embedding's weights, of the layers' and of a merged row
+abbrev pub countsOf : EncoderSettings → Sizes → Counts
+countsOf s z =
+    record {
+      patch = patchFloats (s .picture .«patch_size»);
+      embedding = dimOf z * patchFloats (s .picture .«patch_size») + dimOf z;
+      layers = s .«num_layers» * layerSum (dimOf z) (z .inter);
+      merged = dimOf z * mergeArea (s .picture);
+    }
 
 -- patch projection, its bf16, ln_pre, its bf16
 pub record Embedded (z : Sizes) (f : ℕ) (w x t : List Float) (ok r : Bool) : Type 0 where

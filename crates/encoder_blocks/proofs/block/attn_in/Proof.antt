@@ -1,75 +1,102 @@
 -- `encoder_blocks::block::attn_in` meets its contract. Assumes nothing.
 use mathlib.Core.Path.{_∙_}
-use Prim.Native.Nat.{_*_}
+use Prim.Native.Nat.{_+_, _*_}
 use native.Mathlib.Omega.{arith}
 use borrow.Author.Needs.{needs}
 use Rattle.buffers.specs.inner.Apart.{before}
-use Rattle.encoder_blocks.specs.Sizes.{nOf}
-use Rattle.encoder_blocks.proofs.Lives.{attn-in, square-at}
+use Rattle.encoder_settings.proofs.Weights.{stands}
+use Rattle.encoder_steps.proofs.Writes.{matrix-wrote}
+use Rattle.encoder_blocks.specs.Block.{squareOf}
+use Rattle.encoder_blocks.specs.Sizes.{dimOf, nOf, partsOf}
+use Rattle.encoder_blocks.proofs.Lives.{attn-in}
 use Rattle.encoder_blocks.proofs.block.attn_in.Statement.{statement}
 use Rattle.encoder_blocks.proofs.block.attn_in.Tie as tie
 
-add-n : tie.Need-add-n
-add-n c = search needs
+add-dim : tie.Need-add-dim
+add-dim c = search needs
+
+mul-dim : tie.Need-mul-dim
+mul-dim c = search needs
 
 mul-n : tie.Need-mul-n
 mul-n c = search needs
 
-mul-n-2 : tie.Need-mul-n-2
-mul-n-2 c = search needs
+mul-at : tie.Need-mul-at
+mul-at c = search needs
+
+add-at : tie.Need-add-at
+add-at c = search needs
+
+mul-bt : tie.Need-mul-bt
+mul-bt c = search needs
+
+add-bt : tie.Need-add-bt
+add-bt c = search needs
 
 norm1-requires : tie.Need-norm1-requires
 norm1-requires c κs = search needs
 
-mul-square : tie.Need-mul-square
-mul-square c = search needs
+mul-matrix : tie.Need-mul-matrix
+mul-matrix c = search needs
 
-square-requires : tie.Need-square-requires
-square-requires c κs =
-    let g = c .before .before .before .before .before .before .before .before .before .pre in
-    let n = nOf (c .before .before .before .before .before .before .before .before .before .args .z) in
-    square-at (c .before .before .before .before .before .before .before .before .before .args .z) 0 n (2 * n) (c .before .before .before .norm1 .kept .0) g (omega arith) (omega arith) (omega arith) (before (omega arith))
+matrix-requires : tie.Need-matrix-requires
+matrix-requires c κs = search needs
 
-mul-square-2 : tie.Need-mul-square-2
-mul-square-2 c = search needs
+mul-matrix-2 : tie.Need-mul-matrix-2
+mul-matrix-2 c = search needs
 
-square-requires-2 : tie.Need-square-requires-2
-square-requires-2 c κs =
-    let g = c .before .before .before .before .before .before .before .before .before .before .before .before .before .pre in
-    let n = nOf (c .before .before .before .before .before .before .before .before .before .before .before .before .before .args .z) in
-    square-at (c .before .before .before .before .before .before .before .before .before .before .before .before .before .args .z) 1 n (3 * n) (c .before .before .before .square .kept .0 ∙ c .before .before .before .before .before .before .before .norm1 .kept .0) g (omega arith) (omega arith) (omega arith) (before (omega arith))
+matrix-requires-2 : tie.Need-matrix-requires-2
+matrix-requires-2 c κs = search needs
 
-mul-square-3 : tie.Need-mul-square-3
-mul-square-3 c = search needs
+mul-matrix-3 : tie.Need-mul-matrix-3
+mul-matrix-3 c = search needs
 
-square-requires-3 : tie.Need-square-requires-3
-square-requires-3 c κs =
-    let g = c .before .before .before .before .before .before .before .before .before .before .before .before .before .before .before .before .before .pre in
-    let n = nOf (c .before .before .before .before .before .before .before .before .before .before .before .before .before .before .before .before .before .args .z) in
-    square-at (c .before .before .before .before .before .before .before .before .before .before .before .before .before .before .before .before .before .args .z) 2 n (4 * n) (c .before .before .before .square2 .kept .0 ∙ c .before .before .before .before .before .before .before .square .kept .0 ∙ c .before .before .before .before .before .before .before .before .before .before .before .norm1 .kept .0) g (omega arith) (omega arith) (omega arith) (before (omega arith))
+matrix-requires-3 : tie.Need-matrix-requires-3
+matrix-requires-3 c κs = search needs
 
 same-length : tie.Need-same-length
 same-length c = search needs
 
 returns : tie.Need-returns
+unfolding squareOf
 returns c =
-    let a = c .before .before .before .before .before .before .before .before .before .before .before .before .before .before .before .before .before .before .before .before .args in
-    attn-in (a .z) (a .w .now) (a .s .now) (c .before .before .before .before .before .before .before .before .before .before .before .before .before .before .before .before .before .before .before .before .pre .scratch) (c .before .before .before .before .before .before .before .before .before .before .before .before .before .before .norm1 .last .0) (c .before .before .before .before .before .before .before .before .before .before .square .last .0) (c .before .before .before .before .before .before .square2 .last .0) (c .before .before .square3 .last .0) (a .ok) (c .before .before .before .before .before .before .before .before .before .before .before .before .before .before .norm1 .result) (c .before .before .before .before .before .before .before .before .before .before .square .result) (c .before .before .before .before .before .before .square2 .result) (c .before .before .square3 .result)
-    (c .before .before .before .before .before .before .before .before .before .before .before .before .before .before .norm1 .ensures) (c .before .before .before .before .before .before .before .before .before .before .square .ensures) (c .before .before .before .before .before .before .square2 .ensures) (c .before .before .square3 .ensures)
+    let a = c .before .before .before .before .before .before .before .before .before .before .before .before .before .before .before .before .before .before .before .args in
+    let g = c .before .before .before .before .before .before .before .before .before .before .before .before .before .before .before .before .before .before .before .pre in
+    let x = c .before .before .before .before .before .before .before .before .before .before .before .before .before .before .norm1 in
+    let q = c .before .before .before .before .before .before .before .before .before .before .matrix in
+    let k = c .before .before .before .before .before .before .matrix2 in
+    let v = c .before .before .matrix3 in
+    let t = a .z .tokens in
+    let d = dimOf (a .z) in
+    let n = nOf (a .z) in
+    let e = d + d * d in
+    let l = q .kept .0 ∙ x .kept .0 in
+    let m = k .kept .0 ∙ l in
+    attn-in (a .z) (a .w .now) (a .s .now) (g .scratch) (x .last .0) (q .last .0) (k .last .0) (v .last .0) (a .ok) (x .result) (q .result) (k .result) (v .result) (x .ensures)
+    (rw (stands (partsOf (a .z)) "q" (a .w .now) d (d * d) (omega arith) (omega arith)) at (matrix-wrote (a .w .now) n (2 * n) t d d d
+    (record { xIn = omega (arith, g .scratch, x .kept .0); yIn = omega (arith, g .scratch, x .kept .0); wIn = omega (arith, g .weights); apart = before (omega arith) }) (q .ensures)))
+    (rw (stands (partsOf (a .z)) "k" (a .w .now) e (d * d) (omega arith) (omega arith)) at (matrix-wrote (a .w .now) n (3 * n) t d d e
+    (record { xIn = omega (arith, g .scratch, l); yIn = omega (arith, g .scratch, l); wIn = omega (arith, g .weights); apart = before (omega arith) }) (k .ensures)))
+    (rw (stands (partsOf (a .z)) "v" (a .w .now) (e + d * d) (d * d) (omega arith) (omega arith)) at (matrix-wrote (a .w .now) n (4 * n) t d d (e + d * d)
+    (record { xIn = omega (arith, g .scratch, m); yIn = omega (arith, g .scratch, m); wIn = omega (arith, g .weights); apart = before (omega arith) }) (v .ensures)))
 
 pub attn-in-spec : {M : Type 1} → statement M
 attn-in-spec =
     tie.close
     (tie.spec
-    add-n
+    add-dim
+    mul-dim
     mul-n
-    mul-n-2
+    mul-at
+    add-at
+    mul-bt
+    add-bt
     norm1-requires
-    mul-square
-    square-requires
-    mul-square-2
-    square-requires-2
-    mul-square-3
-    square-requires-3
+    mul-matrix
+    matrix-requires
+    mul-matrix-2
+    matrix-requires-2
+    mul-matrix-3
+    matrix-requires-3
     same-length
     returns)

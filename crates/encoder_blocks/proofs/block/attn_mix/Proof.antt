@@ -1,26 +1,36 @@
 -- `encoder_blocks::block::attn_mix` meets its contract. Assumes nothing.
 use mathlib.Core.Path.{ap, _∙_}
-use Prim.Native.Nat.{_*_}
+use Prim.Native.Nat.{_+_, _*_}
 use native.Mathlib.Omega.{arith}
 use borrow.Author.Needs.{needs}
 use Rattle.buffers.specs.inner.Apart.{before, after}
-use Rattle.encoder_blocks.specs.Block.{mixed, scored}
-use Rattle.encoder_blocks.specs.Sizes.{nOf}
+use Rattle.encoder_blocks.specs.Block.{squareOf, mixed, scored}
+use Rattle.encoder_blocks.specs.Sizes.{dimOf, nOf, partsOf}
 use Rattle.encoder_kernels.specs.Finite.{sound}
 use Rattle.encoder_attention.proofs.Rooms.{attend-fits}
-use Rattle.encoder_steps.proofs.Writes.{add-wrote}
-use Rattle.encoder_blocks.proofs.Lives.{attn-mix, square-at, attend-at}
+use Rattle.encoder_settings.proofs.Weights.{stands}
+use Rattle.encoder_steps.proofs.Writes.{matrix-wrote, add-wrote}
+use Rattle.encoder_blocks.proofs.Lives.{attn-mix, attend-at}
 use Rattle.encoder_blocks.proofs.block.attn_mix.Statement.{statement}
 use Rattle.encoder_blocks.proofs.block.attn_mix.Tie as tie
 
-add-n : tie.Need-add-n
-add-n c = search needs
+add-dim : tie.Need-add-dim
+add-dim c = search needs
+
+mul-dim : tie.Need-mul-dim
+mul-dim c = search needs
 
 mul-n : tie.Need-mul-n
 mul-n c = search needs
 
-mul-n-2 : tie.Need-mul-n-2
-mul-n-2 c = search needs
+mul-at : tie.Need-mul-at
+mul-at c = search needs
+
+mul-at-2 : tie.Need-mul-at-2
+mul-at-2 c = search needs
+
+add-at : tie.Need-add-at
+add-at c = search needs
 
 mul-attend : tie.Need-mul-attend
 mul-attend c = search needs
@@ -49,16 +59,14 @@ part-requires c κs = search needs
 finite-requires : tie.Need-finite-requires
 finite-requires c κs = search needs
 
-mul-square : tie.Need-mul-square
-mul-square c = search needs
+mul-matrix : tie.Need-mul-matrix
+mul-matrix c = search needs
 
-mul-square-2 : tie.Need-mul-square-2
-mul-square-2 c = search needs
+mul-matrix-2 : tie.Need-mul-matrix-2
+mul-matrix-2 c = search needs
 
-square-requires : tie.Need-square-requires
-square-requires c κs =
-    let n = nOf (c .before .before .before .before .before .before .before .before .before .before .args .z) in
-    square-at (c .before .before .before .before .before .before .before .before .before .before .args .z) 3 (5 * n) (6 * n) (c .before .before .before .before .before .before .attend .kept .0) (c .before .before .before .before .before .before .before .before .before .before .pre .0) (omega arith) (omega arith) (omega arith) (before (omega arith))
+matrix-requires : tie.Need-matrix-requires
+matrix-requires c κs = search needs
 
 mul-add-fine : tie.Need-mul-add-fine
 mul-add-fine c = search needs
@@ -70,24 +78,31 @@ same-length : tie.Need-same-length
 same-length c = search needs
 
 returns : tie.Need-returns
-unfolding scored mixed
+unfolding scored mixed squareOf
 returns c =
     let a = c .before .before .before .before .before .before .before .before .before .before .before .before .before .before .before .before .before .args in
+    let d = dimOf (a .z) in
     let n = nOf (a .z) in
+    let e = d + 3 * (d * d) in
     let g = c .before .before .before .before .before .before .before .before .before .before .before .before .before .before .before .before .before .pre .0 .scratch in
-    let l = c .before .before .before .before .before .before .square .kept .0 ∙ c .before .before .before .before .before .before .before .before .before .before .before .before .before .attend .kept .0 in
+    let l = c .before .before .before .before .before .before .matrix .kept .0 ∙ c .before .before .before .before .before .before .before .before .before .before .before .before .before .attend .kept .0 in
     let fits = attend-fits (attend-at (a .z) (c .before .before .before .before .before .before .before .before .before .before .before .before .before .before .before .before .before .pre .0) (c .before .before .before .before .before .before .before .before .before .before .before .before .before .before .before .before .before .pre .1)) in
-    attn-mix (a .z) (a .w .now) (a .s .now) (c .before .before .before .before .before .before .before .before .before .before .before .before .before .before .before .before .before .pre .0 .scratch) (a .row) (c .before .before .before .before .before .before .before .before .before .before .before .before .before .before .before .before .before .pre .1 .behind) (c .before .before .before .before .before .before .before .before .before .before .before .before .before .before .before .before .before .pre .1 .inside) (c .before .before .before .before .before .before .before .before .before .before .before .before .before .attend .last .0) (c .before .before .before .before .before .before .square .last .0) (c .before .before .add-fine .last .0) (a .ok) (c .before .before .before .before .before .before .before .before .before .before .before .before .before .attend .result) (c .before .before .before .before .before .before .before .before .finite .result) (c .before .before .before .before .before .before .square .result) (c .before .before .add-fine .result)
-    (rw fits at (c .before .before .before .before .before .before .before .before .before .before .before .before .before .attend .ensures .0)) (rw fits at (c .before .before .before .before .before .before .before .before .before .before .before .before .before .attend .ensures .1)) (c .before .before .before .before .before .before .before .before .before .before .before .before .before .attend .kept .0) (c .before .before .before .before .before .before .before .before .finite .ensures ∙ ap sound (c .before .before .before .before .before .before .before .before .before .part .ensures)) (c .before .before .before .before .before .before .square .ensures)
+    attn-mix (a .z) (a .w .now) (a .s .now) (c .before .before .before .before .before .before .before .before .before .before .before .before .before .before .before .before .before .pre .0 .scratch) (a .row) (c .before .before .before .before .before .before .before .before .before .before .before .before .before .before .before .before .before .pre .1 .behind) (c .before .before .before .before .before .before .before .before .before .before .before .before .before .before .before .before .before .pre .1 .inside) (c .before .before .before .before .before .before .before .before .before .before .before .before .before .attend .last .0) (c .before .before .before .before .before .before .matrix .last .0) (c .before .before .add-fine .last .0) (a .ok) (c .before .before .before .before .before .before .before .before .before .before .before .before .before .attend .result) (c .before .before .before .before .before .before .before .before .finite .result) (c .before .before .before .before .before .before .matrix .result) (c .before .before .add-fine .result)
+    (rw fits at (c .before .before .before .before .before .before .before .before .before .before .before .before .before .attend .ensures .0)) (rw fits at (c .before .before .before .before .before .before .before .before .before .before .before .before .before .attend .ensures .1)) (c .before .before .before .before .before .before .before .before .before .before .before .before .before .attend .kept .0) (c .before .before .before .before .before .before .before .before .finite .ensures ∙ ap sound (c .before .before .before .before .before .before .before .before .before .part .ensures))
+    (rw (stands (partsOf (a .z)) "o" (a .w .now) e (d * d) (omega arith) (omega arith)) at (matrix-wrote (a .w .now) (5 * n) (6 * n) (a .z .tokens) d d e
+    (record { xIn = omega (arith, g, c .before .before .before .before .before .before .before .before .before .before .before .before .before .attend .kept .0); yIn = omega (arith, g, c .before .before .before .before .before .before .before .before .before .before .before .before .before .attend .kept .0); wIn = omega (arith, c .before .before .before .before .before .before .before .before .before .before .before .before .before .before .before .before .before .pre .0 .weights); apart = before (omega arith) }) (c .before .before .before .before .before .before .matrix .ensures)))
     (add-wrote 0 (6 * n) n (record { yin = omega (arith, g, l); zin = omega (arith, g, l); apart = after (omega arith) }) (c .before .before .add-fine .ensures))
 
 pub attn-mix-spec : {M : Type 1} → statement M
 attn-mix-spec =
     tie.close
     (tie.spec
-    add-n
+    add-dim
+    mul-dim
     mul-n
-    mul-n-2
+    mul-at
+    mul-at-2
+    add-at
     mul-attend
     mul-attend-2
     mul-attend-3
@@ -97,9 +112,9 @@ attn-mix-spec =
     mul-part
     part-requires
     finite-requires
-    mul-square
-    mul-square-2
-    square-requires
+    mul-matrix
+    mul-matrix-2
+    matrix-requires
     mul-add-fine
     add-fine-requires
     same-length

@@ -4,9 +4,10 @@ use Prim.Native.Nat.{_+_, _*_}
 use native.Mathlib.Omega.{arith}
 use borrow.Author.Needs.{needs}
 use Rattle.buffers.specs.inner.Apart.{before}
+use Rattle.encoder_settings.proofs.Weights.{stands}
 use Rattle.encoder_steps.proofs.Writes.{matrix-wrote}
-use Rattle.encoder_blocks.specs.Block.{gateOf, upOf}
-use Rattle.encoder_blocks.specs.Sizes.{dimOf, nOf, mOf}
+use Rattle.encoder_blocks.specs.Block.{innerOf}
+use Rattle.encoder_blocks.specs.Sizes.{dimOf, nOf, mOf, partsOf}
 use Rattle.encoder_blocks.proofs.Lives.{feed-in}
 use Rattle.encoder_blocks.proofs.block.feed_in.Statement.{statement}
 use Rattle.encoder_blocks.proofs.block.feed_in.Tie as tie
@@ -63,7 +64,7 @@ same-length : tie.Need-same-length
 same-length c = search needs
 
 returns : tie.Need-returns
-unfolding gateOf upOf
+unfolding innerOf
 returns c =
     let a = c .before .before .before .before .before .before .before .before .before .before .before .before .before .before .before .args in
     let g = c .before .before .before .before .before .before .before .before .before .before .before .before .before .before .before .pre in
@@ -78,10 +79,10 @@ returns c =
     let k = 2 * d + 4 * (d * d) in
     let l = y .kept .0 ∙ x .kept .0 in
     feed-in (a .z) (a .w .now) (a .s .now) (g .scratch) (x .last .0) (y .last .0) (z .last .0) (a .ok) (x .result) (y .result) (z .result) (x .ensures)
-    (matrix-wrote (a .w .now) n (7 * n) t d i k
-    (record { xIn = omega (arith, g .scratch, x .kept .0); yIn = omega (arith, g .scratch, x .kept .0); wIn = omega (arith, g .weights); apart = before (omega arith) }) (y .ensures))
-    (matrix-wrote (a .w .now) n (7 * n + m) t d i (k + i * d)
-    (record { xIn = omega (arith, g .scratch, l); yIn = omega (arith, g .scratch, l); wIn = omega (arith, g .weights); apart = before (omega arith) }) (z .ensures))
+    (rw (stands (partsOf (a .z)) "gate" (a .w .now) k (i * d) (omega arith) (omega arith)) at (matrix-wrote (a .w .now) n (7 * n) t d i k
+    (record { xIn = omega (arith, g .scratch, x .kept .0); yIn = omega (arith, g .scratch, x .kept .0); wIn = omega (arith, g .weights); apart = before (omega arith) }) (y .ensures)))
+    (rw (stands (partsOf (a .z)) "up" (a .w .now) (k + i * d) (i * d) (omega arith) (omega arith)) at (matrix-wrote (a .w .now) n (7 * n + m) t d i (k + i * d)
+    (record { xIn = omega (arith, g .scratch, l); yIn = omega (arith, g .scratch, l); wIn = omega (arith, g .weights); apart = before (omega arith) }) (z .ensures)))
 
 pub feed-in-spec : {M : Type 1} → statement M
 feed-in-spec =

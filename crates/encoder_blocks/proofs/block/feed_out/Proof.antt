@@ -4,9 +4,10 @@ use Prim.Native.Nat.{_+_, _*_}
 use native.Mathlib.Omega.{arith}
 use borrow.Author.Needs.{needs}
 use Rattle.buffers.specs.inner.Apart.{after}
+use Rattle.encoder_settings.proofs.Weights.{stands}
 use Rattle.encoder_steps.proofs.Writes.{matrix-wrote, gate-wrote, add-wrote, round-wrote}
-use Rattle.encoder_blocks.specs.Block.{downOf}
-use Rattle.encoder_blocks.specs.Sizes.{dimOf, nOf, mOf}
+use Rattle.encoder_blocks.specs.Block.{outerOf}
+use Rattle.encoder_blocks.specs.Sizes.{dimOf, nOf, mOf, partsOf}
 use Rattle.encoder_blocks.proofs.Lives.{feed-out}
 use Rattle.encoder_blocks.proofs.block.feed_out.Statement.{statement}
 use Rattle.encoder_blocks.proofs.block.feed_out.Tie as tie
@@ -78,7 +79,7 @@ same-length : tie.Need-same-length
 same-length c = search needs
 
 returns : tie.Need-returns
-unfolding downOf
+unfolding outerOf
 returns c =
     let a = c .before .before .before .before .before .before .before .before .before .before .before .before .before .before .before .before .before .before .before .args in
     let g = c .before .before .before .before .before .before .before .before .before .before .before .before .before .before .before .before .before .before .before .pre in
@@ -91,12 +92,13 @@ returns c =
     let i = a .z .inter in
     let n = nOf (a .z) in
     let m = mOf (a .z) in
+    let e = 2 * d + 4 * (d * d) + 2 * (i * d) in
     let l = x .kept .0 ∙ v .kept .0 in
     let k = y .kept .0 ∙ l in
     feed-out (a .z) (a .w .now) (a .s .now) (g .scratch) (v .last .0) (x .last .0) (y .last .0) (z .last .0) (a .ok) (v .result) (x .result) (y .result) (z .result)
     (gate-wrote (7 * n) (7 * n + m) m (record { yin = omega (arith, g .scratch); zin = omega (arith, g .scratch); apart = after (omega arith) }) (v .ensures))
-    (matrix-wrote (a .w .now) (7 * n) (6 * n) t i d (2 * d + 4 * (d * d) + 2 * (i * d))
-    (record { xIn = omega (arith, g .scratch, v .kept .0); yIn = omega (arith, g .scratch, v .kept .0); wIn = omega (arith, g .weights); apart = after (omega arith) }) (x .ensures))
+    (rw (stands (partsOf (a .z)) "down" (a .w .now) e (d * i) (omega arith) (omega arith)) at (matrix-wrote (a .w .now) (7 * n) (6 * n) t i d e
+    (record { xIn = omega (arith, g .scratch, v .kept .0); yIn = omega (arith, g .scratch, v .kept .0); wIn = omega (arith, g .weights); apart = after (omega arith) }) (x .ensures)))
     (add-wrote 0 (6 * n) n (record { yin = omega (arith, g .scratch, l); zin = omega (arith, g .scratch, l); apart = after (omega arith) }) (y .ensures))
     (round-wrote 0 n (omega (arith, g .scratch, k)) (z .ensures))
 

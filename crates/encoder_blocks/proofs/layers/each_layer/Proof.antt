@@ -9,57 +9,29 @@ use lib.ListN.{length}
 use Rattle.buffers.proofs.Lists.{fit}
 use Rattle.buffers.proofs.Regions.{length-region}
 use Rattle.buffers.specs.Region.{region}
-use Rattle.encoder_blocks.specs.Weights.{layerOf}
+use Rattle.encoder_settings.specs.Weights.{floats}
+use Rattle.encoder_blocks.specs.Sizes.{partsOf}
 use Rattle.encoder_steps.specs.Run.{answer}
 use Rattle.encoder_blocks.specs.Layers.{layersRun}
 use Rattle.encoder_blocks.specs.inner.Live.{hAt}
 use Rattle.encoder_blocks.proofs.Turns.{layers-turn, block-at}
+use Rattle.encoder_blocks.proofs.Rooms.{layers-products}
 use Rattle.encoder_blocks.proofs.layers.each_layer.Statement.{statement}
 use Rattle.encoder_blocks.proofs.layers.each_layer.Tie as tie
 
 abbrev Inv-loop : tie.InvT-loop
-Inv-loop s₀ z row w at count cos sin half inter dim size ok₀ l₀ a₀ s ok l a =
-    (l ≤ count) × (a ≡ at + l * layerOf z) × (length s ≡ length s₀)
-    × (answer ok (hAt z s) ≡ layersRun z at w cos sin l (hAt z s₀))
+Inv-loop s₀ z row w count cos sin size ok₀ l₀ a₀ s ok l a =
+    (l ≤ count) × (a ≡ l * floats (partsOf z)) × (length s ≡ length s₀)
+    × (answer ok (hAt z s) ≡ layersRun z w cos sin l (hAt z s₀))
 
 abbrev μ-loop : tie.MeasureT-loop
-μ-loop s₀ z row w at count cos sin half inter dim size ok₀ l₀ a₀ s ok l a = count - l
+μ-loop s₀ z row w count cos sin size ok₀ l₀ a₀ s ok l a = count - l
 
 next : (l n : ℕ) → (l + 1) * n ≡ l * n + n
 next l n = rw (add-one l) (suc-mul l n)
 
-add-dim : tie.Need-add-dim Inv-loop μ-loop
-add-dim c = omega (arith, c .before .before .before .before .pre .turn .narrow)
-
-mul-dim : tie.Need-mul-dim Inv-loop μ-loop
-mul-dim c = omega (arith, c .before .before .before .before .before .pre .turn .small)
-
-mul-size : tie.Need-mul-size Inv-loop μ-loop
-mul-size c = omega (arith, c .before .before .before .before .before .pre .one)
-
-mul-size-2 : tie.Need-mul-size-2 Inv-loop μ-loop
-mul-size-2 c = omega (arith, c .before .before .before .before .before .pre .one)
-
-mul-size-3 : tie.Need-mul-size-3 Inv-loop μ-loop
-mul-size-3 c = omega (arith, c .before .before .before .before .before .pre .one)
-
-add-size : tie.Need-add-size Inv-loop μ-loop
-add-size c = omega (arith, c .before .before .before .before .before .pre .one)
-
-mul-size-4 : tie.Need-mul-size-4 Inv-loop μ-loop
-mul-size-4 c = omega (arith, c .before .before .before .before .before .pre .one)
-
-mul-size-5 : tie.Need-mul-size-5 Inv-loop μ-loop
-mul-size-5 c = omega (arith, c .before .before .before .before .before .pre .one)
-
-add-size-2 : tie.Need-add-size-2 Inv-loop μ-loop
-add-size-2 c = omega (arith, c .before .before .before .before .before .pre .one)
-
-mul-size-6 : tie.Need-mul-size-6 Inv-loop μ-loop
-mul-size-6 c = omega (arith, c .before .before .before .before .before .pre .one)
-
-add-size-3 : tie.Need-add-size-3 Inv-loop μ-loop
-add-size-3 c = omega (arith, c .before .before .before .before .before .pre .one)
+layer-floats-requires : tie.Need-layer-floats-requires Inv-loop μ-loop
+layer-floats-requires c κs = layers-products (c .before .before .before .before .args .z) (c .before .before .before .before .pre)
 
 loop-holds : tie.Need-loop-holds Inv-loop μ-loop
 unfolding layersRun
@@ -72,14 +44,14 @@ pixtral-block-forward-requires : tie.Need-pixtral-block-forward-requires Inv-loo
 pixtral-block-forward-requires c κs =
     let a = c .before .before .before .before .before .before .before .before .before .args in
     let g = c .before .before .before .before .before .before .before .before .before .pre in
-    let f = fit (layerOf (a .z)) (c .before .before .loop-test .taken) in
+    let f = fit (floats (partsOf (a .z))) (c .before .before .loop-test .taken) in
     let e = c .before .before .before .loop .inv .2 in (
-      block-at (a .z) (length (a .cos .now)) (length (a .sin .now)) (ap length (c .part .ensures) ∙ length-region (a .w .now) (c .before .before .before .loop .a) (layerOf (a .z)) (omega (arith, g .weights))) (rw e (g .turn)),
+      block-at (a .z) (length (a .cos .now)) (length (a .sin .now)) (ap length (c .part .ensures) ∙ length-region (a .w .now) (c .before .before .before .loop .a) (c .before .before .before .before .layer-floats .result) (omega (arith, g .weights, c .before .before .before .before .layer-floats .ensures)) ∙ c .before .before .before .before .layer-floats .ensures) (rw e (g .turn)),
       (rw e (g .turn), rw e (g .scores)),
     )
 
 add-a : tie.Need-add-a Inv-loop μ-loop
-add-a c = omega (arith, fit (layerOf (c .before .before .before .before .before .before .before .before .before .before .before .before .args .z)) (c .before .before .before .before .before .loop-test .taken), c .before .before .before .before .before .before .before .before .before .before .before .before .pre .weights)
+add-a c = omega (arith, fit (floats (partsOf (c .before .before .before .before .before .before .before .before .before .before .before .before .args .z))) (c .before .before .before .before .before .loop-test .taken), c .before .before .before .before .before .before .before .before .before .before .before .before .pre .weights, c .before .before .before .before .before .before .before .layer-floats .ensures)
 
 add-l : tie.Need-add-l Inv-loop μ-loop
 add-l c = omega (arith, c .before .before .before .before .before .loop-test .taken)
@@ -93,10 +65,10 @@ loop-again c =
     let a = c .before .before .before .before .before .before .before .before .before .before .before .before .args in
     let b = c .before .before .pixtral-block-forward in (
       omega (arith, c .before .before .before .before .before .loop-test .taken),
-      omega (arith, l .inv .1, next (l .l) (layerOf (a .z))),
+      omega (arith, l .inv .1, next (l .l) (floats (partsOf (a .z))), c .before .before .before .before .before .before .before .layer-floats .ensures),
       b .kept .0 ∙ l .inv .2,
-      layers-turn (a .z) (a .at) (a .w .now) (a .cos .now) (a .sin .now) (hAt (a .z) (a .s .now)) (c .before .before .before .part .result .now) (hAt (a .z) (l .s)) (hAt (a .z) (b .last .0)) (l .l) (l .ok) (b .result)
-          (c .before .before .before .part .ensures ∙ ap (λ i. region (a .w .now) i (layerOf (a .z))) (l .inv .1)) (l .inv .3) (b .ensures),
+      layers-turn (a .z) (a .w .now) (a .cos .now) (a .sin .now) (hAt (a .z) (a .s .now)) (c .before .before .before .part .result .now) (hAt (a .z) (l .s)) (hAt (a .z) (b .last .0)) (l .l) (l .ok) (b .result)
+          (c .before .before .before .part .ensures ∙ ap (λ i. region (a .w .now) i (c .before .before .before .before .before .before .before .layer-floats .result)) (l .inv .1) ∙ ap (λ i. region (a .w .now) (l .l * floats (partsOf (a .z))) i) (c .before .before .before .before .before .before .before .layer-floats .ensures)) (l .inv .3) (b .ensures),
     )
 
 same-length : tie.Need-same-length Inv-loop μ-loop
@@ -105,7 +77,7 @@ same-length c = c .before .loop .inv .2
 returns : tie.Need-returns Inv-loop μ-loop
 returns c =
     let a = c .before .before .before .before .before .before .before .args in
-    c .before .loop .inv .3 ∙ ap (λ i. layersRun (a .z) (a .at) (a .w .now) (a .cos .now) (a .sin .now) i (hAt (a .z) (a .s .now))) (omega (arith, c .before .loop .inv .0, c .loop-test .left))
+    c .before .loop .inv .3 ∙ ap (λ i. layersRun (a .z) (a .w .now) (a .cos .now) (a .sin .now) i (hAt (a .z) (a .s .now))) (omega (arith, c .before .loop .inv .0, c .loop-test .left))
 
 pub each-layer-spec : {M : Type 1} → statement M
 each-layer-spec =
@@ -113,17 +85,7 @@ each-layer-spec =
     (tie.spec
     Inv-loop
     μ-loop
-    add-dim
-    mul-dim
-    mul-size
-    mul-size-2
-    mul-size-3
-    add-size
-    mul-size-4
-    mul-size-5
-    add-size-2
-    mul-size-6
-    add-size-3
+    layer-floats-requires
     loop-holds
     part-requires
     pixtral-block-forward-requires

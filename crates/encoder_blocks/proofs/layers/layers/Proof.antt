@@ -48,7 +48,7 @@ returns c =
     let f = layers-say (a .z) t in
     let n = c .before .before .before .before .before .before .before .before .before .each-layer in
     let u = n .last .0 in
-    let R = layersRun (a .z) (a .at) (a .w .now) (a .cos .now) (a .sin .now) (a .count) (hAt (a .z) (a .s .now)) in
+    let R = layersRun (a .z) (a .w .now) (a .cos .now) (a .sin .now) (a .count) (hAt (a .z) (a .s .now)) in
     let k : nOf (a .z) ≤ length u = omega (arith, f .turn .scratch, n .kept .0) in
     let w = went-of (n .result) (hAt (a .z) u) R (n .ensures) (c .before .before .before .before .before .before .if2 .taken) in
     let v = front-kept u (c .before .before .clear-at .last .0) (nOf (a .z)) k (c .before .before .clear-at .ensures) in
@@ -65,7 +65,7 @@ returns-2 c =
     let a = c .before .before .before .before .before .before .before .before .before .before .before .before .before .before .before .args in
     let t = sym (c .before .before .before .before .before .before .before .before .before .before .layers-fit .ensures) ∙ c .before .before .before .before .before .before .before .before .before .if1 .taken in
     let n = c .before .before .before .before .before .before .before .each-layer in
-    let R = layersRun (a .z) (a .at) (a .w .now) (a .cos .now) (a .sin .now) (a .count) (hAt (a .z) (a .s .now)) in
+    let R = layersRun (a .z) (a .w .now) (a .cos .now) (a .sin .now) (a .count) (hAt (a .z) (a .s .now)) in
     let w = stopped-of (n .result) (hAt (a .z) (n .last .0)) R (n .ensures) (c .before .before .before .before .if2 .left) in
     (rw t (ap ran w), rw t (c .before .before .clear .ensures ∙ ap (λ i. tab i (λ _. zero32)) (n .kept .0) ∙ ap (λ r. handed r (a .s .now)) w))
 

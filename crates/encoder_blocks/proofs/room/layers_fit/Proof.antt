@@ -2,7 +2,7 @@
 use mathlib.Core.Path.{sym, _∙_}
 use borrow.Author.Needs.{needs}
 use Rattle.encoder_blocks.specs.inner.Room.{layersFit}
-use Rattle.encoder_blocks.proofs.Rooms.{sizes-say}
+use Rattle.encoder_blocks.proofs.Rooms.{products, sizes-say}
 use Rattle.encoder_blocks.proofs.room.layers_fit.Statement.{statement}
 use Rattle.encoder_blocks.proofs.room.layers_fit.Tie as tie
 
@@ -10,7 +10,7 @@ sizes-fit-requires : tie.Need-sizes-fit-requires
 sizes-fit-requires c κs = search needs
 
 lengths-fit-requires : tie.Need-lengths-fit-requires
-lengths-fit-requires c κs = sizes-say (c .before .before .args .z) (sym (c .before .sizes-fit .ensures) ∙ c .if1 .taken)
+lengths-fit-requires c κs = products (c .before .before .args .z) (sizes-say (c .before .before .args .z) (sym (c .before .sizes-fit .ensures) ∙ c .if1 .taken))
 
 returns : tie.Need-returns
 unfolding layersFit

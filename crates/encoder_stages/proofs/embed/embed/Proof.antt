@@ -6,6 +6,8 @@ use borrow.Author.Needs.{needs}
 use lib.ListN.{length}
 use Rattle.buffers.proofs.Regions.{length-region}
 use Rattle.buffers.specs.inner.Apart.{after}
+use Rattle.encoder_settings.specs.Weights.{embedding}
+use Rattle.encoder_settings.proofs.Weights.{stands}
 use Rattle.encoder_blocks.specs.Sizes.{dimOf, nOf}
 use Rattle.encoder_stages.specs.Embed.{patchConv, lnPre}
 use Rattle.encoder_steps.proofs.Writes.{norm-wrote, round-wrote}
@@ -56,6 +58,7 @@ returns c =
     let a = c .before .before .before .before .before .before .before .before .before .before .before .before .before .before .before .before .before .before .before .before .before .before .args in
     let g = c .before .before .before .before .before .before .before .before .before .before .before .before .before .before .before .before .before .before .before .before .before .before .pre in
     let n = nOf (a .z) in
+    let T = embedding (dimOf (a .z)) (a .f) in
     let x = c .before .before .before .before .before .before .before .before .before .before .before .before .before .before .before .from-fine in
     let y = c .before .before .before .before .before .before .before .before .before .before .before .round-fine in
     let q = c .before .before .before .before .before .before .before .part2 in
@@ -64,15 +67,15 @@ returns c =
     let l = y .kept .0 ∙ x .kept .1 .0 in
     embedded (a .z) (a .f) (a .w .now) (a .x .now) (a .s .now) (g .room) (x .last .1 .0) (y .last .0) (z .last .0) (r .last .0)
     (a .ok) (x .result) (y .result) (z .result) (r .result)
-    (rw (c .before .before .before .before .before .before .before .before .before .before .before .before .before .before .before .before .part .ensures) at (x .ensures))
+    (rw (c .before .before .before .before .before .before .before .before .before .before .before .before .before .before .before .before .part .ensures ∙ stands T "patch_conv" (a .w .now) 0 (dimOf (a .z) * a .f) (omega arith) (omega arith)) at (x .ensures))
     (round-wrote n n (omega (arith, g .room, x .kept .1 .0)) (y .ensures))
-    (rw (q .ensures) at
+    (rw (q .ensures ∙ stands T "ln_pre" (a .w .now) (dimOf (a .z) * a .f) (dimOf (a .z)) (omega arith) (omega arith)) at
     (norm-wrote (q .result .now) n 0 (a .z .tokens) (dimOf (a .z))
     (record {
       small = g .small;
       xin = omega (arith, g .room, l);
       yin = omega (arith, g .room, l);
-      win = ap length (q .ensures) ∙ length-region (a .w .now) (dimOf (a .z) * a .f) (dimOf (a .z)) (g .weights);
+      win = ap length (q .ensures) ∙ length-region (a .w .now) (dimOf (a .z) * a .f) (dimOf (a .z)) (omega (arith, g .weights));
       apart = after (omega arith);
     })
     (z .ensures)))

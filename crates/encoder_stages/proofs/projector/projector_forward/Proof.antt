@@ -6,6 +6,8 @@ use borrow.Author.Needs.{needs}
 use lib.ListN.{length}
 use Rattle.buffers.proofs.Regions.{length-region}
 use Rattle.buffers.specs.inner.Apart.{before}
+use Rattle.encoder_settings.specs.Weights.{projector}
+use Rattle.encoder_settings.proofs.Weights.{stands}
 use Rattle.encoder_stages.specs.Project.{projNorm, mergingLayer, linear1, linear2}
 use Rattle.encoder_steps.proofs.Writes.{norm-wrote, matrix-wrote}
 use Rattle.encoder_stages.proofs.Projects.{project-run}
@@ -83,6 +85,7 @@ returns c =
     let n = a .t * a .dim in
     let e = a .o * a .text in
     let p = a .dim + a .dim * a .wide in
+    let T = projector (a .dim) (a .wide) (a .text) in
     let q = c .before .before .before .before .before .before .before .before .before .before .before .before .before .before .before .before .before .before .before .before .before .before .before .part in
     let x₁ = c .before .before .before .before .before .before .before .before .before .before .before .before .before .before .before .before .before .before .before .before .before .before .norm-fine in
     let x₂ = c .before .before .before .before .before .before .before .before .before .before .before .before .before .before .before .before .before .before .merge-tokens in
@@ -95,7 +98,7 @@ returns c =
     let l₅ = x₅ .kept .0 ∙ x₄ .kept .0 ∙ l₃ in
     project-run (a .t) (a .dim) (a .o) (a .wide) (a .text) (a .w .now) (a .s .now) (x₁ .last .0) (x₂ .last .0) (x₃ .last .0) (x₄ .last .0) (x₅ .last .0) (x₆ .last .0)
     (length (a .w .now)) (a .merge) (a .gh) (a .gw) (a .at) (x₁ .result) (x₃ .result) (x₄ .result) (x₅ .result) (x₆ .result) g
-    (rw (q .ensures) at
+    (rw (q .ensures ∙ stands T "norm" (a .w .now) 0 (a .dim) (omega arith) (omega arith)) at
     (norm-wrote (q .result .now) 0 n (a .t) (a .dim)
     (record {
       small = g .small;
@@ -106,16 +109,16 @@ returns c =
     })
     (x₁ .ensures)))
     (x₂ .ensures)
-    (matrix-wrote (a .w .now) (2 * n) (3 * n) (a .o) (a .wide) (a .dim) (a .dim)
+    (rw (stands T "merging_layer" (a .w .now) (a .dim) (a .dim * a .wide) (omega arith) (omega arith)) at (matrix-wrote (a .w .now) (2 * n) (3 * n) (a .o) (a .wide) (a .dim) (a .dim)
     (record { xIn = omega (arith, g .at-is, g .room, g .wideIn, l₂); yIn = omega (arith, g .at-is, g .room, g .foldIn, l₂); wIn = omega (arith, g .weights); apart = before (omega (arith, g .wideIn)) })
-    (x₃ .ensures))
-    (matrix-wrote (a .w .now) (3 * n) (a .at) (a .o) (a .dim) (a .text) p
+    (x₃ .ensures)))
+    (rw (stands T "linear_1" (a .w .now) p (a .text * a .dim) (omega arith) (omega arith)) at (matrix-wrote (a .w .now) (3 * n) (a .at) (a .o) (a .dim) (a .text) p
     (record { xIn = omega (arith, g .at-is, g .room, g .foldIn, l₃); yIn = omega (arith, g .room, l₃); wIn = omega (arith, g .weights); apart = before (omega (arith, g .at-is, g .foldIn)) })
-    (x₄ .ensures))
+    (x₄ .ensures)))
     (x₅ .ensures)
-    (matrix-wrote (a .w .now) (a .at) (a .at + e) (a .o) (a .text) (a .text) (p + a .text * a .dim)
+    (rw (stands T "linear_2" (a .w .now) (p + a .text * a .dim) (a .text * a .text) (omega arith) (omega arith)) at (matrix-wrote (a .w .now) (a .at) (a .at + e) (a .o) (a .text) (a .text) (p + a .text * a .dim)
     (record { xIn = omega (arith, g .room, l₅); yIn = omega (arith, g .room, l₅); wIn = omega (arith, g .weights); apart = before (omega arith) })
-    (x₆ .ensures))
+    (x₆ .ensures)))
 
 pub projector-forward-spec : {M : Type 1} → statement M
 projector-forward-spec =
