@@ -14,7 +14,7 @@ use Rattle.encoder_steps.proofs.Writes.{answer-went, then-went}
 use Rattle.encoder_steps.proofs.Fronts.{front-is}
 use Rattle.encoder_blocks.specs.declared.Sizes.{Sizes}
 use Rattle.encoder_settings.specs.Weights.{nthLayer}
-use Rattle.encoder_blocks.specs.Sizes.{dimOf, nOf, mOf}
+use Rattle.encoder_blocks.specs.Sizes.{nOf, mOf}
 use Rattle.encoder_blocks.specs.Block.{normed, innerOf, outerOf, attnRun, feedRun, blockRun}
 use Rattle.encoder_blocks.specs.Layers.{layersRun}
 use Rattle.encoder_blocks.specs.inner.Live.{hAt}
@@ -37,7 +37,7 @@ layers-long : (z : Sizes) (w cos sin : List Float) (n : ℕ) (h l : List Float) 
 unfolding layersRun
 layers-long z w cos sin zero h l k e = ap length (sym (answer-went true h l e)) ∙ k
 layers-long z w cos sin (suc n) h l k e =
-    let v = nthLayer (dimOf z) (z .inter) n w in
+    let v = nthLayer (z .hidden) (z .inter) n w in
     let g = then-went (layersRun z w cos sin n h) (blockRun z v cos sin) l e in
     block-long z v cos sin (g .0) l (g .1)
 

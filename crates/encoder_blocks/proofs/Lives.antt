@@ -2,7 +2,7 @@
 use mathlib.Core.Bool.{Bool, true, _&&_}
 use mathlib.Core.Path.{_≡_, sym, ap, _∙_}
 use mathlib.Core.List.{List}
-use Prim.Native.Nat.{ℕ, _+_, _*_, _≤_}
+use Prim.Native.Nat.{ℕ, _+_, _*_, _/_, _%_, _≤_}
 use native.Mathlib.Omega.{arith}
 use lib.ListN.{length}
 use lib.Ieee.{Float}
@@ -12,7 +12,7 @@ use Rattle.number_floats.specs.Constants.{zero32}
 use Rattle.buffers.specs.inner.Apart.{before, after}
 use Rattle.buffers.proofs.Regions.{length-put, region-put, region-put-same}
 use Rattle.encoder_blocks.specs.declared.Sizes.{Sizes}
-use Rattle.encoder_blocks.specs.Sizes.{hdOf, dimOf, nOf, mOf, partsOf}
+use Rattle.encoder_blocks.specs.Sizes.{nOf, mOf, partsOf}
 use Prim.Native.String.{String}
 use Rattle.encoder_settings.specs.Weights.{part}
 use Rattle.buffers.specs.Each.{blank}
@@ -37,27 +37,31 @@ use Rattle.encoder_attention.proofs.Attends.{length-attention}
 module _ (z : Sizes) where
   pub length-normed : (name : String) (w h : List Float) → length (normed z name w h) ≡ nOf z
   unfolding normed
-  length-normed name w h = length-norm (z .tokens) (dimOf z) (part (partsOf z) name w) h
+  length-normed name w h = length-norm (z .tokens) (z .hidden) (part (partsOf z) name w) h
 
   pub length-square : (name : String) (w x : List Float) → length (squareOf z name w x) ≡ nOf z
   unfolding squareOf
-  length-square name w x = length-linear (z .tokens) (dimOf z) (dimOf z) (part (partsOf z) name w) x
+  length-square name w x = length-linear (z .tokens) (z .hidden) (z .hidden) (part (partsOf z) name w) x
 
   pub length-inner : (name : String) (w x : List Float) → length (innerOf z name w x) ≡ mOf z
   unfolding innerOf
-  length-inner name w x = length-linear (z .tokens) (dimOf z) (z .inter) (part (partsOf z) name w) x
+  length-inner name w x = length-linear (z .tokens) (z .hidden) (z .inter) (part (partsOf z) name w) x
 
   pub length-outer : (name : String) (w x : List Float) → length (outerOf z name w x) ≡ nOf z
   unfolding outerOf
-  length-outer name w x = length-linear (z .tokens) (z .inter) (dimOf z) (part (partsOf z) name w) x
+  length-outer name w x = length-linear (z .tokens) (z .inter) (z .hidden) (part (partsOf z) name w) x
 
-  pub length-turned-all : (cos sin x : List Float) → length (turnedAll z cos sin x) ≡ nOf z
+  -- the halves of the heads
+  pub halves-whole : z .heads * z .«head_dim» ≡ z .hidden → z .«head_dim» % 2 ≡ 0 → z .heads * (z .«head_dim» / 2 + z .«head_dim» / 2) ≡ z .hidden
+  halves-whole w e = let h : z .«head_dim» / 2 + z .«head_dim» / 2 ≡ z .«head_dim» = omega arith in ap (λ (k : ℕ). z .heads * k) h ∙ w
+
+  pub length-turned-all : z .heads * (z .«head_dim» / 2 + z .«head_dim» / 2) ≡ z .hidden → (cos sin x : List Float) → length (turnedAll z cos sin x) ≡ nOf z
   unfolding turnedAll
-  length-turned-all cos sin x = length-rotate (z .tokens) (z .heads) (z .half) (z .«grid_w») (z .side) cos sin x
+  length-turned-all e cos sin x = length-rotate (z .tokens) (z .heads) (z .«head_dim» / 2) (z .«grid_w») (z .side) cos sin x ∙ ap (λ (k : ℕ). z .tokens * k) e
 
-  pub length-mixed : (q k v : List Float) → length (mixed z q k v) ≡ nOf z
+  pub length-mixed : z .heads * z .«head_dim» ≡ z .hidden → (q k v : List Float) → length (mixed z q k v) ≡ nOf z
   unfolding mixed
-  length-mixed q k v = length-attention (z .tokens) (z .heads) (hdOf z) (z .scaling) q k v
+  length-mixed e q k v = length-attention (z .tokens) (z .heads) (z .«head_dim») (z .scaling) q k v ∙ ap (λ (k : ℕ). z .tokens * k) e
 
 -- each piece from its stages
 module _ (z : Sizes) (w s : List Float) (f : 7 * nOf z + 2 * mOf z ≤ length s) where
@@ -94,14 +98,14 @@ module _ (z : Sizes) (w s : List Float) (f : 7 * nOf z + 2 * mOf z ≤ length s)
         fine-is = cc;
       }
 
-  pub attn-turn : (cos sin s₁ s₂ : List Float) (ok a r : Bool)
+  pub attn-turn : z .heads * (z .«head_dim» / 2 + z .«head_dim» / 2) ≡ z .hidden → (cos sin s₁ s₂ : List Float) (ok a r : Bool)
       → Wrote s s₁ (2 * n) (turnedAll z cos sin (qAt z s)) ok a
       → Wrote s₁ s₂ (3 * n) (turnedAll z cos sin (kAt z s₁)) a r
       → AttnTurn z cos sin s s₂ ok r
   unfolding fine
-  attn-turn cos sin s₁ s₂ ok a r w₁ w₂ =
-      let l₁ = length-turned-all z cos sin (qAt z s) in
-      let l₂ = length-turned-all z cos sin (kAt z s₁) in
+  attn-turn e cos sin s₁ s₂ ok a r w₁ w₂ =
+      let l₁ = length-turned-all z e cos sin (qAt z s) in
+      let l₂ = length-turned-all z e cos sin (kAt z s₁) in
       let k₁ = long w₁ n l₁ in
       let x₁ : kAt z s₁ ≡ kAt z s = left w₁ n l₁ (3 * n) n (after (omega arith)) in
       record {
@@ -112,21 +116,21 @@ module _ (z : Sizes) (w s : List Float) (f : 7 * nOf z + 2 * mOf z ≤ length s)
         fine-is = cc;
       }
 
-  pub attn-mix : (row : ℕ) → 7 * n + 2 * m ≤ row → row + z .tokens ≤ length s → (s₁ s₂ s₃ : List Float) (ok f₁ f₂ b r : Bool)
+  pub attn-mix : z .heads * z .«head_dim» ≡ z .hidden → (row : ℕ) → 7 * n + 2 * m ≤ row → row + z .tokens ≤ length s → (s₁ s₂ s₃ : List Float) (ok f₁ f₂ b r : Bool)
       → f₁ ≡ sound (scored z (qAt z s) (kAt z s))
-      → s₁ ≡ put (blank zero32 row (z .tokens) (put s n (turnedKeys (z .tokens) (dimOf z) (kAt z s)))) (5 * n) (mixed z (qAt z s) (kAt z s) (vAt z s))
+      → s₁ ≡ put (blank zero32 row (z .tokens) (put s n (turnedKeys (z .tokens) (z .hidden) (kAt z s)))) (5 * n) (mixed z (qAt z s) (kAt z s) (vAt z s))
       → length s₁ ≡ length s
       → f₂ ≡ sound (region s₁ (5 * n) n)
       → Wrote s₁ s₂ (6 * n) (squareOf z "o" w (region s₁ (5 * n) n)) ((ok && f₁) && f₂) b
       → Wrote s₂ s₃ 0 (added n (hAt z s₂) (region s₂ (6 * n) n)) b r
       → AttnMix z w s s₃ ok r
   unfolding fine
-  attn-mix row behind inside s₁ s₂ s₃ ok f₁ f₂ b r e₁ e₂ k₁ e₃ w₁ w₂ =
+  attn-mix e row behind inside s₁ s₂ s₃ ok f₁ f₂ b r e₁ e₂ k₁ e₃ w₁ w₂ =
       let t = z .tokens in
       let A = mixed z (qAt z s) (kAt z s) (vAt z s) in
-      let T = turnedKeys t (dimOf z) (kAt z s) in
+      let T = turnedKeys t (z .hidden) (kAt z s) in
       let s₀ = put s n T in
-      let la = length-mixed z (qAt z s) (kAt z s) (vAt z s) in
+      let la = length-mixed z e (qAt z s) (kAt z s) (vAt z s) in
       let l₁ = length-square z "o" w (region s₁ (5 * n) n) in
       let k₂ = long w₁ n l₁ in
       let l₂ = length-added n (hAt z s₂) (region s₂ (6 * n) n) in
@@ -134,7 +138,7 @@ module _ (z : Sizes) (w s : List Float) (f : 7 * nOf z + 2 * mOf z ≤ length s)
       ap (λ u. region u (5 * n) n) e₂ ∙ region-put-same (blank zero32 row t s₀) (5 * n) A n (sym la) (rw (la, length-put s₀ row (tab t (λ _. zero32)), length-put s n T) (omega arith)) in
       let h₁ : hAt z s₁ ≡ hAt z s =
       ap (λ u. region u 0 n) e₂ ∙ region-put (blank zero32 row t s₀) (5 * n) A 0 n (rw la (before (omega arith))) ∙ blank-region zero32 row t s₀ 0 n (before (omega arith))
-      ∙ region-put s n T 0 n (rw (length-turned t (dimOf z) (kAt z s)) (before (omega arith))) in
+      ∙ region-put s n T 0 n (rw (length-turned t (z .hidden) (kAt z s)) (before (omega arith))) in
       let h₂ : hAt z s₂ ≡ hAt z s = left w₁ n l₁ 0 n (before (omega arith)) ∙ h₁ in
       let o₂ : region s₂ (6 * n) n ≡ squareOf z "o" w A = got w₁ n l₁ (omega arith) ∙ ap (squareOf z "o" w) a₁ in
       record {
@@ -200,9 +204,10 @@ module _ (z : Sizes) (w s : List Float) (f : 7 * nOf z + 2 * mOf z ≤ length s)
 
 -- what a call asks, at a scratch of the same length
 pub attend-at : (z : Sizes) {len lenw row : ℕ} → BlockFits z len lenw → ScoreRow z len row
-    → KeysFit len (2 * nOf z) (3 * nOf z) (4 * nOf z) (nOf z) row (5 * nOf z) (z .tokens) (z .heads) (z .half + z .half)
+    → KeysFit len (2 * nOf z) (3 * nOf z) (4 * nOf z) (nOf z) row (5 * nOf z) (z .tokens) (z .heads) (z .«head_dim»)
 attend-at z f r =
     let g = f .scratch in let b = r .behind in let i = r .inside in
+    let e : z .tokens * (z .heads * z .«head_dim») ≡ nOf z = ap (λ (k : ℕ). z .tokens * k) (f .whole) in
     record {
       turned = record {
         qIn = omega arith;
@@ -210,7 +215,7 @@ attend-at z f r =
         vIn = omega arith;
         rowIn = omega arith;
         outIn = omega arith;
-        dimIn = f .dimIn;
+        dimIn = omega (arith, f .dimIn, f .whole);
         qrow = before (omega arith);
         krow = before (omega arith);
         vrow = before (omega arith);

@@ -2,7 +2,7 @@
 -- Assumes nothing.
 use mathlib.Core.Bool.{true, _&&_}
 use mathlib.Core.Path.{_≡_}
-use Prim.Native.Nat.{ℕ, _+_, _*_, _≤_}
+use Prim.Native.Nat.{ℕ, _+_, _*_, _%_, _≤_}
 use native.Mathlib.Nat.{mul-le-mul}
 use native.Mathlib.Omega.{arith}
 use borrow.Author.Tests.{ltb-true, leb-true, eqb-true, lt-ltb, le-leb, eq-eqb}
@@ -11,7 +11,7 @@ use Rattle.buffers.specs.inner.Room.{inside}
 use Rattle.buffers.proofs.Rooms.{and-parts, two}
 use Rattle.encoder_blocks.specs.declared.Sizes.{Sizes}
 use Rattle.encoder_settings.specs.Weights.{floats}
-use Rattle.encoder_blocks.specs.Sizes.{hdOf, dimOf, nOf, mOf, partsOf}
+use Rattle.encoder_blocks.specs.Sizes.{nOf, mOf, partsOf}
 use Rattle.encoder_blocks.specs.inner.Room.{sizesFit, lengthsFit, layersFit}
 use Rattle.encoder_blocks.specs.inner.Fits.{LayersFits, SizesFit, Products}
 
@@ -23,7 +23,6 @@ products z f =
     let m : z .side * z .«grid_w» ≤ 4194304 = mul-le-mul (f .tables) w in
     let t : z .tokens ≤ 4194304 = omega (arith, m, f .high) in
     record {
-      narrow = f .narrow;
       small = f .small;
       grid = g;
       table = mul-le-mul g (f .narrow);
@@ -38,46 +37,52 @@ module _ (z : Sizes) where
   pub sizes-say : sizesFit z ≡ true → SizesFit z
   unfolding sizesFit
   sizes-say h =
-      let few = inside 2048 0 (dimOf z) && leb (z .tokens) (z .side * z .«grid_w») in
+      let split = eqb (z .«head_dim» % 2) 0 && eqb (z .heads * z .«head_dim») (z .hidden) in
+      let few = leb (z .tokens) (z .side * z .«grid_w») in
       let some = leb (z .inter) 8192 && ltb 0 (z .«grid_w») in
-      let a = and-parts (leb (z .half) 128) (leb (z .side) 2048 && (leb (z .«grid_w») (z .side) && (few && some))) h in
-      let b = and-parts (leb (z .side) 2048) (leb (z .«grid_w») (z .side) && (few && some)) (a .1) in
-      let c = and-parts (leb (z .«grid_w») (z .side)) (few && some) (b .1) in
-      let d = and-parts few some (c .1) in
-      let e = and-parts (inside 2048 0 (dimOf z)) (leb (z .tokens) (z .side * z .«grid_w»)) (d .0) in
-      let f = and-parts (leb (z .inter) 8192) (ltb 0 (z .«grid_w»)) (d .1) in
-      let narrow = leb-true (z .half) 128 (a .0) in
-      let small = leb-true (0 + dimOf z) 2048 (e .0) in
+      let held = inside 2048 0 (z .heads * z .«head_dim») in
+      let a = and-parts (leb (z .«head_dim») 256) (leb (z .side) 2048 && (leb (z .«grid_w») (z .side) && (held && ((split && few) && some)))) h in
+      let b = and-parts (leb (z .side) 2048) (leb (z .«grid_w») (z .side) && (held && ((split && few) && some))) (a .1) in
+      let c = and-parts (leb (z .«grid_w») (z .side)) (held && ((split && few) && some)) (b .1) in
+      let d = and-parts held ((split && few) && some) (c .1) in
+      let e = and-parts (split && few) some (d .1) in
+      let g = and-parts split few (e .0) in
+      let f = and-parts (leb (z .inter) 8192) (ltb 0 (z .«grid_w»)) (e .1) in
+      let k = and-parts (eqb (z .«head_dim» % 2) 0) (eqb (z .heads * z .«head_dim») (z .hidden)) (g .0) in
+      let whole = eqb-true (z .heads * z .«head_dim») (z .hidden) (k .1) in
+      let small = leb-true (0 + z .heads * z .«head_dim») 2048 (d .0) in
       record {
-        narrow = omega arith;
-        small = omega arith;
+        whole = whole;
+        even = eqb-true (z .«head_dim» % 2) 0 (k .0);
+        narrow = leb-true (z .«head_dim») 256 (a .0);
+        small = omega (arith, whole, small);
         tables = leb-true (z .side) 2048 (b .0);
         some = ltb-true 0 (z .«grid_w») (f .1);
         wide = leb-true (z .«grid_w») (z .side) (c .0);
-        high = leb-true (z .tokens) (z .side * z .«grid_w») (e .1);
+        high = leb-true (z .tokens) (z .side * z .«grid_w») (g .1);
         inner = leb-true (z .inter) 8192 (f .0);
       }
 
   sizes-fit : SizesFit z → sizesFit z ≡ true
   unfolding sizesFit
   sizes-fit f =
-      let narrow : z .half ≤ 128 = omega (arith, f .narrow) in
-      let small : 0 + dimOf z ≤ 2048 = omega (arith, f .small) in
-      two (le-leb (z .half) 128 narrow) (two (le-leb (z .side) 2048 (f .tables)) (two (le-leb (z .«grid_w») (z .side) (f .wide))
-      (two (two (le-leb (0 + dimOf z) 2048 small) (le-leb (z .tokens) (z .side * z .«grid_w») (f .high))) (two (le-leb (z .inter) 8192 (f .inner)) (lt-ltb 0 (z .«grid_w») (f .some))))))
+      let small : 0 + z .heads * z .«head_dim» ≤ 2048 = omega (arith, f .small, f .whole) in
+      two (le-leb (z .«head_dim») 256 (f .narrow)) (two (le-leb (z .side) 2048 (f .tables)) (two (le-leb (z .«grid_w») (z .side) (f .wide)) (two (le-leb (0 + z .heads * z .«head_dim») 2048 small)
+      (two (two (two (eq-eqb (z .«head_dim» % 2) 0 (f .even)) (eq-eqb (z .heads * z .«head_dim») (z .hidden) (f .whole))) (le-leb (z .tokens) (z .side * z .«grid_w») (f .high)))
+      (two (le-leb (z .inter) 8192 (f .inner)) (lt-ltb 0 (z .«grid_w») (f .some)))))))
 
   module _ {lens lenw lenc lenn row count : ℕ} where
     pub layers-say : layersFit z lens lenw lenc lenn row count ≡ true → LayersFits z lens lenw lenc lenn row count
     unfolding layersFit lengthsFit
     layers-say h =
-        let table = z .side * z .side * hdOf z in
+        let table = z .side * z .side * z .«head_dim» in
         let tables = eqb lenc table && eqb lenn table in
         let held = leb (7 * nOf z + 2 * mOf z) row && inside lens row (z .tokens) in
-        let p = and-parts (sizesFit z) ((tables && (held && leb (dimOf z) lens)) && inside lenw 0 (count * floats (partsOf z))) h in
-        let a = and-parts (tables && (held && leb (dimOf z) lens)) (inside lenw 0 (count * floats (partsOf z))) (p .1) in
-        let b = and-parts tables (held && leb (dimOf z) lens) (a .0) in
+        let p = and-parts (sizesFit z) ((tables && (held && leb (z .hidden) lens)) && inside lenw 0 (count * floats (partsOf z))) h in
+        let a = and-parts (tables && (held && leb (z .hidden) lens)) (inside lenw 0 (count * floats (partsOf z))) (p .1) in
+        let b = and-parts tables (held && leb (z .hidden) lens) (a .0) in
         let c = and-parts (eqb lenc table) (eqb lenn table) (b .0) in
-        let d = and-parts held (leb (dimOf z) lens) (b .1) in
+        let d = and-parts held (leb (z .hidden) lens) (b .1) in
         let e = and-parts (leb (7 * nOf z + 2 * mOf z) row) (inside lens row (z .tokens)) (d .0) in
         let f = sizes-say (p .0) in
         let behind = leb-true (7 * nOf z + 2 * mOf z) row (e .0) in
@@ -88,9 +93,11 @@ module _ (z : Sizes) where
           inner = f .inner;
           turn = record {
             scratch = omega (arith, behind, within);
+            whole = f .whole;
+            even = f .even;
             small = f .small;
             narrow = f .narrow;
-            dimIn = leb-true (dimOf z) lens (d .1);
+            dimIn = leb-true (z .hidden) lens (d .1);
             tables = f .tables;
             some = f .some;
             wide = f .wide;
@@ -102,7 +109,7 @@ module _ (z : Sizes) where
         }
 
     sizes-of : LayersFits z lens lenw lenc lenn row count → SizesFit z
-    sizes-of f = let t = f .turn in record { narrow = t .narrow; small = t .small; tables = t .tables; some = t .some; wide = t .wide; high = t .high; inner = f .inner }
+    sizes-of f = let t = f .turn in record { whole = t .whole; even = t .even; narrow = t .narrow; small = t .small; tables = t .tables; some = t .some; wide = t .wide; high = t .high; inner = f .inner }
 
     pub layers-products : LayersFits z lens lenw lenc lenn row count → Products z
     layers-products f = products z (sizes-of f)
@@ -111,9 +118,9 @@ module _ (z : Sizes) where
     unfolding layersFit lengthsFit
     layers-fit f =
         let t = f .turn in
-        let table = z .side * z .side * hdOf z in
+        let table = z .side * z .side * z .«head_dim» in
         let all : 0 + count * floats (partsOf z) ≤ lenw = omega (arith, f .weights) in
         two (sizes-fit (sizes-of f))
         (two (two (two (eq-eqb lenc table (t .cosines)) (eq-eqb lenn table (t .sines)))
-        (two (two (le-leb (7 * nOf z + 2 * mOf z) row (f .scores .behind)) (le-leb (row + z .tokens) lens (f .scores .inside))) (le-leb (dimOf z) lens (t .dimIn))))
+        (two (two (le-leb (7 * nOf z + 2 * mOf z) row (f .scores .behind)) (le-leb (row + z .tokens) lens (f .scores .inside))) (le-leb (z .hidden) lens (t .dimIn))))
         (le-leb (0 + count * floats (partsOf z)) lenw all))

@@ -7,7 +7,7 @@ use native.Mathlib.Numerals.{add-one}
 use lib.Ieee.{Float}
 use Rattle.encoder_blocks.specs.declared.Sizes.{Sizes}
 use Rattle.encoder_settings.specs.Weights.{floats, nthLayer}
-use Rattle.encoder_blocks.specs.Sizes.{dimOf, partsOf}
+use Rattle.encoder_blocks.specs.Sizes.{partsOf}
 use Rattle.encoder_steps.specs.Run.{answer}
 use Rattle.encoder_blocks.specs.Block.{blockRun}
 use Rattle.encoder_blocks.specs.Layers.{layersRun}
@@ -15,7 +15,7 @@ use Rattle.encoder_blocks.specs.inner.Fits.{BlockFits, TurnFits}
 use Rattle.encoder_steps.proofs.Writes.{answer-then}
 
 pub layers-turn : (z : Sizes) (w cos sin h p hs hs′ : List Float) (l : ℕ) (ok r : Bool)
-    → p ≡ nthLayer (dimOf z) (z .inter) l w
+    → p ≡ nthLayer (z .hidden) (z .inter) l w
     → answer ok hs ≡ layersRun z w cos sin l h → answer r hs′ ≡ blockRun z p cos sin hs
     → answer (ok && r) hs′ ≡ layersRun z w cos sin (l + 1) h
 unfolding layersRun
@@ -24,4 +24,4 @@ layers-turn z w cos sin h p hs hs′ l ok r d e f =
 
 -- what the block asks, at a layer's part of the weights
 pub block-at : (z : Sizes) {lens lenw : ℕ} (lenc lenn : ℕ) → lenw ≡ floats (partsOf z) → TurnFits z lens lenc lenn → BlockFits z lens lenw
-block-at z lenc lenn l f = record { scratch = f .scratch; weights = l; small = f .small; narrow = f .narrow; dimIn = f .dimIn }
+block-at z lenc lenn l f = record { scratch = f .scratch; weights = l; whole = f .whole; small = f .small; dimIn = f .dimIn }

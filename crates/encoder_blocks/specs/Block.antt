@@ -1,11 +1,11 @@
 -- One encoder block, stage by stage. Assumes nothing.
 use mathlib.Core.List.{List, [], _∷_}
-use Prim.Native.Nat.{_+_}
+use Prim.Native.Nat.{_/_}
 use Prim.Native.String.{String}
 use lib.Ieee.{Float}
 use Rattle.encoder_blocks.specs.declared.Sizes.{Sizes}
 use Rattle.encoder_settings.specs.Weights.{part}
-use Rattle.encoder_blocks.specs.Sizes.{dimOf, nOf, mOf, partsOf}
+use Rattle.encoder_blocks.specs.Sizes.{nOf, mOf, partsOf}
 use Rattle.encoder_linear.specs.Linear.{linearOf}
 use Rattle.encoder_elements.specs.Element.{added, gated, rounded}
 use Rattle.encoder_kernels.specs.Norm.{normOf}
@@ -15,26 +15,26 @@ use Rattle.encoder_steps.specs.Run.{Run, checked, thenRun}
 
 -- a norm of the tokens, by the part of that name of the layer's weights w
 unfoldable pub normed : Sizes → String → List Float → List Float → List Float
-normed z name w h = normOf (z .tokens) (dimOf z) (part (partsOf z) name w) h
+normed z name w h = normOf (z .tokens) (z .hidden) (part (partsOf z) name w) h
 
 -- linear layers of the tokens: to the same size, to the intermediate size, and from it
 unfoldable pub squareOf : Sizes → String → List Float → List Float → List Float
-squareOf z name w x = linearOf (z .tokens) (dimOf z) (dimOf z) (part (partsOf z) name w) x
+squareOf z name w x = linearOf (z .tokens) (z .hidden) (z .hidden) (part (partsOf z) name w) x
 
 unfoldable pub innerOf : Sizes → String → List Float → List Float → List Float
-innerOf z name w x = linearOf (z .tokens) (dimOf z) (z .inter) (part (partsOf z) name w) x
+innerOf z name w x = linearOf (z .tokens) (z .hidden) (z .inter) (part (partsOf z) name w) x
 
 unfoldable pub outerOf : Sizes → String → List Float → List Float → List Float
-outerOf z name w a = linearOf (z .tokens) (z .inter) (dimOf z) (part (partsOf z) name w) a
+outerOf z name w a = linearOf (z .tokens) (z .inter) (z .hidden) (part (partsOf z) name w) a
 
 unfoldable pub turnedAll : Sizes → List Float → List Float → List Float → List Float
-turnedAll z cos sin x = rotateOf (z .tokens) (z .heads) (z .half) (z .«grid_w») (z .side) cos sin x
+turnedAll z cos sin x = rotateOf (z .tokens) (z .heads) (z .«head_dim» / 2) (z .«grid_w») (z .side) cos sin x
 
 unfoldable pub mixed : Sizes → List Float → List Float → List Float → List Float
-mixed z q k v = attentionOf (z .tokens) (z .heads) (z .half + z .half) (z .scaling) q k v
+mixed z q k v = attentionOf (z .tokens) (z .heads) (z .«head_dim») (z .scaling) q k v
 
 unfoldable pub scored : Sizes → List Float → List Float → List Float
-scored z q k = scoresOf (z .tokens) (z .heads) (z .half + z .half) (z .scaling) q k
+scored z q k = scoresOf (z .tokens) (z .heads) (z .«head_dim») (z .scaling) q k
 
 -- the first half: h + o (attention (norm h))
 unfoldable pub attnRun : Sizes → List Float → List Float → List Float → List Float → Run

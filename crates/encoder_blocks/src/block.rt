@@ -1,4 +1,4 @@
-// One encoder block.
+// One encoder block. Where a part of the layer's weights starts goes by the part's name.
 ghost use mathlib.Core.Path.{_≡_};
 ghost use lib.ListN.{length};
 ghost use Rattle.buffers.specs.Region.{region};
@@ -20,13 +20,12 @@ use encoder_steps::norm_fine;
 use encoder_steps::round_fine;
 
 // The norm before the attention, of h.
-pub(crate) fn norm1(s: &mut [f32], z: Sizes, w: &[f32], ok: bool) -> bool
+pub(crate) fn attention_norm(s: &mut [f32], z: Sizes, w: &[f32], ok: bool) -> bool
     requires { ⌜ BlockFits z (length (now s)) (length (now w)) ⌝ }
     ensures { λ r. ⌜ Wrote (now (s .entry)) (now (s .exit)) (nOf z) (normed z "attention_norm" (now (w .entry)) (hAt z (now (s .entry)))) ok r ⌝ }
 {
     let t = z.tokens;
-    let half = z.half;
-    let dim = z.heads * (half + half);
+    let dim = z.hidden;
     norm_fine(s, 0, t * dim, t, dim, part(w, 0, dim), ok)
 }
 
@@ -36,15 +35,15 @@ pub(crate) fn attn_in(s: &mut [f32], z: Sizes, w: &[f32], ok: bool) -> bool
     ensures { λ r. ⌜ AttnIn z (now (w .entry)) (now (s .entry)) (now (s .exit)) ok r ⌝ }
 {
     let t = z.tokens;
-    let half = z.half;
-    let dim = z.heads * (half + half);
+    let dim = z.hidden;
     let n = t * dim;
-    let at = dim + dim * dim;
-    let bt = at + dim * dim;
-    let a = norm1(s, z, w, ok);
-    let b = matrix(s, n, 2 * n, t, dim, dim, w, dim, a);
-    let c = matrix(s, n, 3 * n, t, dim, dim, w, at, b);
-    matrix(s, n, 4 * n, t, dim, dim, w, bt, c)
+    let q = dim;
+    let k = q + dim * dim;
+    let v = k + dim * dim;
+    let a = attention_norm(s, z, w, ok);
+    let b = matrix(s, n, 2 * n, t, dim, dim, w, q, a);
+    let c = matrix(s, n, 3 * n, t, dim, dim, w, k, b);
+    matrix(s, n, 4 * n, t, dim, dim, w, v, c)
 }
 
 // Rotation of what stands at x.
@@ -60,10 +59,9 @@ pub(crate) fn rotate_fine(
     ensures { λ r. ⌜ Wrote (now (s .entry)) (now (s .exit)) x (turnedAll z (now (cos .entry)) (now (sin .entry)) (region (now (s .entry)) x (nOf z))) ok r ⌝ }
 {
     let t = z.tokens;
-    let heads = z.heads;
-    let half = z.half;
-    rotate(s, x, t, heads, half, z.grid_w, z.side, cos, sin);
-    let n = t * (heads * (half + half));
+    let half = z.head_dim / 2;
+    rotate(s, x, t, z.heads, half, z.grid_w, z.side, cos, sin);
+    let n = t * z.hidden;
     ok & finite(part(s, x, n))
 }
 
@@ -72,8 +70,7 @@ pub(crate) fn attn_turn(s: &mut [f32], z: Sizes, cos: &[f32], sin: &[f32], ok: b
     requires { ⌜ TurnFits z (length (now s)) (length (now cos)) (length (now sin)) ⌝ }
     ensures { λ r. ⌜ AttnTurn z (now (cos .entry)) (now (sin .entry)) (now (s .entry)) (now (s .exit)) ok r ⌝ }
 {
-    let half = z.half;
-    let n = z.tokens * (z.heads * (half + half));
+    let n = z.tokens * z.hidden;
     let a = rotate_fine(s, 2 * n, z, cos, sin, ok);
     rotate_fine(s, 3 * n, z, cos, sin, a)
 }
@@ -85,11 +82,9 @@ pub(crate) fn attn_mix(s: &mut [f32], z: Sizes, row: usize, w: &[f32], ok: bool)
     ensures { λ r. ⌜ AttnMix z (now (w .entry)) (now (s .entry)) (now (s .exit)) ok r ⌝ }
 {
     let t = z.tokens;
-    let half = z.half;
-    let heads = z.heads;
-    let dim = heads * (half + half);
+    let dim = z.hidden;
     let n = t * dim;
-    let at = dim + 3 * (dim * dim);
+    let o = dim + 3 * (dim * dim);
     let f = attend(
         s,
         2 * n,
@@ -99,23 +94,22 @@ pub(crate) fn attn_mix(s: &mut [f32], z: Sizes, row: usize, w: &[f32], ok: bool)
         row,
         5 * n,
         t,
-        heads,
-        half + half,
+        z.heads,
+        z.head_dim,
         z.scaling,
     );
     let g = finite(part(s, 5 * n, n));
-    let a = matrix(s, 5 * n, 6 * n, t, dim, dim, w, at, (ok & f) & g);
+    let a = matrix(s, 5 * n, 6 * n, t, dim, dim, w, o, (ok & f) & g);
     add_fine(s, 0, 6 * n, n, a)
 }
 
 // The norm before the feed-forward, of h.
-pub(crate) fn norm2(s: &mut [f32], z: Sizes, w: &[f32], ok: bool) -> bool
+pub(crate) fn ffn_norm(s: &mut [f32], z: Sizes, w: &[f32], ok: bool) -> bool
     requires { ⌜ BlockFits z (length (now s)) (length (now w)) ⌝ }
     ensures { λ r. ⌜ Wrote (now (s .entry)) (now (s .exit)) (nOf z) (normed z "ffn_norm" (now (w .entry)) (hAt z (now (s .entry)))) ok r ⌝ }
 {
     let t = z.tokens;
-    let half = z.half;
-    let dim = z.heads * (half + half);
+    let dim = z.hidden;
     let at = dim + 4 * (dim * dim);
     norm_fine(s, 0, t * dim, t, dim, part(w, at, dim), ok)
 }
@@ -126,16 +120,15 @@ pub(crate) fn feed_in(s: &mut [f32], z: Sizes, w: &[f32], ok: bool) -> bool
     ensures { λ r. ⌜ FeedIn z (now (w .entry)) (now (s .entry)) (now (s .exit)) ok r ⌝ }
 {
     let t = z.tokens;
-    let half = z.half;
     let inter = z.inter;
-    let dim = z.heads * (half + half);
+    let dim = z.hidden;
     let n = t * dim;
     let m = t * inter;
-    let at = 2 * dim + 4 * (dim * dim);
-    let bt = at + inter * dim;
-    let a = norm2(s, z, w, ok);
-    let b = matrix(s, n, 7 * n, t, dim, inter, w, at, a);
-    matrix(s, n, 7 * n + m, t, dim, inter, w, bt, b)
+    let gate = 2 * dim + 4 * (dim * dim);
+    let up = gate + inter * dim;
+    let a = ffn_norm(s, z, w, ok);
+    let b = matrix(s, n, 7 * n, t, dim, inter, w, gate, a);
+    matrix(s, n, 7 * n + m, t, dim, inter, w, up, b)
 }
 
 // silu * up, down, residual, bf16.
@@ -144,14 +137,13 @@ pub(crate) fn feed_out(s: &mut [f32], z: Sizes, w: &[f32], ok: bool) -> bool
     ensures { λ r. ⌜ FeedOut z (now (w .entry)) (now (s .entry)) (now (s .exit)) ok r ⌝ }
 {
     let t = z.tokens;
-    let half = z.half;
     let inter = z.inter;
-    let dim = z.heads * (half + half);
+    let dim = z.hidden;
     let n = t * dim;
     let m = t * inter;
-    let at = 2 * dim + 4 * (dim * dim) + 2 * (inter * dim);
+    let down = 2 * dim + 4 * (dim * dim) + 2 * (inter * dim);
     let a = gate_fine(s, 7 * n, 7 * n + m, m, ok);
-    let b = matrix(s, 7 * n, 6 * n, t, inter, dim, w, at, a);
+    let b = matrix(s, 7 * n, 6 * n, t, inter, dim, w, down, a);
     let c = add_fine(s, 0, 6 * n, n, b);
     round_fine(s, 0, n, c)
 }

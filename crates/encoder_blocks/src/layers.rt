@@ -60,8 +60,7 @@ pub fn layers(
     if layers_fit(z, s.len(), w.len(), cos.len(), sin.len(), row, count) {
         let ok = each_layer(s, z, row, w, count, cos, sin);
         if ok {
-            let half = z.half;
-            let n = z.tokens * (z.heads * (half + half));
+            let n = z.tokens * z.hidden;
             clear_at(s, n, s.len() - n);
             return true;
         }

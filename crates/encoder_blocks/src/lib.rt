@@ -3,13 +3,14 @@ mod block;
 pub mod layers;
 mod room;
 
-// The sizes of a call: half is half of the head width, side is P, the most patches on a side.
+// The sizes of a call: side is P, the most patches on a side; the hidden size is heads times head_dim, which is even.
 pub struct Sizes {
     pub tokens: usize,
     pub grid_w: usize,
     pub side: usize,
+    pub hidden: usize,
     pub heads: usize,
-    pub half: usize,
+    pub head_dim: usize,
     pub inter: usize,
     pub scaling: f32,
 }

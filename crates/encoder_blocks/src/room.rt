@@ -8,11 +8,11 @@ use crate::Sizes;
 use buffers::room::inside;
 use buffers::room::rows_inside;
 
-// No product of the sizes is large.
+// No product of the sizes is large, and the heads make up the hidden size, in even widths.
 pub(crate) fn sizes_fit(z: Sizes) -> bool
     ensures { λ r. ⌜ r ≡ sizesFit z ⌝ }
 {
-    if 128 < z.half {
+    if 256 < z.head_dim {
         return false;
     }
     if 2048 < z.side {
@@ -21,9 +21,12 @@ pub(crate) fn sizes_fit(z: Sizes) -> bool
     if z.side < z.grid_w {
         return false;
     }
-    let half = z.half;
+    if !rows_inside(2048, 0, z.heads, z.head_dim) {
+        return false;
+    }
+    let whole = (z.head_dim % 2 == 0) & (z.heads * z.head_dim == z.hidden);
     let few = z.tokens <= z.side * z.grid_w;
-    (rows_inside(2048, 0, z.heads, half + half) & few) & ((z.inter <= 8192) & (0 < z.grid_w))
+    (whole & few) & ((z.inter <= 8192) & (0 < z.grid_w))
 }
 
 // The weights of a layer.
@@ -32,8 +35,7 @@ pub(crate) fn layer_floats(z: Sizes) -> usize
     ensures { λ r. ⌜ r ≡ floats (partsOf z) ⌝ }
 {
     let i = z.inter;
-    let half = z.half;
-    let h = z.heads * (half + half);
+    let h = z.hidden;
     2 * h + 4 * (h * h) + 2 * (i * h) + h * i
 }
 
@@ -52,10 +54,8 @@ pub(crate) fn lengths_fit(
 {
     let t = z.tokens;
     let inter = z.inter;
-    let half = z.half;
-    let hd = half + half;
-    let dim = z.heads * hd;
-    let table = z.side * z.side * hd;
+    let dim = z.hidden;
+    let table = z.side * z.side * z.head_dim;
     let used = 7 * (t * dim) + 2 * (t * inter);
     let size = layer_floats(z);
     let tables = (lenc == table) & (lenn == table);

@@ -9,7 +9,7 @@ use lib.Ieee.{Float}
 use Rattle.buffers.specs.Region.{region}
 use Rattle.encoder_settings.specs.Weights.{part, embedding}
 use Rattle.encoder_blocks.specs.declared.Sizes.{Sizes}
-use Rattle.encoder_blocks.specs.Sizes.{dimOf, nOf}
+use Rattle.encoder_blocks.specs.Sizes.{nOf}
 use Rattle.encoder_elements.specs.Element.{rounded}
 use Rattle.encoder_steps.specs.Run.{Run, fine, answer, checked, thenRun}
 use Rattle.encoder_stages.specs.Embed.{patchConv, lnPre, embedRun}
@@ -28,11 +28,11 @@ module _ (z : Sizes) (f : ℕ) (w x s : List Float) (room : 2 * nOf z ≤ length
 
   length-conv : length (patchConv z f w x) ≡ n
   unfolding patchConv
-  length-conv = length-linear (z .tokens) f (dimOf z) (part (embedding (dimOf z) f) "patch_conv" w) x
+  length-conv = length-linear (z .tokens) f (z .hidden) (part (embedding (z .hidden) f) "patch_conv" w) x
 
   length-pre : (h : List Float) → length (lnPre z f w h) ≡ n
   unfolding lnPre
-  length-pre h = length-norm (z .tokens) (dimOf z) (part (embedding (dimOf z) f) "ln_pre" w) h
+  length-pre h = length-norm (z .tokens) (z .hidden) (part (embedding (z .hidden) f) "ln_pre" w) h
 
   pub embedded : (s₁ s₂ s₃ s₄ : List Float) (ok a b c r : Bool)
       → Wrote s s₁ n (patchConv z f w x) ok a

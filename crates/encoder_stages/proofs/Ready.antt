@@ -1,7 +1,7 @@
 -- What an acceptance says of a run: its places and sizes fit. Assumes nothing.
 use mathlib.Core.Path.{_≡_, refl, sym, ap, _∙_}
 use mathlib.Core.List.{List}
-use Prim.Native.Nat.{ℕ, zero, suc, _+_, _*_, _-_, _/_, _%_, _≤_, _<_}
+use Prim.Native.Nat.{ℕ, zero, suc, _+_, _*_, _-_, _/_, _≤_, _<_}
 use native.Mathlib.Nat.{suc-mul, mul-le-mul-right, mul-comm, mul-left-comm, mul-mul-mul-comm, mul-pos, mul-div-cancel, div-le-self, div-mul-cancel, dvd-of-mod-eq-zero, le-div-iff-mul-le}
 use native.Mathlib.Omega.{arith}
 use lib.Ieee.{Float}
@@ -14,15 +14,11 @@ use Rattle.encoder_settings.specs.Weights.{floats}
 use Rattle.encoder_settings.proofs.Weights.{layer-long}
 use Rattle.encoder_settings.proofs.Accepted.{Lengths, Ready}
 use Rattle.encoder_blocks.specs.declared.Sizes.{Sizes}
-use Rattle.encoder_blocks.specs.Sizes.{hdOf, dimOf, partsOf}
+use Rattle.encoder_blocks.specs.Sizes.{partsOf}
 use Rattle.encoder_stages.specs.inner.Live.{regionsOf, countsOf}
 use Rattle.encoder_stages.specs.Forward.{sizesOf, runOf, forwardRun}
 use Rattle.encoder_blocks.specs.inner.Fits.{TurnFits, LayersFits}
 use Rattle.encoder_stages.specs.inner.Fits.{CountsFit, RegionsFit, EmbedFits, SourceFits, MergeFits, ProjFits, RunFits}
-
--- the two halves of a head
-halves : (d : ℕ) → d % 4 ≡ 0 → d / 2 + d / 2 ≡ d
-halves d e = omega arith
 
 -- the squares of a grid that merge divides
 squares : (m gh gw : ℕ) → 0 < m * m → gh ≡ gh / m * m → gw ≡ gw / m * m → gh / m * (gw / m) ≡ gh * gw / (m * m)
@@ -39,12 +35,6 @@ module _ (s : EncoderSettings) (gh gw lenx lenw lenc lenn out lens t o : ℕ) (r
 
   abbrev m : ℕ
   m = s .picture .«spatial_merge_size»
-
-  head-is : hdOf z ≡ s .«head_dim»
-  head-is = halves (s .«head_dim») (r .settings .fourth)
-
-  dim-is : dimOf z ≡ H
-  dim-is = ap (λ (k : ℕ). s .«num_heads» * k) head-is ∙ r .settings .split
 
   some-merge : 0 < m
   some-merge = r .bounds .merge-low
@@ -80,24 +70,22 @@ module _ (s : EncoderSettings) (gh gw lenx lenw lenc lenn out lens t o : ℕ) (r
   counts-fit =
       let b = r .bounds in
       record {
-        narrow = rw head-is (r .settings .ranges .width .1);
-        small = rw dim-is (b .hidden-high);
+        small = b .hidden-high;
         patch-area = b .patch-area;
-        projection = rw dim-is (b .projection);
-        squares = rw dim-is (b .squares);
-        inner = rw dim-is (b .inner);
-        outer = rw dim-is (b .outer);
-        layers = rw dim-is (omega (arith, b .layers, b .layers-are));
+        projection = b .projection;
+        squares = b .squares;
+        inner = b .inner;
+        outer = b .outer;
+        layers = omega (arith, b .layers, b .layers-are);
         merge-area = b .merge-area;
-        merged = rw dim-is (b .merged);
+        merged = b .merged;
       }
 
   regions-fit : RegionsFit z (o * s .«text_hidden_size»)
   regions-fit =
       record {
-        narrow = rw head-is (r .settings .ranges .width .1);
-        small = rw dim-is (r .bounds .hidden-high);
-        hiddens = rw dim-is (r .counts .hiddens);
+        small = r .bounds .hidden-high;
+        hiddens = r .counts .hiddens;
         inners = r .counts .inners;
         texts = r .counts .texts;
       }
@@ -105,10 +93,9 @@ module _ (s : EncoderSettings) (gh gw lenx lenw lenc lenn out lens t o : ℕ) (r
   embed-fits : EmbedFits z lenx lens (countsOf s z .embedding) (countsOf s z .patch)
   embed-fits =
       record {
-        narrow = rw head-is (r .settings .ranges .width .1);
-        small = rw dim-is (r .bounds .hidden-high);
+        small = r .bounds .hidden-high;
         xin = r .patches-are ∙ ap (λ (k : ℕ). k * patchFloats (s .picture .«patch_size»)) (sym (r .tokens-are));
-        room = rw dim-is (omega (arith, l .scratch-holds));
+        room = omega (arith, l .scratch-holds);
         weights = omega arith;
       }
 
@@ -117,31 +104,32 @@ module _ (s : EncoderSettings) (gh gw lenx lenw lenc lenn out lens t o : ℕ) (r
 
   turn-fits : TurnFits z lens lenc lenn
   turn-fits =
-      let p = most (s .picture) in
       record {
-        scratch = rw dim-is (omega (arith, l .scratch-holds));
-        small = rw dim-is (r .bounds .hidden-high);
-        narrow = rw head-is (r .settings .ranges .width .1);
-        dimIn = rw dim-is (omega (arith, l .scratch-holds, hiddens));
+        scratch = omega (arith, l .scratch-holds);
+        whole = r .settings .split;
+        even = omega (arith, r .settings .fourth);
+        small = r .bounds .hidden-high;
+        narrow = r .settings .ranges .width .1;
+        dimIn = omega (arith, l .scratch-holds, hiddens);
         tables = r .bounds .most-high;
         some = r .grid .wide .low;
         wide = side-holds gw (r .grid .wide .high);
         high = omega (arith, r .tokens-are, mul-le-mul-right gw (side-holds gh (r .grid .tall .high)));
-        cosines = l .cos-are ∙ ap (λ (k : ℕ). p * p * k) (sym head-is);
-        sines = l .sin-are ∙ ap (λ (k : ℕ). p * p * k) (sym head-is);
+        cosines = l .cos-are;
+        sines = l .sin-are;
       }
 
   layers-fit : LayersFits z lens (countsOf s z .layers) lenc lenn (regionsOf z (o * s .«text_hidden_size») .row) (s .«num_layers»)
   layers-fit =
       record {
-        weights = let e : countsOf s z .layers ≡ s .«num_layers» * floats (partsOf z) = ap (λ (n : ℕ). s .«num_layers» * n) (layer-long (dimOf z) (z .inter)) in omega arith;
+        weights = let e : countsOf s z .layers ≡ s .«num_layers» * floats (partsOf z) = ap (λ (n : ℕ). s .«num_layers» * n) (layer-long (z .hidden) (z .inter)) in omega arith;
         inner = r .settings .ranges .inner .1;
         turn = turn-fits;
-        scores = record { behind = omega arith; inside = rw dim-is (omega (arith, l .scratch-holds)) };
+        scores = record { behind = omega arith; inside = omega (arith, l .scratch-holds) };
       }
 
-  total : o * (dimOf z * (m * m)) ≡ gh / m * (gw / m) * (dimOf z * (m * m))
-  total = ap (λ (k : ℕ). k * (dimOf z * (m * m))) (sym count)
+  total : o * (z .hidden * (m * m)) ≡ gh / m * (gw / m) * (z .hidden * (m * m))
+  total = ap (λ (k : ℕ). k * (z .hidden * (m * m))) (sym count)
 
   some-wide : 0 < gw / m
   some-wide = omega (arith, le-div-iff-mul-le {k = m} {x = 1} {y = gw} some-merge .1 (least gw (r .grid .wide .low) wide))
@@ -153,62 +141,61 @@ module _ (s : EncoderSettings) (gh gw lenx lenw lenc lenn out lens t o : ℕ) (r
           few-of zero g h e = absurd (omega arith)
           few-of (suc q) g h e = omega (arith, e, suc-mul q m)
 
-  source-fits : (p : ℕ) → p < o * (dimOf z * (m * m)) → SourceFits p m gh gw (dimOf z)
+  source-fits : (p : ℕ) → p < o * (z .hidden * (m * m)) → SourceFits p m gh gw (z .hidden)
   source-fits p h =
       record {
         some = some-merge;
         square = some-square;
         small = r .bounds .merge-area;
         wide = some-wide;
-        row = rw dim-is (mul-pos (omega (arith, r .settings .ranges .hidden .0)) some-square);
-        rowIn = rw dim-is (omega (arith, r .bounds .merged));
+        row = mul-pos (omega (arith, r .settings .ranges .hidden .0)) some-square;
+        rowIn = omega (arith, r .bounds .merged);
         gh-is = tall;
         gw-is = wide;
         tokens = r .grid .tokens;
-        room = rw dim-is (omega (arith, r .counts .hiddens, ap (λ (k : ℕ). k * H) (r .tokens-are)));
+        room = omega (arith, r .counts .hiddens, ap (λ (k : ℕ). k * H) (r .tokens-are));
         inside = omega (arith, h, total);
       }
 
-  merge-fits : MergeFits lens (t * dimOf z) (2 * (t * dimOf z)) (o * (dimOf z * (m * m))) m gh gw (dimOf z)
+  merge-fits : MergeFits lens (t * z .hidden) (2 * (t * z .hidden)) (o * (z .hidden * (m * m))) m gh gw (z .hidden)
   merge-fits =
-      let e : gh * gw * dimOf z ≡ t * dimOf z = ap (λ (k : ℕ). k * dimOf z) (sym (r .tokens-are)) in
-      let f : o * (dimOf z * (m * m)) ≡ t * dimOf z = rw dim-is merged in
-      let g : 7 * (t * dimOf z) ≤ lens = rw dim-is (omega (arith, l .scratch-holds)) in
+      let e : gh * gw * z .hidden ≡ t * z .hidden = ap (λ (k : ℕ). k * z .hidden) (sym (r .tokens-are)) in
+      let f : o * (z .hidden * (m * m)) ≡ t * z .hidden = merged in
+      let g : 7 * (t * z .hidden) ≤ lens = omega (arith, l .scratch-holds) in
       record {
         each = source-fits;
         total-is = total;
         some = some-merge;
         wide = some-wide;
-        channels = rw dim-is (omega (arith, r .settings .ranges .hidden .0));
+        channels = omega (arith, r .settings .ranges .hidden .0);
         xIn = omega (arith, e, g);
         yIn = omega (arith, f, g);
         apart = before (omega (arith, e));
       }
 
-  project-fits : ProjFits t (dimOf z) o (countsOf s z .merged) (s .«text_hidden_size») lens (lenw - (countsOf s z .embedding + countsOf s z .layers)) m gh gw (regionsOf z (o * s .«text_hidden_size») .linear)
+  project-fits : ProjFits t (z .hidden) o (countsOf s z .merged) (s .«text_hidden_size») lens (lenw - (countsOf s z .embedding + countsOf s z .layers)) m gh gw (regionsOf z (o * s .«text_hidden_size») .linear)
   project-fits =
-      let f : o * (dimOf z * (m * m)) ≡ t * dimOf z = rw dim-is merged in
+      let f : o * (z .hidden * (m * m)) ≡ t * z .hidden = merged in
       record {
-        small = rw dim-is (r .bounds .hidden-high);
-        weights = rw dim-is (omega (arith, l .weights-are, r .bounds .layers-are));
-        same = ap (λ (k : ℕ). k * dimOf z) (sym (r .tokens-are));
+        small = r .bounds .hidden-high;
+        weights = omega (arith, l .weights-are, r .bounds .layers-are);
+        same = ap (λ (k : ℕ). k * z .hidden) (sym (r .tokens-are));
         count = count;
         wide-is = refl;
         wideIn = omega (arith, f);
-        foldIn = mul-le-mul-right (dimOf z) few;
+        foldIn = mul-le-mul-right (z .hidden) few;
         at-is = omega arith;
-        room = rw dim-is (omega (arith, l .scratch-holds));
+        room = omega (arith, l .scratch-holds);
         merges = merge-fits;
       }
 
   pub run-fits : RunFits s gh gw t o lenx lenw lenc lenn lens
   run-fits =
       record {
-        dim-is = dim-is;
         counts = counts-fit;
         regions = regions-fit;
-        embedding-is = rw dim-is (omega arith);
-        layers-is = rw dim-is (r .bounds .layers-are);
+        embedding-is = omega arith;
+        layers-is = r .bounds .layers-are;
         weights-is = l .weights-are;
         embeds = embed-fits;
         layers = layers-fit;

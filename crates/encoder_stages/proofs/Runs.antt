@@ -15,7 +15,6 @@ use Rattle.picture_limits.specs.Places.{patchFloats}
 use Rattle.encoder_blocks.specs.declared.Sizes.{Sizes}
 use Rattle.encoder_stages.specs.declared.Counts.{Counts}
 use Rattle.encoder_stages.specs.declared.Regions.{Regions}
-use Rattle.encoder_blocks.specs.Sizes.{dimOf}
 use Rattle.encoder_linear.proofs.Sums.{length-linear}
 use Rattle.encoder_elements.specs.Element.{gelued}
 use Rattle.encoder_steps.specs.Run.{Run, went, fine, answer, checked, thenRun}
@@ -51,12 +50,12 @@ module _ (s : EncoderSettings) (gh gw t o : ℕ) (w cos sin x : List Float) wher
       → ok ≡ inputsFine x w cos sin
       → Embedded z (p .patch) v₁ x s₁ ok a
       → answer b (hAt z s₂) ≡ layersRun z v₂ cos sin (s .«num_layers») (hAt z s₁)
-      → answer c (region s₃ (q .linear + e) e) ≡ projectRun t (dimOf z) o (p .merged) (s .«text_hidden_size») (s .picture .«spatial_merge_size») gh gw v₃ (region s₂ 0 (t * dimOf z))
+      → answer c (region s₃ (q .linear + e) e) ≡ projectRun t (z .hidden) o (p .merged) (s .«text_hidden_size») (s .picture .«spatial_merge_size») gh gw v₃ (region s₂ 0 (t * z .hidden))
       → answer ((a && b) && c) (region s₃ (q .linear + e) e) ≡ runOf s gh gw t o w cos sin x
   unfolding runOf
   run-of v₁ v₂ v₃ s₁ s₂ s₃ ok a b c f₁ f₂ f₃ d₁ d₂ d₃ i g l k =
       let T = weights s in
-      let P : List Float → List Float → Run = λ u m. projectRun t (dimOf z) o (p .merged) (s .«text_hidden_size») (s .picture .«spatial_merge_size») gh gw u m in
+      let P : List Float → List Float → Run = λ u m. projectRun t (z .hidden) o (p .merged) (s .«text_hidden_size») (s .picture .«spatial_merge_size») gh gw u m in
       let I = checked (x ∷ w ∷ cos ∷ sin ∷ []) x in
       let g₁ = d₁ ∙ stands T "embedding" w 0 (p .embedding) (omega arith) (omega (arith, f₁)) in
       let g₂ = d₂ ∙ stands T "layers" w (p .embedding) (p .layers) (omega (arith, f₁)) (omega (arith, f₂)) in
@@ -85,7 +84,7 @@ vectors-long s gh gw t o w cos sin x l e =
     let z = sizesOf s t gw in
     let T = weights s in
     let r = thenRun (thenRun (checked (x ∷ w ∷ cos ∷ sin ∷ []) x) (embedRun z (patchFloats (s .picture .«patch_size»)) (part T "embedding" w))) (layersRun z (part T "layers" w) cos sin (s .«num_layers»)) in
-    let wide = dimOf z * mergeArea (s .picture) in
-    let f = projectRun t (dimOf z) o wide (s .«text_hidden_size») (s .picture .«spatial_merge_size») gh gw (part T "projector" w) in
+    let wide = z .hidden * mergeArea (s .picture) in
+    let f = projectRun t (z .hidden) o wide (s .«text_hidden_size») (s .picture .«spatial_merge_size») gh gw (part T "projector" w) in
     let g = then-went r f l e in
-    project-long t (dimOf z) o wide (s .«text_hidden_size») (s .picture .«spatial_merge_size») gh gw (part T "projector" w) (g .0) l (g .1)
+    project-long t (z .hidden) o wide (s .«text_hidden_size») (s .picture .«spatial_merge_size») gh gw (part T "projector" w) (g .0) l (g .1)

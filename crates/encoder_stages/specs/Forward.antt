@@ -9,7 +9,6 @@ use Rattle.encoder_settings.specs.declared.EncoderSettings.{EncoderSettings}
 use Rattle.encoder_settings.specs.Weights.{part, weights}
 use Rattle.encoder_settings.specs.Settings.{mergeArea}
 use Rattle.encoder_blocks.specs.declared.Sizes.{Sizes}
-use Rattle.encoder_blocks.specs.Sizes.{dimOf}
 use Rattle.encoder_steps.specs.Run.{Run, checked, thenRun}
 use Rattle.encoder_stages.specs.Embed.{embedRun}
 use Rattle.encoder_blocks.specs.Layers.{layersRun}
@@ -22,8 +21,9 @@ sizesOf s t gw =
       tokens = t;
       «grid_w» = gw;
       side = most (s .picture);
+      hidden = s .«hidden_size»;
       heads = s .«num_heads»;
-      half = s .«head_dim» / 2;
+      «head_dim» = s .«head_dim»;
       inter = s .«intermediate_size»;
       scaling = s .scaling;
     }
@@ -35,7 +35,7 @@ runOf s gh gw t o w cos sin x =
     thenRun (thenRun (thenRun (checked (x ∷ w ∷ cos ∷ sin ∷ []) x)
     (embedRun z (patchFloats (s .picture .«patch_size»)) (part (weights s) "embedding" w)))
     (layersRun z (part (weights s) "layers" w) cos sin (s .«num_layers»)))
-    (projectRun t (dimOf z) o (dimOf z * mergeArea (s .picture)) (s .«text_hidden_size») (s .picture .«spatial_merge_size») gh gw (part (weights s) "projector" w))
+    (projectRun t (z .hidden) o (z .hidden * mergeArea (s .picture)) (s .«text_hidden_size») (s .picture .«spatial_merge_size») gh gw (part (weights s) "projector" w))
 
 abbrev pub forwardRun : EncoderSettings → ℕ → ℕ → List Float → List Float → List Float → List Float → Run
 forwardRun s gh gw = runOf s gh gw (gh * gw) (gh * gw / mergeArea (s .picture))

@@ -50,8 +50,7 @@ pub(crate) fn embed(x: &[f32], s: &mut [f32], z: Sizes, f: usize, w: &[f32], ok:
     ensures { λ r. ⌜ Embedded z f (now (w .entry)) (now (x .entry)) (now (s .exit)) ok r ⌝ }
 {
     let t = z.tokens;
-    let half = z.half;
-    let dim = z.heads * (half + half);
+    let dim = z.hidden;
     let n = t * dim;
     let e = dim * f;
     let a = from_fine(x, s, n, t, f, dim, part(w, 0, e), ok);

@@ -18,8 +18,9 @@ pub(crate) fn sizes_of(s: EncoderSettings, t: usize, gw: usize) -> Sizes
         tokens: t,
         grid_w: gw,
         side: q.image_size / q.patch_size,
+        hidden: s.hidden_size,
         heads: s.num_heads,
-        half: s.head_dim / 2,
+        head_dim: s.head_dim,
         inter: s.intermediate_size,
         scaling: s.scaling,
     }
@@ -33,8 +34,7 @@ pub(crate) fn counts_of(s: EncoderSettings, z: Sizes) -> Counts
     let p = q.patch_size;
     let m = q.spatial_merge_size;
     let i = z.inter;
-    let half = z.half;
-    let h = z.heads * (half + half);
+    let h = z.hidden;
     let f = 3 * (p * p);
     let layer = 2 * h + 4 * (h * h) + 2 * (i * h) + h * i;
     Counts {
@@ -50,8 +50,7 @@ pub(crate) fn regions(z: Sizes, e: usize) -> Regions
     ensures { λ r. ⌜ r ≡ regionsOf z e ⌝ }
 {
     let t = z.tokens;
-    let half = z.half;
-    let lin = 7 * (t * (z.heads * (half + half))) + 2 * (t * z.inter);
+    let lin = 7 * (t * z.hidden) + 2 * (t * z.inter);
     Regions {
         linear: lin,
         row: lin + 2 * e,

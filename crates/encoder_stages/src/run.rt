@@ -46,8 +46,6 @@ pub(crate) fn encode(
     let z = sizes_of(s, t, gw);
     let p = counts_of(s, z);
     let r = regions(z, o * s.text_hidden_size);
-    let half = z.half;
-    let h = z.heads * (half + half);
     let at = p.embedding + p.layers;
     let ok = inputs_fine(patches, w, cos, sin);
     let a = embed(patches, scratch, z, p.patch, part(w, 0, p.embedding), ok);
@@ -58,7 +56,7 @@ pub(crate) fn encode(
         scratch,
         u,
         t,
-        h,
+        z.hidden,
         o,
         p.merged,
         s.text_hidden_size,

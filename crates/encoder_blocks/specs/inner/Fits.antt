@@ -1,17 +1,17 @@
 -- What the inner functions ask of the places and lengths that they are handed. Assumes nothing.
 use mathlib.Core.Path.{_≡_}
-use Prim.Native.Nat.{ℕ, _+_, _*_, _≤_, _<_}
+use Prim.Native.Nat.{ℕ, _+_, _*_, _%_, _≤_, _<_}
 use Rattle.encoder_blocks.specs.declared.Sizes.{Sizes}
 use Rattle.encoder_settings.specs.Weights.{floats}
-use Rattle.encoder_blocks.specs.Sizes.{hdOf, dimOf, nOf, mOf, partsOf}
+use Rattle.encoder_blocks.specs.Sizes.{nOf, mOf, partsOf}
 
 -- what a block asks of its shape and of the lengths of scratch and weights
 pub record BlockFits (z : Sizes) (lens lenw : ℕ) : Type 0 where
   pub scratch : 7 * nOf z + 2 * mOf z ≤ lens
   pub weights : lenw ≡ floats (partsOf z)
-  pub small : dimOf z ≤ 2048
-  pub narrow : hdOf z ≤ 256
-  pub dimIn : dimOf z ≤ lens
+  pub whole : z .heads * z .«head_dim» ≡ z .hidden
+  pub small : z .hidden ≤ 2048
+  pub dimIn : z .hidden ≤ lens
 
 -- the score row lies behind the block's regions
 pub record ScoreRow (z : Sizes) (lens row : ℕ) : Type 0 where
@@ -21,15 +21,17 @@ pub record ScoreRow (z : Sizes) (lens row : ℕ) : Type 0 where
 -- what the rotation asks of the tables
 pub record TurnFits (z : Sizes) (lens lenc lenn : ℕ) : Type 0 where
   pub scratch : 7 * nOf z + 2 * mOf z ≤ lens
-  pub small : dimOf z ≤ 2048
-  pub narrow : hdOf z ≤ 256
-  pub dimIn : dimOf z ≤ lens
+  pub whole : z .heads * z .«head_dim» ≡ z .hidden
+  pub even : z .«head_dim» % 2 ≡ 0
+  pub small : z .hidden ≤ 2048
+  pub narrow : z .«head_dim» ≤ 256
+  pub dimIn : z .hidden ≤ lens
   pub tables : z .side ≤ 2048
   pub some : 0 < z .«grid_w»
   pub wide : z .«grid_w» ≤ z .side
   pub high : z .tokens ≤ z .side * z .«grid_w»
-  pub cosines : lenc ≡ z .side * z .side * hdOf z
-  pub sines : lenn ≡ z .side * z .side * hdOf z
+  pub cosines : lenc ≡ z .side * z .side * z .«head_dim»
+  pub sines : lenn ≡ z .side * z .side * z .«head_dim»
 
 -- rotation at x
 pub record TurnAt (z : Sizes) (lens lenc lenn x : ℕ) : Type 0 where
@@ -45,8 +47,10 @@ pub record LayersFits (z : Sizes) (lens lenw lenc lenn row count : ℕ) : Type 0
 
 -- what the first of the tests of `Room.antt` says
 pub record SizesFit (z : Sizes) : Type 0 where
-  pub narrow : hdOf z ≤ 256
-  pub small : dimOf z ≤ 2048
+  pub whole : z .heads * z .«head_dim» ≡ z .hidden
+  pub even : z .«head_dim» % 2 ≡ 0
+  pub narrow : z .«head_dim» ≤ 256
+  pub small : z .hidden ≤ 2048
   pub tables : z .side ≤ 2048
   pub some : 0 < z .«grid_w»
   pub wide : z .«grid_w» ≤ z .side
@@ -55,12 +59,11 @@ pub record SizesFit (z : Sizes) : Type 0 where
 
 -- and the products of such sizes
 pub record Products (z : Sizes) : Type 0 where
-  pub narrow : hdOf z ≤ 256
-  pub small : dimOf z ≤ 2048
+  pub small : z .hidden ≤ 2048
   pub grid : z .side * z .side ≤ 4194304
-  pub table : z .side * z .side * hdOf z ≤ 1073741824
+  pub table : z .side * z .side * z .«head_dim» ≤ 1073741824
   pub hiddens : nOf z ≤ 8589934592
   pub inners : mOf z ≤ 34359738368
-  pub squares : dimOf z * dimOf z ≤ 4194304
-  pub inner : z .inter * dimOf z ≤ 16777216
-  pub outer : dimOf z * z .inter ≤ 16777216
+  pub squares : z .hidden * z .hidden ≤ 4194304
+  pub inner : z .inter * z .hidden ≤ 16777216
+  pub outer : z .hidden * z .inter ≤ 16777216

@@ -3,7 +3,7 @@ use mathlib.Core.Path.{_≡_}
 use Prim.Native.Nat.{ℕ, _+_, _*_, _-_, _/_, _≤_, _<_}
 use Rattle.buffers.specs.inner.Apart.{Apart}
 use Rattle.encoder_blocks.specs.declared.Sizes.{Sizes}
-use Rattle.encoder_blocks.specs.Sizes.{hdOf, dimOf, nOf, mOf}
+use Rattle.encoder_blocks.specs.Sizes.{nOf, mOf}
 use Rattle.encoder_blocks.specs.inner.Fits.{LayersFits}
 use Rattle.encoder_settings.specs.declared.EncoderSettings.{EncoderSettings}
 use Rattle.picture_limits.specs.Places.{patchFloats}
@@ -52,36 +52,32 @@ pub record ProjFits (t dim o wide text lens lenw merge gh gw at : ℕ) : Type 0 
 
 -- patches of f floats each, to h at 0; the place n is used too
 pub record EmbedFits (z : Sizes) (lenx lens lenw f : ℕ) : Type 0 where
-  pub narrow : hdOf z ≤ 256
-  pub small : dimOf z ≤ 2048
+  pub small : z .hidden ≤ 2048
   pub xin : lenx ≡ z .tokens * f
   pub room : 2 * nOf z ≤ lens
-  pub weights : floats (embedding (dimOf z) f) ≤ lenw
+  pub weights : floats (embedding (z .hidden) f) ≤ lenw
 
 -- how the weights are cut, of a call of the sizes z: no product wraps
 pub record CountsFit (s : EncoderSettings) (z : Sizes) : Type 0 where
-  pub narrow : hdOf z ≤ 256
-  pub small : dimOf z ≤ 2048
+  pub small : z .hidden ≤ 2048
   pub patch-area : s .picture .«patch_size» * s .picture .«patch_size» ≤ 1024
-  pub projection : dimOf z * patchFloats (s .picture .«patch_size») ≤ 6291456
-  pub squares : dimOf z * dimOf z ≤ 4194304
-  pub inner : z .inter * dimOf z ≤ 16777216
-  pub outer : dimOf z * z .inter ≤ 16777216
+  pub projection : z .hidden * patchFloats (s .picture .«patch_size») ≤ 6291456
+  pub squares : z .hidden * z .hidden ≤ 4194304
+  pub inner : z .inter * z .hidden ≤ 16777216
+  pub outer : z .hidden * z .inter ≤ 16777216
   pub layers : countsOf s z .layers ≤ 4294967296
   pub merge-area : mergeArea (s .picture) ≤ 16
-  pub merged : dimOf z * mergeArea (s .picture) ≤ 32768
+  pub merged : z .hidden * mergeArea (s .picture) ≤ 32768
 
 -- the places in the scratch, with e floats of token vectors
 pub record RegionsFit (z : Sizes) (e : ℕ) : Type 0 where
-  pub narrow : hdOf z ≤ 256
-  pub small : dimOf z ≤ 2048
+  pub small : z .hidden ≤ 2048
   pub hiddens : nOf z ≤ 8589934592
   pub inners : mOf z ≤ 34359738368
   pub texts : e ≤ 34359738368
 
 -- a whole run: t tokens of a grid gh by gw, of which o are left
 pub record RunFits (s : EncoderSettings) (gh gw t o lenx lenw lenc lenn lens : ℕ) : Type 0 where
-  pub dim-is : dimOf (sizesOf s t gw) ≡ s .«hidden_size»
   pub counts : CountsFit s (sizesOf s t gw)
   pub regions : RegionsFit (sizesOf s t gw) (o * s .«text_hidden_size»)
   pub embedding-is : countsOf s (sizesOf s t gw) .embedding ≡ floats (embedding (s .«hidden_size») (patchFloats (s .picture .«patch_size»)))
@@ -89,6 +85,6 @@ pub record RunFits (s : EncoderSettings) (gh gw t o lenx lenw lenc lenn lens : �
   pub weights-is : lenw ≡ weightFloats s
   pub embeds : EmbedFits (sizesOf s t gw) lenx lens (countsOf s (sizesOf s t gw) .embedding) (countsOf s (sizesOf s t gw) .patch)
   pub layers : LayersFits (sizesOf s t gw) lens (countsOf s (sizesOf s t gw) .layers) lenc lenn (regionsOf (sizesOf s t gw) (o * s .«text_hidden_size») .row) (s .«num_layers»)
-  pub projects : ProjFits t (dimOf (sizesOf s t gw)) o (countsOf s (sizesOf s t gw) .merged) (s .«text_hidden_size») lens
+  pub projects : ProjFits t (s .«hidden_size») o (countsOf s (sizesOf s t gw) .merged) (s .«text_hidden_size») lens
       (lenw - (countsOf s (sizesOf s t gw) .embedding + countsOf s (sizesOf s t gw) .layers))
       (s .picture .«spatial_merge_size») gh gw (regionsOf (sizesOf s t gw) (o * s .«text_hidden_size») .linear)

@@ -12,7 +12,7 @@ use Rattle.encoder_settings.specs.inner.Bounds.{layerSum}
 use Rattle.encoder_elements.specs.Element.{rounded}
 use Rattle.encoder_steps.specs.Run.{fine}
 use Rattle.encoder_blocks.specs.declared.Sizes.{Sizes}
-use Rattle.encoder_blocks.specs.Sizes.{dimOf, nOf, mOf}
+use Rattle.encoder_blocks.specs.Sizes.{nOf, mOf}
 use Rattle.encoder_blocks.specs.inner.Live.{hAt}
 use Rattle.encoder_stages.specs.declared.Counts.{Counts}
 use Rattle.encoder_stages.specs.declared.Regions.{Regions}
@@ -27,9 +27,9 @@ abbrev pub countsOf : EncoderSettings → Sizes → Counts
 countsOf s z =
     record {
       patch = patchFloats (s .picture .«patch_size»);
-      embedding = dimOf z * patchFloats (s .picture .«patch_size») + dimOf z;
-      layers = s .«num_layers» * layerSum (dimOf z) (z .inter);
-      merged = dimOf z * mergeArea (s .picture);
+      embedding = z .hidden * patchFloats (s .picture .«patch_size») + z .hidden;
+      layers = s .«num_layers» * layerSum (z .hidden) (z .inter);
+      merged = z .hidden * mergeArea (s .picture);
     }
 
 -- patch projection, its bf16, ln_pre, its bf16

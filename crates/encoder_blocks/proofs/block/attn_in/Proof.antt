@@ -7,34 +7,28 @@ use Rattle.buffers.specs.inner.Apart.{before}
 use Rattle.encoder_settings.proofs.Weights.{stands}
 use Rattle.encoder_steps.proofs.Writes.{matrix-wrote}
 use Rattle.encoder_blocks.specs.Block.{squareOf}
-use Rattle.encoder_blocks.specs.Sizes.{dimOf, nOf, partsOf}
+use Rattle.encoder_blocks.specs.Sizes.{nOf, partsOf}
 use Rattle.encoder_blocks.proofs.Lives.{attn-in}
 use Rattle.encoder_blocks.proofs.block.attn_in.Statement.{statement}
 use Rattle.encoder_blocks.proofs.block.attn_in.Tie as tie
 
-add-dim : tie.Need-add-dim
-add-dim c = search needs
-
-mul-dim : tie.Need-mul-dim
-mul-dim c = search needs
-
 mul-n : tie.Need-mul-n
 mul-n c = search needs
 
-mul-at : tie.Need-mul-at
-mul-at c = search needs
+mul-k : tie.Need-mul-k
+mul-k c = search needs
 
-add-at : tie.Need-add-at
-add-at c = search needs
+add-k : tie.Need-add-k
+add-k c = search needs
 
-mul-bt : tie.Need-mul-bt
-mul-bt c = search needs
+mul-v : tie.Need-mul-v
+mul-v c = search needs
 
-add-bt : tie.Need-add-bt
-add-bt c = search needs
+add-v : tie.Need-add-v
+add-v c = search needs
 
-norm1-requires : tie.Need-norm1-requires
-norm1-requires c κs = search needs
+attention-norm-requires : tie.Need-attention-norm-requires
+attention-norm-requires c κs = search needs
 
 mul-matrix : tie.Need-mul-matrix
 mul-matrix c = search needs
@@ -60,14 +54,14 @@ same-length c = search needs
 returns : tie.Need-returns
 unfolding squareOf
 returns c =
-    let a = c .before .before .before .before .before .before .before .before .before .before .before .before .before .before .before .before .before .before .before .args in
-    let g = c .before .before .before .before .before .before .before .before .before .before .before .before .before .before .before .before .before .before .before .pre in
-    let x = c .before .before .before .before .before .before .before .before .before .before .before .before .before .before .norm1 in
+    let a = c .before .before .before .before .before .before .before .before .before .before .before .before .before .before .before .before .before .before .args in
+    let g = c .before .before .before .before .before .before .before .before .before .before .before .before .before .before .before .before .before .before .pre in
+    let x = c .before .before .before .before .before .before .before .before .before .before .before .before .before .before .attention-norm in
     let q = c .before .before .before .before .before .before .before .before .before .before .matrix in
     let k = c .before .before .before .before .before .before .matrix2 in
     let v = c .before .before .matrix3 in
     let t = a .z .tokens in
-    let d = dimOf (a .z) in
+    let d = a .z .hidden in
     let n = nOf (a .z) in
     let e = d + d * d in
     let l = q .kept .0 ∙ x .kept .0 in
@@ -84,14 +78,12 @@ pub attn-in-spec : {M : Type 1} → statement M
 attn-in-spec =
     tie.close
     (tie.spec
-    add-dim
-    mul-dim
     mul-n
-    mul-at
-    add-at
-    mul-bt
-    add-bt
-    norm1-requires
+    mul-k
+    add-k
+    mul-v
+    add-v
+    attention-norm-requires
     mul-matrix
     matrix-requires
     mul-matrix-2

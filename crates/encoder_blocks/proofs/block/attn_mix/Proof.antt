@@ -5,7 +5,7 @@ use native.Mathlib.Omega.{arith}
 use borrow.Author.Needs.{needs}
 use Rattle.buffers.specs.inner.Apart.{before, after}
 use Rattle.encoder_blocks.specs.Block.{squareOf, mixed, scored}
-use Rattle.encoder_blocks.specs.Sizes.{dimOf, nOf, partsOf}
+use Rattle.encoder_blocks.specs.Sizes.{nOf, partsOf}
 use Rattle.encoder_kernels.specs.Finite.{sound}
 use Rattle.encoder_attention.proofs.Rooms.{attend-fits}
 use Rattle.encoder_settings.proofs.Weights.{stands}
@@ -14,23 +14,17 @@ use Rattle.encoder_blocks.proofs.Lives.{attn-mix, attend-at}
 use Rattle.encoder_blocks.proofs.block.attn_mix.Statement.{statement}
 use Rattle.encoder_blocks.proofs.block.attn_mix.Tie as tie
 
-add-dim : tie.Need-add-dim
-add-dim c = search needs
-
-mul-dim : tie.Need-mul-dim
-mul-dim c = search needs
-
 mul-n : tie.Need-mul-n
 mul-n c = search needs
 
-mul-at : tie.Need-mul-at
-mul-at c = search needs
+mul-o : tie.Need-mul-o
+mul-o c = search needs
 
-mul-at-2 : tie.Need-mul-at-2
-mul-at-2 c = search needs
+mul-o-2 : tie.Need-mul-o-2
+mul-o-2 c = search needs
 
-add-at : tie.Need-add-at
-add-at c = search needs
+add-o : tie.Need-add-o
+add-o c = search needs
 
 mul-attend : tie.Need-mul-attend
 mul-attend c = search needs
@@ -43,9 +37,6 @@ mul-attend-3 c = search needs
 
 mul-attend-4 : tie.Need-mul-attend-4
 mul-attend-4 c = search needs
-
-add-attend : tie.Need-add-attend
-add-attend c = search needs
 
 attend-requires : tie.Need-attend-requires
 attend-requires c κs = search needs
@@ -81,14 +72,15 @@ returns : tie.Need-returns
 unfolding scored mixed squareOf
 returns c =
     let a = c .before .before .before .before .before .before .before .before .before .before .before .before .before .before .before .before .before .args in
-    let d = dimOf (a .z) in
+    let d = a .z .hidden in
     let n = nOf (a .z) in
     let e = d + 3 * (d * d) in
     let g = c .before .before .before .before .before .before .before .before .before .before .before .before .before .before .before .before .before .pre .0 .scratch in
     let l = c .before .before .before .before .before .before .matrix .kept .0 ∙ c .before .before .before .before .before .before .before .before .before .before .before .before .before .attend .kept .0 in
+    let w = c .before .before .before .before .before .before .before .before .before .before .before .before .before .before .before .before .before .pre .0 .whole in
     let fits = attend-fits (attend-at (a .z) (c .before .before .before .before .before .before .before .before .before .before .before .before .before .before .before .before .before .pre .0) (c .before .before .before .before .before .before .before .before .before .before .before .before .before .before .before .before .before .pre .1)) in
-    attn-mix (a .z) (a .w .now) (a .s .now) (c .before .before .before .before .before .before .before .before .before .before .before .before .before .before .before .before .before .pre .0 .scratch) (a .row) (c .before .before .before .before .before .before .before .before .before .before .before .before .before .before .before .before .before .pre .1 .behind) (c .before .before .before .before .before .before .before .before .before .before .before .before .before .before .before .before .before .pre .1 .inside) (c .before .before .before .before .before .before .before .before .before .before .before .before .before .attend .last .0) (c .before .before .before .before .before .before .matrix .last .0) (c .before .before .add-fine .last .0) (a .ok) (c .before .before .before .before .before .before .before .before .before .before .before .before .before .attend .result) (c .before .before .before .before .before .before .before .before .finite .result) (c .before .before .before .before .before .before .matrix .result) (c .before .before .add-fine .result)
-    (rw fits at (c .before .before .before .before .before .before .before .before .before .before .before .before .before .attend .ensures .0)) (rw fits at (c .before .before .before .before .before .before .before .before .before .before .before .before .before .attend .ensures .1)) (c .before .before .before .before .before .before .before .before .before .before .before .before .before .attend .kept .0) (c .before .before .before .before .before .before .before .before .finite .ensures ∙ ap sound (c .before .before .before .before .before .before .before .before .before .part .ensures))
+    attn-mix (a .z) (a .w .now) (a .s .now) g w (a .row) (c .before .before .before .before .before .before .before .before .before .before .before .before .before .before .before .before .before .pre .1 .behind) (c .before .before .before .before .before .before .before .before .before .before .before .before .before .before .before .before .before .pre .1 .inside) (c .before .before .before .before .before .before .before .before .before .before .before .before .before .attend .last .0) (c .before .before .before .before .before .before .matrix .last .0) (c .before .before .add-fine .last .0) (a .ok) (c .before .before .before .before .before .before .before .before .before .before .before .before .before .attend .result) (c .before .before .before .before .before .before .before .before .finite .result) (c .before .before .before .before .before .before .matrix .result) (c .before .before .add-fine .result)
+    (rw (fits, w) at (c .before .before .before .before .before .before .before .before .before .before .before .before .before .attend .ensures .0)) (rw (fits, w) at (c .before .before .before .before .before .before .before .before .before .before .before .before .before .attend .ensures .1)) (c .before .before .before .before .before .before .before .before .before .before .before .before .before .attend .kept .0) (c .before .before .before .before .before .before .before .before .finite .ensures ∙ ap sound (c .before .before .before .before .before .before .before .before .before .part .ensures))
     (rw (stands (partsOf (a .z)) "o" (a .w .now) e (d * d) (omega arith) (omega arith)) at (matrix-wrote (a .w .now) (5 * n) (6 * n) (a .z .tokens) d d e
     (record { xIn = omega (arith, g, c .before .before .before .before .before .before .before .before .before .before .before .before .before .attend .kept .0); yIn = omega (arith, g, c .before .before .before .before .before .before .before .before .before .before .before .before .before .attend .kept .0); wIn = omega (arith, c .before .before .before .before .before .before .before .before .before .before .before .before .before .before .before .before .before .pre .0 .weights); apart = before (omega arith) }) (c .before .before .before .before .before .before .matrix .ensures)))
     (add-wrote 0 (6 * n) n (record { yin = omega (arith, g, l); zin = omega (arith, g, l); apart = after (omega arith) }) (c .before .before .add-fine .ensures))
@@ -97,17 +89,14 @@ pub attn-mix-spec : {M : Type 1} → statement M
 attn-mix-spec =
     tie.close
     (tie.spec
-    add-dim
-    mul-dim
     mul-n
-    mul-at
-    mul-at-2
-    add-at
+    mul-o
+    mul-o-2
+    add-o
     mul-attend
     mul-attend-2
     mul-attend-3
     mul-attend-4
-    add-attend
     attend-requires
     mul-part
     part-requires

@@ -1,17 +1,11 @@
 -- `encoder_blocks::block::attn_turn` meets its contract. Assumes nothing.
 use borrow.Author.Needs.{needs}
-use Rattle.encoder_blocks.proofs.Lives.{attn-turn}
+use Rattle.encoder_blocks.proofs.Lives.{halves-whole, attn-turn}
 use Rattle.encoder_blocks.proofs.block.attn_turn.Statement.{statement}
 use Rattle.encoder_blocks.proofs.block.attn_turn.Tie as tie
 
-add-n : tie.Need-add-n
-add-n c = search needs
-
 mul-n : tie.Need-mul-n
 mul-n c = search needs
-
-mul-n-2 : tie.Need-mul-n-2
-mul-n-2 c = search needs
 
 mul-rotate-fine : tie.Need-mul-rotate-fine
 mul-rotate-fine c = search needs
@@ -30,17 +24,16 @@ same-length c = search needs
 
 returns : tie.Need-returns
 returns c =
-    let a = c .before .before .before .before .before .before .before .before .before .before .before .before .before .args in
-    attn-turn (a .z) (a .cos .now) (a .s .now) (c .before .before .before .before .before .before .before .before .before .before .before .before .before .pre .scratch) (a .cos .now) (a .sin .now) (c .before .before .before .before .before .before .rotate-fine .last .0) (c .before .before .rotate-fine2 .last .0) (a .ok) (c .before .before .before .before .before .before .rotate-fine .result) (c .before .before .rotate-fine2 .result)
+    let a = c .before .before .before .before .before .before .before .before .before .before .before .before .args in
+    let g = c .before .before .before .before .before .before .before .before .before .before .before .before .pre in
+    attn-turn (a .z) (a .cos .now) (a .s .now) (g .scratch) (halves-whole (a .z) (g .whole) (g .even)) (a .cos .now) (a .sin .now) (c .before .before .before .before .before .before .rotate-fine .last .0) (c .before .before .rotate-fine2 .last .0) (a .ok) (c .before .before .before .before .before .before .rotate-fine .result) (c .before .before .rotate-fine2 .result)
     (c .before .before .before .before .before .before .rotate-fine .ensures) (c .before .before .rotate-fine2 .ensures)
 
 pub attn-turn-spec : {M : Type 1} → statement M
 attn-turn-spec =
     tie.close
     (tie.spec
-    add-n
     mul-n
-    mul-n-2
     mul-rotate-fine
     rotate-fine-requires
     mul-rotate-fine-2

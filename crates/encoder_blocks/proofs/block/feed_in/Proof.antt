@@ -7,16 +7,10 @@ use Rattle.buffers.specs.inner.Apart.{before}
 use Rattle.encoder_settings.proofs.Weights.{stands}
 use Rattle.encoder_steps.proofs.Writes.{matrix-wrote}
 use Rattle.encoder_blocks.specs.Block.{innerOf}
-use Rattle.encoder_blocks.specs.Sizes.{dimOf, nOf, mOf, partsOf}
+use Rattle.encoder_blocks.specs.Sizes.{nOf, mOf, partsOf}
 use Rattle.encoder_blocks.proofs.Lives.{feed-in}
 use Rattle.encoder_blocks.proofs.block.feed_in.Statement.{statement}
 use Rattle.encoder_blocks.proofs.block.feed_in.Tie as tie
-
-add-dim : tie.Need-add-dim
-add-dim c = search needs
-
-mul-dim : tie.Need-mul-dim
-mul-dim c = search needs
 
 mul-n : tie.Need-mul-n
 mul-n c = search needs
@@ -24,26 +18,26 @@ mul-n c = search needs
 mul-m : tie.Need-mul-m
 mul-m c = search needs
 
-mul-at : tie.Need-mul-at
-mul-at c = search needs
+mul-gate : tie.Need-mul-gate
+mul-gate c = search needs
 
-mul-at-2 : tie.Need-mul-at-2
-mul-at-2 c = search needs
+mul-gate-2 : tie.Need-mul-gate-2
+mul-gate-2 c = search needs
 
-mul-at-3 : tie.Need-mul-at-3
-mul-at-3 c = search needs
+mul-gate-3 : tie.Need-mul-gate-3
+mul-gate-3 c = search needs
 
-add-at : tie.Need-add-at
-add-at c = search needs
+add-gate : tie.Need-add-gate
+add-gate c = search needs
 
-mul-bt : tie.Need-mul-bt
-mul-bt c = search needs
+mul-up : tie.Need-mul-up
+mul-up c = search needs
 
-add-bt : tie.Need-add-bt
-add-bt c = search needs
+add-up : tie.Need-add-up
+add-up c = search needs
 
-norm2-requires : tie.Need-norm2-requires
-norm2-requires c κs = search needs
+ffn-norm-requires : tie.Need-ffn-norm-requires
+ffn-norm-requires c κs = search needs
 
 mul-matrix : tie.Need-mul-matrix
 mul-matrix c = search needs
@@ -66,13 +60,13 @@ same-length c = search needs
 returns : tie.Need-returns
 unfolding innerOf
 returns c =
-    let a = c .before .before .before .before .before .before .before .before .before .before .before .before .before .before .before .args in
-    let g = c .before .before .before .before .before .before .before .before .before .before .before .before .before .before .before .pre in
-    let x = c .before .before .before .before .before .before .before .before .before .before .norm2 in
+    let a = c .before .before .before .before .before .before .before .before .before .before .before .before .before .before .args in
+    let g = c .before .before .before .before .before .before .before .before .before .before .before .before .before .before .pre in
+    let x = c .before .before .before .before .before .before .before .before .before .before .ffn-norm in
     let y = c .before .before .before .before .before .before .matrix in
     let z = c .before .before .matrix2 in
     let t = a .z .tokens in
-    let d = dimOf (a .z) in
+    let d = a .z .hidden in
     let i = a .z .inter in
     let n = nOf (a .z) in
     let m = mOf (a .z) in
@@ -88,17 +82,15 @@ pub feed-in-spec : {M : Type 1} → statement M
 feed-in-spec =
     tie.close
     (tie.spec
-    add-dim
-    mul-dim
     mul-n
     mul-m
-    mul-at
-    mul-at-2
-    mul-at-3
-    add-at
-    mul-bt
-    add-bt
-    norm2-requires
+    mul-gate
+    mul-gate-2
+    mul-gate-3
+    add-gate
+    mul-up
+    add-up
+    ffn-norm-requires
     mul-matrix
     matrix-requires
     mul-matrix-2

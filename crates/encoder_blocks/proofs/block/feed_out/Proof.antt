@@ -7,16 +7,10 @@ use Rattle.buffers.specs.inner.Apart.{after}
 use Rattle.encoder_settings.proofs.Weights.{stands}
 use Rattle.encoder_steps.proofs.Writes.{matrix-wrote, gate-wrote, add-wrote, round-wrote}
 use Rattle.encoder_blocks.specs.Block.{outerOf}
-use Rattle.encoder_blocks.specs.Sizes.{dimOf, nOf, mOf, partsOf}
+use Rattle.encoder_blocks.specs.Sizes.{nOf, mOf, partsOf}
 use Rattle.encoder_blocks.proofs.Lives.{feed-out}
 use Rattle.encoder_blocks.proofs.block.feed_out.Statement.{statement}
 use Rattle.encoder_blocks.proofs.block.feed_out.Tie as tie
-
-add-dim : tie.Need-add-dim
-add-dim c = search needs
-
-mul-dim : tie.Need-mul-dim
-mul-dim c = search needs
 
 mul-n : tie.Need-mul-n
 mul-n c = search needs
@@ -24,26 +18,26 @@ mul-n c = search needs
 mul-m : tie.Need-mul-m
 mul-m c = search needs
 
-mul-at : tie.Need-mul-at
-mul-at c = search needs
+mul-down : tie.Need-mul-down
+mul-down c = search needs
 
-mul-at-2 : tie.Need-mul-at-2
-mul-at-2 c = search needs
+mul-down-2 : tie.Need-mul-down-2
+mul-down-2 c = search needs
 
-mul-at-3 : tie.Need-mul-at-3
-mul-at-3 c = search needs
+mul-down-3 : tie.Need-mul-down-3
+mul-down-3 c = search needs
 
-add-at : tie.Need-add-at
-add-at c = search needs
+add-down : tie.Need-add-down
+add-down c = search needs
 
-mul-at-4 : tie.Need-mul-at-4
-mul-at-4 c = search needs
+mul-down-4 : tie.Need-mul-down-4
+mul-down-4 c = search needs
 
-mul-at-5 : tie.Need-mul-at-5
-mul-at-5 c = search needs
+mul-down-5 : tie.Need-mul-down-5
+mul-down-5 c = search needs
 
-add-at-2 : tie.Need-add-at-2
-add-at-2 c = search needs
+add-down-2 : tie.Need-add-down-2
+add-down-2 c = search needs
 
 mul-gate-fine : tie.Need-mul-gate-fine
 mul-gate-fine c = search needs
@@ -81,14 +75,14 @@ same-length c = search needs
 returns : tie.Need-returns
 unfolding outerOf
 returns c =
-    let a = c .before .before .before .before .before .before .before .before .before .before .before .before .before .before .before .before .before .before .before .args in
-    let g = c .before .before .before .before .before .before .before .before .before .before .before .before .before .before .before .before .before .before .before .pre in
+    let a = c .before .before .before .before .before .before .before .before .before .before .before .before .before .before .before .before .before .before .args in
+    let g = c .before .before .before .before .before .before .before .before .before .before .before .before .before .before .before .before .before .before .pre in
     let v = c .before .before .before .before .before .before .before .before .before .before .before .before .before .before .gate-fine in
     let x = c .before .before .before .before .before .before .before .before .before .before .matrix in
     let y = c .before .before .before .before .before .before .add-fine in
     let z = c .before .before .round-fine in
     let t = a .z .tokens in
-    let d = dimOf (a .z) in
+    let d = a .z .hidden in
     let i = a .z .inter in
     let n = nOf (a .z) in
     let m = mOf (a .z) in
@@ -106,17 +100,15 @@ pub feed-out-spec : {M : Type 1} → statement M
 feed-out-spec =
     tie.close
     (tie.spec
-    add-dim
-    mul-dim
     mul-n
     mul-m
-    mul-at
-    mul-at-2
-    mul-at-3
-    add-at
-    mul-at-4
-    mul-at-5
-    add-at-2
+    mul-down
+    mul-down-2
+    mul-down-3
+    add-down
+    mul-down-4
+    mul-down-5
+    add-down-2
     mul-gate-fine
     mul-gate-fine-2
     add-gate-fine

@@ -4,12 +4,6 @@ use Rattle.encoder_blocks.specs.inner.Room.{lengthsFit}
 use Rattle.encoder_blocks.proofs.room.lengths_fit.Statement.{statement}
 use Rattle.encoder_blocks.proofs.room.lengths_fit.Tie as tie
 
-add-hd : tie.Need-add-hd
-add-hd c = search needs
-
-mul-dim : tie.Need-mul-dim
-mul-dim c = search needs
-
 mul-table : tie.Need-mul-table
 mul-table c = search needs
 
@@ -48,8 +42,6 @@ pub lengths-fit-spec : {M : Type 1} → statement M
 lengths-fit-spec =
     tie.close
     (tie.spec
-    add-hd
-    mul-dim
     mul-table
     mul-table-2
     mul-used

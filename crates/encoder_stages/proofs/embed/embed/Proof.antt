@@ -8,18 +8,12 @@ use Rattle.buffers.proofs.Regions.{length-region}
 use Rattle.buffers.specs.inner.Apart.{after}
 use Rattle.encoder_settings.specs.Weights.{embedding}
 use Rattle.encoder_settings.proofs.Weights.{stands}
-use Rattle.encoder_blocks.specs.Sizes.{dimOf, nOf}
+use Rattle.encoder_blocks.specs.Sizes.{nOf}
 use Rattle.encoder_stages.specs.Embed.{patchConv, lnPre}
 use Rattle.encoder_steps.proofs.Writes.{norm-wrote, round-wrote}
 use Rattle.encoder_stages.proofs.Embeds.{embedded}
 use Rattle.encoder_stages.proofs.embed.embed.Statement.{statement}
 use Rattle.encoder_stages.proofs.embed.embed.Tie as tie
-
-add-dim : tie.Need-add-dim
-add-dim c = omega (arith, c .before .before .before .pre .narrow)
-
-mul-dim : tie.Need-mul-dim
-mul-dim c = search needs
 
 mul-n : tie.Need-mul-n
 mul-n c = search needs
@@ -32,9 +26,9 @@ part-requires c κs = search needs
 
 from-fine-requires : tie.Need-from-fine-requires
 from-fine-requires c κs =
-    let a = c .before .before .before .before .before .before .args in
-    let g = c .before .before .before .before .before .before .pre in
-    let e : length (c .part .result .now) ≡ dimOf (a .z) * a .f = ap length (c .part .ensures) ∙ length-region (a .w .now) 0 (dimOf (a .z) * a .f) (omega (arith, g .weights)) in
+    let a = c .before .before .before .before .before .args in
+    let g = c .before .before .before .before .before .pre in
+    let e : length (c .part .result .now) ≡ a .z .hidden * a .f = ap length (c .part .ensures) ∙ length-region (a .w .now) 0 (a .z .hidden * a .f) (omega (arith, g .weights)) in
     record { xin = omega (arith, g .xin); yin = omega (arith, g .room); win = omega (arith, e) }
 
 round-fine-requires : tie.Need-round-fine-requires
@@ -55,10 +49,10 @@ same-length c = c .before .before .round-fine2 .kept .0 ∙ c .before .before .b
 returns : tie.Need-returns
 unfolding patchConv lnPre
 returns c =
-    let a = c .before .before .before .before .before .before .before .before .before .before .before .before .before .before .before .before .before .before .before .before .before .before .args in
-    let g = c .before .before .before .before .before .before .before .before .before .before .before .before .before .before .before .before .before .before .before .before .before .before .pre in
+    let a = c .before .before .before .before .before .before .before .before .before .before .before .before .before .before .before .before .before .before .before .before .before .args in
+    let g = c .before .before .before .before .before .before .before .before .before .before .before .before .before .before .before .before .before .before .before .before .before .pre in
     let n = nOf (a .z) in
-    let T = embedding (dimOf (a .z)) (a .f) in
+    let T = embedding (a .z .hidden) (a .f) in
     let x = c .before .before .before .before .before .before .before .before .before .before .before .before .before .before .before .from-fine in
     let y = c .before .before .before .before .before .before .before .before .before .before .before .round-fine in
     let q = c .before .before .before .before .before .before .before .part2 in
@@ -67,15 +61,15 @@ returns c =
     let l = y .kept .0 ∙ x .kept .1 .0 in
     embedded (a .z) (a .f) (a .w .now) (a .x .now) (a .s .now) (g .room) (x .last .1 .0) (y .last .0) (z .last .0) (r .last .0)
     (a .ok) (x .result) (y .result) (z .result) (r .result)
-    (rw (c .before .before .before .before .before .before .before .before .before .before .before .before .before .before .before .before .part .ensures ∙ stands T "patch_conv" (a .w .now) 0 (dimOf (a .z) * a .f) (omega arith) (omega arith)) at (x .ensures))
+    (rw (c .before .before .before .before .before .before .before .before .before .before .before .before .before .before .before .before .part .ensures ∙ stands T "patch_conv" (a .w .now) 0 (a .z .hidden * a .f) (omega arith) (omega arith)) at (x .ensures))
     (round-wrote n n (omega (arith, g .room, x .kept .1 .0)) (y .ensures))
-    (rw (q .ensures ∙ stands T "ln_pre" (a .w .now) (dimOf (a .z) * a .f) (dimOf (a .z)) (omega arith) (omega arith)) at
-    (norm-wrote (q .result .now) n 0 (a .z .tokens) (dimOf (a .z))
+    (rw (q .ensures ∙ stands T "ln_pre" (a .w .now) (a .z .hidden * a .f) (a .z .hidden) (omega arith) (omega arith)) at
+    (norm-wrote (q .result .now) n 0 (a .z .tokens) (a .z .hidden)
     (record {
       small = g .small;
       xin = omega (arith, g .room, l);
       yin = omega (arith, g .room, l);
-      win = ap length (q .ensures) ∙ length-region (a .w .now) (dimOf (a .z) * a .f) (dimOf (a .z)) (omega (arith, g .weights));
+      win = ap length (q .ensures) ∙ length-region (a .w .now) (a .z .hidden * a .f) (a .z .hidden) (omega (arith, g .weights));
       apart = after (omega arith);
     })
     (z .ensures)))
@@ -85,8 +79,6 @@ pub embed-spec : {M : Type 1} → statement M
 embed-spec =
     tie.close
     (tie.spec
-    add-dim
-    mul-dim
     mul-n
     mul-e
     part-requires

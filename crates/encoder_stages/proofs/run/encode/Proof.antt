@@ -5,7 +5,6 @@ use native.Mathlib.Omega.{arith}
 use borrow.Author.Needs.{needs}
 use lib.ListN.{length}
 use Rattle.buffers.proofs.Regions.{length-region}
-use Rattle.encoder_blocks.specs.Sizes.{hdOf, dimOf}
 use Rattle.encoder_blocks.proofs.Leaves.{layers-done}
 use Rattle.encoder_stages.specs.Forward.{sizesOf}
 use Rattle.encoder_stages.specs.inner.Live.{countsOf}
@@ -42,14 +41,8 @@ mul-regions c = omega (arith, c .before .before .before .before .before .before 
 regions-requires : tie.Need-regions-requires
 regions-requires c κs = rw (c .before .before .sizes-of .ensures) (c .before .before .before .before .before .before .before .before .before .pre .1 .regions)
 
-add-h : tie.Need-add-h
-add-h c = let h : hdOf (c .before .before .before .sizes-of .result) ≤ 256 = rw (c .before .before .before .sizes-of .ensures) (c .before .before .before .before .before .before .before .before .before .before .pre .1 .counts .narrow) in omega arith
-
-mul-h : tie.Need-mul-h
-mul-h c = let h : dimOf (c .before .before .before .before .sizes-of .result) ≤ 2048 = rw (c .before .before .before .before .sizes-of .ensures) (c .before .before .before .before .before .before .before .before .before .before .before .pre .1 .counts .small) in omega arith
-
 add-at : tie.Need-add-at
-add-at c = omega (arith, cuts (c .before .before .before .before) .3)
+add-at c = omega (arith, cuts (c .before .before .before) .3)
 
 inputs-fine-requires : tie.Need-inputs-fine-requires
 inputs-fine-requires c κs = search needs
@@ -59,9 +52,9 @@ part-requires c κs = search needs
 
 embed-requires : tie.Need-embed-requires
 embed-requires c κs =
-    let p = c .before .before .before .before .before .before .before .counts-of .result in
-    let e : length (c .part .result .now) ≡ p .embedding = ap length (c .part .ensures) ∙ length-region (c .before .before .before .before .before .before .before .before .before .before .before .before .before .before .before .args .w .now) 0 (p .embedding) (cuts (c .before .before .before .before .before .before .before) .0) in
-    rw (e, counts-are (c .before .before .before .before .before .before .before), c .before .before .before .before .before .before .before .before .sizes-of .ensures) (c .before .before .before .before .before .before .before .before .before .before .before .before .before .before .before .pre .1 .embeds)
+    let p = c .before .before .before .before .before .before .counts-of .result in
+    let e : length (c .part .result .now) ≡ p .embedding = ap length (c .part .ensures) ∙ length-region (c .before .before .before .before .before .before .before .before .before .before .before .before .before .before .args .w .now) 0 (p .embedding) (cuts (c .before .before .before .before .before .before) .0) in
+    rw (e, counts-are (c .before .before .before .before .before .before), c .before .before .before .before .before .before .before .sizes-of .ensures) (c .before .before .before .before .before .before .before .before .before .before .before .before .before .before .pre .1 .embeds)
 
 part-requires-2 : tie.Need-part-requires-2
 part-requires-2 c κs = search needs
@@ -70,29 +63,29 @@ layers-requires : tie.Need-layers-requires
 layers-requires c κs = search needs
 
 sub-part : tie.Need-sub-part
-sub-part c = omega (arith, cuts (c .before .before .before .before .before .before .before .before .before .before .before .before .before .before .before) .1)
+sub-part c = omega (arith, cuts (c .before .before .before .before .before .before .before .before .before .before .before .before .before .before) .1)
 
 part-requires-3 : tie.Need-part-requires-3
 part-requires-3 c κs = search needs
 
 projector-forward-requires : tie.Need-projector-forward-requires
 projector-forward-requires c κs =
-    let a = c .before .before .before .before .before .before .before .before .before .before .before .before .before .before .before .before .before .before .before .before .before .before .before .before .before .args in
-    let p = c .before .before .before .before .before .before .before .before .before .before .before .before .before .before .before .before .before .counts-of .result in
+    let a = c .before .before .before .before .before .before .before .before .before .before .before .before .before .before .before .before .before .before .before .before .before .before .before .before .args in
+    let p = c .before .before .before .before .before .before .before .before .before .before .before .before .before .before .before .before .counts-of .result in
     let n = length (a .w .now) - (p .embedding + p .layers) in
-    let e : length (c .before .part3 .result .now) ≡ n = ap length (c .before .part3 .ensures) ∙ length-region (a .w .now) (p .embedding + p .layers) n (cuts (c .before .before .before .before .before .before .before .before .before .before .before .before .before .before .before .before .before) .2) in
-    rw (e, c .before .before .before .before .layers .kept .0, c .before .before .before .before .before .before .before .before .before .embed .kept .1 .0, c .before .before .before .before .before .before .before .before .before .before .before .before .before .before .before .regions .ensures, counts-are (c .before .before .before .before .before .before .before .before .before .before .before .before .before .before .before .before .before), c .before .before .before .before .before .before .before .before .before .before .before .before .before .before .before .before .before .before .sizes-of .ensures) (c .before .before .before .before .before .before .before .before .before .before .before .before .before .before .before .before .before .before .before .before .before .before .before .before .before .pre .1 .projects)
+    let e : length (c .before .part3 .result .now) ≡ n = ap length (c .before .part3 .ensures) ∙ length-region (a .w .now) (p .embedding + p .layers) n (cuts (c .before .before .before .before .before .before .before .before .before .before .before .before .before .before .before .before) .2) in
+    rw (e, c .before .before .before .before .layers .kept .0, c .before .before .before .before .before .before .before .before .before .embed .kept .1 .0, c .before .before .before .before .before .before .before .before .before .before .before .before .before .before .regions .ensures, counts-are (c .before .before .before .before .before .before .before .before .before .before .before .before .before .before .before .before), c .before .before .before .before .before .before .before .before .before .before .before .before .before .before .before .before .before .sizes-of .ensures) (c .before .before .before .before .before .before .before .before .before .before .before .before .before .before .before .before .before .before .before .before .before .before .before .before .pre .1 .projects)
 
 same-length : tie.Need-same-length
 same-length c = c .before .before .projector-forward .kept .0 ∙ c .before .before .before .before .before .before .before .layers .kept .0 ∙ c .before .before .before .before .before .before .before .before .before .before .before .before .embed .kept .1 .0
 
 returns : tie.Need-returns
 returns c =
-    let a = c .before .before .before .before .before .before .before .before .before .before .before .before .before .before .before .before .before .before .before .before .before .before .before .before .before .before .before .before .args in
-    let g = c .before .before .before .before .before .before .before .before .before .before .before .before .before .before .before .before .before .before .before .before .before .before .before .before .before .before .before .before .pre .1 in
-    let z = c .before .before .before .before .before .before .before .before .before .before .before .before .before .before .before .before .before .before .before .before .before .sizes-of .result in
-    let p = c .before .before .before .before .before .before .before .before .before .before .before .before .before .before .before .before .before .before .before .before .counts-of .result in
-    let q = c .before .before .before .before .before .before .before .before .before .before .before .before .before .before .before .before .before .before .regions .result in
+    let a = c .before .before .before .before .before .before .before .before .before .before .before .before .before .before .before .before .before .before .before .before .before .before .before .before .before .before .before .args in
+    let g = c .before .before .before .before .before .before .before .before .before .before .before .before .before .before .before .before .before .before .before .before .before .before .before .before .before .before .before .pre .1 in
+    let z = c .before .before .before .before .before .before .before .before .before .before .before .before .before .before .before .before .before .before .before .before .sizes-of .result in
+    let p = c .before .before .before .before .before .before .before .before .before .before .before .before .before .before .before .before .before .before .before .counts-of .result in
+    let q = c .before .before .before .before .before .before .before .before .before .before .before .before .before .before .before .before .before .regions .result in
     let i = c .before .before .before .before .before .before .before .before .before .before .before .before .before .before .before .inputs-fine in
     let v₁ = c .before .before .before .before .before .before .before .before .before .before .before .before .before .part in
     let m = c .before .before .before .before .before .before .before .before .before .before .before .before .embed in
@@ -100,10 +93,10 @@ returns c =
     let l = c .before .before .before .before .before .before .before .layers in
     let v₃ = c .before .before .before .before .part3 in
     let j = c .before .before .projector-forward in
-    let e₀ = c .before .before .before .before .before .before .before .before .before .before .before .before .before .before .before .before .before .before .before .before .before .sizes-of .ensures in
-    let e₁ = counts-are (c .before .before .before .before .before .before .before .before .before .before .before .before .before .before .before .before .before .before .before .before) in
-    let e₂ = c .before .before .before .before .before .before .before .before .before .before .before .before .before .before .before .before .before .before .regions .ensures in
-    let k : length (v₂ .result .now) ≡ p .layers = ap length (v₂ .ensures) ∙ length-region (a .w .now) (p .embedding) (p .layers) (cuts (c .before .before .before .before .before .before .before .before .before .before .before .before .before .before .before .before .before .before .before .before) .1) in
+    let e₀ = c .before .before .before .before .before .before .before .before .before .before .before .before .before .before .before .before .before .before .before .before .sizes-of .ensures in
+    let e₁ = counts-are (c .before .before .before .before .before .before .before .before .before .before .before .before .before .before .before .before .before .before .before) in
+    let e₂ = c .before .before .before .before .before .before .before .before .before .before .before .before .before .before .before .before .before .regions .ensures in
+    let k : length (v₂ .result .now) ≡ p .layers = ap length (v₂ .ensures) ∙ length-region (a .w .now) (p .embedding) (p .layers) (cuts (c .before .before .before .before .before .before .before .before .before .before .before .before .before .before .before .before .before .before .before) .1) in
     let done = layers-done z (m .last .1 .0) (l .last .0) (v₂ .result .now) (a .cos .now) (a .sin .now) (q .row) (a .s .«num_layers») (l .result) (rw (k, m .kept .1 .0, e₂, e₁, e₀) (g .layers)) (l .ensures .0) (l .ensures .1) in
     run-of (a .s) (a .gh) (a .gw) (a .t) (a .o) (a .w .now) (a .cos .now) (a .sin .now) (a .patches .now) (v₁ .result .now) (v₂ .result .now) (v₃ .result .now) (m .last .1 .0) (l .last .0) (j .last .0)
     (i .result) (m .result) (l .result) (j .result) (g .embedding-is) (g .layers-is) (g .weights-is)
@@ -118,8 +111,6 @@ encode-spec =
     counts-of-requires
     mul-regions
     regions-requires
-    add-h
-    mul-h
     add-at
     inputs-fine-requires
     part-requires

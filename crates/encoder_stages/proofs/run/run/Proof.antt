@@ -1,50 +1,39 @@
 -- `encoder_stages::run::run` meets its contract. Assumes nothing.
-use mathlib.Core.Path.{_≡_, sym, ap, _∙_}
-use Prim.Native.Nat.{ℕ, _+_, _*_, _≤_}
+use mathlib.Core.Path.{ap, _∙_}
+use Prim.Native.Nat.{_+_, _*_}
 use native.Mathlib.Omega.{arith}
 use borrow.Author.Needs.{needs}
-use Rattle.buffers.specs.Region.{region, over, cleared}
+use Rattle.buffers.specs.Region.{region, over}
 use Rattle.number_floats.specs.Constants.{zero32}
 use Rattle.buffers.specs.Rows.{tab}
-use Rattle.encoder_settings.specs.declared.EncoderSettings.{EncoderSettings}
 use Rattle.encoder_settings.specs.declared.Checked.the-variants.{Accepted}
 use Rattle.encoder_stages.specs.inner.Live.{regionsOf}
 use Rattle.encoder_stages.specs.Forward.{sizesOf, runOf}
 use Rattle.encoder_stages.specs.Vectors.{ranBy, leftBy}
-use Rattle.encoder_stages.specs.inner.Fits.{RunFits}
 use Rattle.encoder_steps.proofs.Writes.{went-of, stopped-of}
 use Rattle.encoder_stages.proofs.run.run.Statement.{statement}
 use Rattle.encoder_stages.proofs.run.run.Tie as tie
-
-hiddens : {s : EncoderSettings} {gh gw t o lenx lenw lenc lenn lens : ℕ} → RunFits s gh gw t o lenx lenw lenc lenn lens → t * s .«hidden_size» ≤ 8589934592
-hiddens g = rw (← g .dim-is) (g .regions .hiddens)
-
--- where the token vectors stand, by the hidden size and by the sizes of the run
-same-place : {s : EncoderSettings} {gh gw t o lenx lenw lenc lenn lens : ℕ} → RunFits s gh gw t o lenx lenw lenc lenn lens
-    → 7 * (t * s .«hidden_size») + 2 * (t * s .«intermediate_size») + o * s .«text_hidden_size»
-    ≡ regionsOf (sizesOf s t gw) (o * s .«text_hidden_size») .linear + o * s .«text_hidden_size»
-same-place {s} {t = t} {o = o} g = ap (λ (d : ℕ). 7 * (t * d) + 2 * (t * s .«intermediate_size») + o * s .«text_hidden_size») (sym (g .dim-is))
 
 mul-e : tie.Need-mul-e
 mul-e c = search needs
 
 mul-at : tie.Need-mul-at
-mul-at c = let g = c .before .before .before .before .before .before .pre .1 in omega (arith, hiddens g, g .regions .inners, g .regions .texts)
+mul-at c = let g = c .before .before .before .before .before .before .pre .1 in omega (arith, g .regions .hiddens, g .regions .inners, g .regions .texts)
 
 mul-at-2 : tie.Need-mul-at-2
-mul-at-2 c = let g = c .before .before .before .before .before .before .pre .1 in omega (arith, hiddens g, g .regions .inners, g .regions .texts)
+mul-at-2 c = let g = c .before .before .before .before .before .before .pre .1 in omega (arith, g .regions .hiddens, g .regions .inners, g .regions .texts)
 
 mul-at-3 : tie.Need-mul-at-3
-mul-at-3 c = let g = c .before .before .before .before .before .before .before .pre .1 in omega (arith, hiddens g, g .regions .inners, g .regions .texts)
+mul-at-3 c = let g = c .before .before .before .before .before .before .before .pre .1 in omega (arith, g .regions .hiddens, g .regions .inners, g .regions .texts)
 
 mul-at-4 : tie.Need-mul-at-4
-mul-at-4 c = let g = c .before .before .before .before .before .before .before .pre .1 in omega (arith, hiddens g, g .regions .inners, g .regions .texts)
+mul-at-4 c = let g = c .before .before .before .before .before .before .before .pre .1 in omega (arith, g .regions .hiddens, g .regions .inners, g .regions .texts)
 
 add-at : tie.Need-add-at
-add-at c = let g = c .before .before .before .before .before .before .before .pre .1 in omega (arith, hiddens g, g .regions .inners, g .regions .texts)
+add-at c = let g = c .before .before .before .before .before .before .before .pre .1 in omega (arith, g .regions .hiddens, g .regions .inners, g .regions .texts)
 
 add-at-2 : tie.Need-add-at-2
-add-at-2 c = let g = c .before .before .before .before .before .before .before .pre .1 in omega (arith, hiddens g, g .regions .inners, g .regions .texts)
+add-at-2 c = let g = c .before .before .before .before .before .before .before .pre .1 in omega (arith, g .regions .hiddens, g .regions .inners, g .regions .texts)
 
 encode-requires : tie.Need-encode-requires
 encode-requires c κs = c .before .before .before .before .before .before .before .before .pre
@@ -52,7 +41,7 @@ encode-requires c κs = c .before .before .before .before .before .before .befor
 to-front-requires : tie.Need-to-front-requires
 to-front-requires c κs =
     let g = c .before .before .before .before .before .before .before .before .before .before .before .before .before .pre .1 in
-    omega (arith, same-place g, g .projects .room, c .before .before .before .before .encode .kept .1 .1 .1 .1 .1 .1 .1 .1 .1 .0)
+    omega (arith, g .projects .room, c .before .before .before .before .encode .kept .1 .1 .1 .1 .1 .1 .1 .1 .1 .0)
 
 same-length : tie.Need-same-length
 same-length c = c .before .before .to-front .kept .0 ∙ c .before .before .before .before .before .before .before .encode .kept .1 .1 .1 .1 .1 .1 .1 .1 .1 .0
@@ -60,7 +49,6 @@ same-length c = c .before .before .to-front .kept .0 ∙ c .before .before .befo
 returns : tie.Need-returns
 returns c =
     let a = c .before .before .before .before .before .before .before .before .before .before .before .before .before .before .before .before .args in
-    let g = c .before .before .before .before .before .before .before .before .before .before .before .before .before .before .before .before .pre .1 in
     let e = a .o * a .s .«text_hidden_size» in
     let n = c .before .before .before .before .before .before .before .encode in
     let u = n .last .1 .1 .1 .1 .1 .1 .1 .1 .1 .0 in
@@ -68,7 +56,7 @@ returns c =
     let r = runOf (a .s) (a .gh) (a .gw) (a .t) (a .o) (a .w .now) (a .cos .now) (a .sin .now) (a .patches .now) in
     let w = went-of (n .result) (region u at e) r (n .ensures) (c .before .before .before .before .if1 .taken) in (
       ap (ranBy (Accepted (a .t) (a .o))) w,
-      c .before .before .to-front .ensures ∙ ap (λ i. over (region u i e) (cleared u)) (same-place g)
+      c .before .before .to-front .ensures
           ∙ ap (λ k. over (region u at e) (tab k (λ _. zero32))) (n .kept .1 .1 .1 .1 .1 .1 .1 .1 .1 .0) ∙ ap (λ v. leftBy (Accepted (a .t) (a .o)) v (a .scratch .now)) w,
     )
 

@@ -1,4 +1,4 @@
--- `encoder_blocks::block::norm2` meets its contract. Assumes nothing.
+-- `encoder_blocks::block::ffn_norm` meets its contract. Assumes nothing.
 use mathlib.Core.Path.{ap, _∙_}
 use Prim.Native.Nat.{_+_, _*_}
 use native.Mathlib.Omega.{arith}
@@ -7,17 +7,11 @@ use lib.ListN.{length}
 use Rattle.buffers.proofs.Regions.{length-region}
 use Rattle.buffers.specs.inner.Apart.{before}
 use Rattle.encoder_blocks.specs.Block.{normed}
-use Rattle.encoder_blocks.specs.Sizes.{dimOf, nOf, partsOf}
+use Rattle.encoder_blocks.specs.Sizes.{nOf, partsOf}
 use Rattle.encoder_settings.proofs.Weights.{stands}
 use Rattle.encoder_steps.proofs.Writes.{norm-wrote}
-use Rattle.encoder_blocks.proofs.block.norm2.Statement.{statement}
-use Rattle.encoder_blocks.proofs.block.norm2.Tie as tie
-
-add-dim : tie.Need-add-dim
-add-dim c = search needs
-
-mul-dim : tie.Need-mul-dim
-mul-dim c = search needs
+use Rattle.encoder_blocks.proofs.block.ffn_norm.Statement.{statement}
+use Rattle.encoder_blocks.proofs.block.ffn_norm.Tie as tie
 
 mul-at : tie.Need-mul-at
 mul-at c = search needs
@@ -43,10 +37,10 @@ same-length c = search needs
 returns : tie.Need-returns
 unfolding normed
 returns c =
-    let a = c .before .before .before .before .before .before .before .before .args in
-    let g = c .before .before .before .before .before .before .before .before .pre in
+    let a = c .before .before .before .before .before .before .before .args in
+    let g = c .before .before .before .before .before .before .before .pre in
     let p = c .before .before .before .part in
-    let d = dimOf (a .z) in
+    let d = a .z .hidden in
     rw (p .ensures ∙ stands (partsOf (a .z)) "ffn_norm" (a .w .now) (d + 4 * (d * d)) d (omega arith) (omega arith)) at
     (norm-wrote (p .result .now) 0 (nOf (a .z)) (a .z .tokens) d
     (record {
@@ -58,12 +52,10 @@ returns c =
     })
     (c .before .before .norm-fine .ensures))
 
-pub norm2-spec : {M : Type 1} → statement M
-norm2-spec =
+pub ffn-norm-spec : {M : Type 1} → statement M
+ffn-norm-spec =
     tie.close
     (tie.spec
-    add-dim
-    mul-dim
     mul-at
     mul-at-2
     add-at

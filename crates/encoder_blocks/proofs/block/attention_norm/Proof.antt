@@ -1,4 +1,4 @@
--- `encoder_blocks::block::norm1` meets its contract. Assumes nothing.
+-- `encoder_blocks::block::attention_norm` meets its contract. Assumes nothing.
 use mathlib.Core.Path.{ap, _∙_}
 use native.Mathlib.Omega.{arith}
 use borrow.Author.Needs.{needs}
@@ -6,17 +6,11 @@ use lib.ListN.{length}
 use Rattle.buffers.proofs.Regions.{length-region}
 use Rattle.buffers.specs.inner.Apart.{before}
 use Rattle.encoder_blocks.specs.Block.{normed}
-use Rattle.encoder_blocks.specs.Sizes.{dimOf, nOf, partsOf}
+use Rattle.encoder_blocks.specs.Sizes.{nOf, partsOf}
 use Rattle.encoder_settings.proofs.Weights.{stands}
 use Rattle.encoder_steps.proofs.Writes.{norm-wrote}
-use Rattle.encoder_blocks.proofs.block.norm1.Statement.{statement}
-use Rattle.encoder_blocks.proofs.block.norm1.Tie as tie
-
-add-dim : tie.Need-add-dim
-add-dim c = search needs
-
-mul-dim : tie.Need-mul-dim
-mul-dim c = search needs
+use Rattle.encoder_blocks.proofs.block.attention_norm.Statement.{statement}
+use Rattle.encoder_blocks.proofs.block.attention_norm.Tie as tie
 
 mul-norm-fine : tie.Need-mul-norm-fine
 mul-norm-fine c = search needs
@@ -33,10 +27,10 @@ same-length c = search needs
 returns : tie.Need-returns
 unfolding normed
 returns c =
-    let a = c .before .before .before .before .before .before .before .before .args in
-    let g = c .before .before .before .before .before .before .before .before .pre in
+    let a = c .before .before .before .before .before .before .before .args in
+    let g = c .before .before .before .before .before .before .before .pre in
     let p = c .before .before .before .part in
-    let d = dimOf (a .z) in
+    let d = a .z .hidden in
     rw (p .ensures ∙ stands (partsOf (a .z)) "attention_norm" (a .w .now) 0 d (omega arith) (omega arith)) at
     (norm-wrote (p .result .now) 0 (nOf (a .z)) (a .z .tokens) d
     (record {
@@ -48,7 +42,7 @@ returns c =
     })
     (c .before .before .norm-fine .ensures))
 
-pub norm1-spec : {M : Type 1} → statement M
-norm1-spec =
+pub attention-norm-spec : {M : Type 1} → statement M
+attention-norm-spec =
     tie.close
-    (tie.spec add-dim mul-dim mul-norm-fine part-requires norm-fine-requires same-length returns)
+    (tie.spec mul-norm-fine part-requires norm-fine-requires same-length returns)
