@@ -50,7 +50,7 @@ pub layers-done : (z : Sizes) (s t w cos sin : List Float) (row count : ℕ) (r 
 layers-done z s t w cos sin row count r f e g =
     let b = layers-fit z f in
     let R = layersRun z w cos sin count (hAt z s) in
-    let k : nOf z ≤ length s = omega (arith, f .turn .scratch) in
+    let k : nOf z ≤ length s = omega (arith, f .rotation .scratch) in
     let e′ : r ≡ ran R = e ∙ ap (λ c. c && ran R) b in
     let g′ : t ≡ handed R s = g ∙ ap (λ c. cond c (handed R s) s) b in
     rw (e′, g′) (go k R refl)

@@ -21,8 +21,8 @@ use Rattle.encoder_elements.specs.Element.{added, gated, rounded}
 use Rattle.encoder_steps.specs.Run.{fine, answer, thenRun}
 use Rattle.encoder_steps.specs.inner.Step.{Wrote}
 use Rattle.encoder_steps.proofs.Writes.{answer-then, got, long, left}
-use Rattle.encoder_blocks.specs.Block.{normed, squareOf, innerOf, outerOf, turnedAll, mixed, scored, attnRun, feedRun, blockRun}
-use Rattle.encoder_blocks.specs.inner.Live.{hAt, qAt, kAt, vAt, gAt, uAt, AttnIn, AttnTurn, AttnMix, FeedIn, FeedOut}
+use Rattle.encoder_blocks.specs.Block.{normed, squareOf, innerOf, outerOf, rotated, mixed, scored, attnRun, feedRun, blockRun}
+use Rattle.encoder_blocks.specs.inner.Live.{hAt, qAt, kAt, vAt, gAt, uAt, AttnIn, AttnRotate, AttnMix, FeedIn, FeedOut}
 use Rattle.encoder_blocks.specs.inner.Fits.{BlockFits, ScoreRow}
 use Rattle.encoder_attention.specs.inner.Fits.{KeysFit}
 use Rattle.encoder_attention.specs.inner.Keys.{turnedKeys}
@@ -31,7 +31,7 @@ use Rattle.encoder_linear.proofs.Sums.{length-linear}
 use Rattle.encoder_kernels.proofs.Lengths.{length-norm}
 use Rattle.encoder_elements.proofs.Lengths.{length-added, length-gated, length-rounded}
 use Rattle.buffers.proofs.Steps.{blank-region}
-use Rattle.encoder_kernels.proofs.Turn.{length-rotate}
+use Rattle.encoder_kernels.proofs.Rotated.{length-rotate}
 use Rattle.encoder_attention.proofs.Attends.{length-attention}
 
 module _ (z : Sizes) where
@@ -55,9 +55,9 @@ module _ (z : Sizes) where
   pub halves-whole : z .heads * z .«head_dim» ≡ z .hidden → z .«head_dim» % 2 ≡ 0 → z .heads * (z .«head_dim» / 2 + z .«head_dim» / 2) ≡ z .hidden
   halves-whole w e = let h : z .«head_dim» / 2 + z .«head_dim» / 2 ≡ z .«head_dim» = omega arith in ap (λ (k : ℕ). z .heads * k) h ∙ w
 
-  pub length-turned-all : z .heads * (z .«head_dim» / 2 + z .«head_dim» / 2) ≡ z .hidden → (cos sin x : List Float) → length (turnedAll z cos sin x) ≡ nOf z
-  unfolding turnedAll
-  length-turned-all e cos sin x = length-rotate (z .tokens) (z .heads) (z .«head_dim» / 2) (z .«grid_w») (z .side) cos sin x ∙ ap (λ (k : ℕ). z .tokens * k) e
+  pub length-rotated : z .heads * (z .«head_dim» / 2 + z .«head_dim» / 2) ≡ z .hidden → (cos sin x : List Float) → length (rotated z cos sin x) ≡ nOf z
+  unfolding rotated
+  length-rotated e cos sin x = length-rotate (z .tokens) (z .heads) (z .«head_dim» / 2) (z .«grid_w») (z .side) cos sin x ∙ ap (λ (k : ℕ). z .tokens * k) e
 
   pub length-mixed : z .heads * z .«head_dim» ≡ z .hidden → (q k v : List Float) → length (mixed z q k v) ≡ nOf z
   unfolding mixed
@@ -98,20 +98,20 @@ module _ (z : Sizes) (w s : List Float) (f : 7 * nOf z + 2 * mOf z ≤ length s)
         fine-is = cc;
       }
 
-  pub attn-turn : z .heads * (z .«head_dim» / 2 + z .«head_dim» / 2) ≡ z .hidden → (cos sin s₁ s₂ : List Float) (ok a r : Bool)
-      → Wrote s s₁ (2 * n) (turnedAll z cos sin (qAt z s)) ok a
-      → Wrote s₁ s₂ (3 * n) (turnedAll z cos sin (kAt z s₁)) a r
-      → AttnTurn z cos sin s s₂ ok r
+  pub attn-rotate : z .heads * (z .«head_dim» / 2 + z .«head_dim» / 2) ≡ z .hidden → (cos sin s₁ s₂ : List Float) (ok a r : Bool)
+      → Wrote s s₁ (2 * n) (rotated z cos sin (qAt z s)) ok a
+      → Wrote s₁ s₂ (3 * n) (rotated z cos sin (kAt z s₁)) a r
+      → AttnRotate z cos sin s s₂ ok r
   unfolding fine
-  attn-turn e cos sin s₁ s₂ ok a r w₁ w₂ =
-      let l₁ = length-turned-all z e cos sin (qAt z s) in
-      let l₂ = length-turned-all z e cos sin (kAt z s₁) in
+  attn-rotate e cos sin s₁ s₂ ok a r w₁ w₂ =
+      let l₁ = length-rotated z e cos sin (qAt z s) in
+      let l₂ = length-rotated z e cos sin (kAt z s₁) in
       let k₁ = long w₁ n l₁ in
       let x₁ : kAt z s₁ ≡ kAt z s = left w₁ n l₁ (3 * n) n (after (omega arith)) in
       record {
         h-is = left w₂ n l₂ 0 n (before (omega arith)) ∙ left w₁ n l₁ 0 n (before (omega arith));
         q-is = left w₂ n l₂ (2 * n) n (before (omega arith)) ∙ got w₁ n l₁ (omega arith);
-        k-is = got w₂ n l₂ (omega arith) ∙ ap (turnedAll z cos sin) x₁;
+        k-is = got w₂ n l₂ (omega arith) ∙ ap (rotated z cos sin) x₁;
         v-is = left w₂ n l₂ (4 * n) n (after (omega arith)) ∙ left w₁ n l₁ (4 * n) n (after (omega arith));
         fine-is = cc;
       }
@@ -194,7 +194,7 @@ module _ (z : Sizes) (w s : List Float) (f : 7 * nOf z + 2 * mOf z ≤ length s)
 
   -- the block from its pieces
   pub block-run : (cos sin s₁ s₂ s₃ s₄ s₅ : List Float) (a b c d e : Bool)
-      → AttnIn z w s s₁ true a → AttnTurn z cos sin s₁ s₂ a b → AttnMix z w s₂ s₃ b c → FeedIn z w s₃ s₄ true d → FeedOut z w s₄ s₅ d e
+      → AttnIn z w s s₁ true a → AttnRotate z cos sin s₁ s₂ a b → AttnMix z w s₂ s₃ b c → FeedIn z w s₃ s₄ true d → FeedOut z w s₄ s₅ d e
       → answer (c && e) (hAt z s₅) ≡ blockRun z w cos sin (hAt z s)
   unfolding fine blockRun attnRun feedRun
   block-run cos sin s₁ s₂ s₃ s₄ s₅ a b c d e p₁ p₂ p₃ p₄ p₅ =

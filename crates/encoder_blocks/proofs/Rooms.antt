@@ -91,7 +91,7 @@ module _ (z : Sizes) where
         record {
           weights = omega (arith, all);
           inner = f .inner;
-          turn = record {
+          rotation = record {
             scratch = omega (arith, behind, within);
             whole = f .whole;
             even = f .even;
@@ -109,7 +109,7 @@ module _ (z : Sizes) where
         }
 
     sizes-of : LayersFits z lens lenw lenc lenn row count → SizesFit z
-    sizes-of f = let t = f .turn in record { whole = t .whole; even = t .even; narrow = t .narrow; small = t .small; tables = t .tables; some = t .some; wide = t .wide; high = t .high; inner = f .inner }
+    sizes-of f = let t = f .rotation in record { whole = t .whole; even = t .even; narrow = t .narrow; small = t .small; tables = t .tables; some = t .some; wide = t .wide; high = t .high; inner = f .inner }
 
     pub layers-products : LayersFits z lens lenw lenc lenn row count → Products z
     layers-products f = products z (sizes-of f)
@@ -117,7 +117,7 @@ module _ (z : Sizes) where
     pub layers-fit : LayersFits z lens lenw lenc lenn row count → layersFit z lens lenw lenc lenn row count ≡ true
     unfolding layersFit lengthsFit
     layers-fit f =
-        let t = f .turn in
+        let t = f .rotation in
         let table = z .side * z .side * z .«head_dim» in
         let all : 0 + count * floats (partsOf z) ≤ lenw = omega (arith, f .weights) in
         two (sizes-fit (sizes-of f))

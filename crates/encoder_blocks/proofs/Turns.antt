@@ -11,7 +11,7 @@ use Rattle.encoder_blocks.specs.Sizes.{partsOf}
 use Rattle.encoder_steps.specs.Run.{answer}
 use Rattle.encoder_blocks.specs.Block.{blockRun}
 use Rattle.encoder_blocks.specs.Layers.{layersRun}
-use Rattle.encoder_blocks.specs.inner.Fits.{BlockFits, TurnFits}
+use Rattle.encoder_blocks.specs.inner.Fits.{BlockFits, RotationFits}
 use Rattle.encoder_steps.proofs.Writes.{answer-then}
 
 pub layers-turn : (z : Sizes) (w cos sin h p hs hs′ : List Float) (l : ℕ) (ok r : Bool)
@@ -23,5 +23,5 @@ layers-turn z w cos sin h p hs hs′ l ok r d e f =
     rw add-one (answer-then ok r hs hs′ (blockRun z p cos sin) (sym f) ∙ rw (e, d))
 
 -- what the block asks, at a layer's part of the weights
-pub block-at : (z : Sizes) {lens lenw : ℕ} (lenc lenn : ℕ) → lenw ≡ floats (partsOf z) → TurnFits z lens lenc lenn → BlockFits z lens lenw
+pub block-at : (z : Sizes) {lens lenw : ℕ} (lenc lenn : ℕ) → lenw ≡ floats (partsOf z) → RotationFits z lens lenc lenn → BlockFits z lens lenw
 block-at z lenc lenn l f = record { scratch = f .scratch; weights = l; whole = f .whole; small = f .small; dimIn = f .dimIn }

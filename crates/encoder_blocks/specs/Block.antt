@@ -27,8 +27,8 @@ innerOf z name w x = linearOf (z .tokens) (z .hidden) (z .inter) (part (partsOf 
 unfoldable pub outerOf : Sizes → String → List Float → List Float → List Float
 outerOf z name w a = linearOf (z .tokens) (z .inter) (z .hidden) (part (partsOf z) name w) a
 
-unfoldable pub turnedAll : Sizes → List Float → List Float → List Float → List Float
-turnedAll z cos sin x = rotateOf (z .tokens) (z .heads) (z .«head_dim» / 2) (z .«grid_w») (z .side) cos sin x
+unfoldable pub rotated : Sizes → List Float → List Float → List Float → List Float
+rotated z cos sin x = rotateOf (z .tokens) (z .heads) (z .«head_dim» / 2) (z .«grid_w») (z .side) cos sin x
 
 unfoldable pub mixed : Sizes → List Float → List Float → List Float → List Float
 mixed z q k v = attentionOf (z .tokens) (z .heads) (z .«head_dim») (z .scaling) q k v
@@ -43,8 +43,8 @@ attnRun z w cos sin h =
     let q = squareOf z "q" w x in
     let k = squareOf z "k" w x in
     let v = squareOf z "v" w x in
-    let q′ = turnedAll z cos sin q in
-    let k′ = turnedAll z cos sin k in
+    let q′ = rotated z cos sin q in
+    let k′ = rotated z cos sin k in
     let a = mixed z q′ k′ v in
     let o = squareOf z "o" w a in
     let h′ = added (nOf z) h o in

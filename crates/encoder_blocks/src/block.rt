@@ -5,9 +5,9 @@ ghost use Rattle.buffers.specs.Region.{region};
 ghost use Rattle.encoder_blocks.specs.Sizes.{nOf};
 ghost use Rattle.encoder_steps.specs.Run.{answer};
 ghost use Rattle.encoder_steps.specs.inner.Step.{Wrote};
-ghost use Rattle.encoder_blocks.specs.Block.{blockRun, normed, turnedAll};
-ghost use Rattle.encoder_blocks.specs.inner.Live.{hAt, AttnIn, AttnTurn, AttnMix, FeedIn, FeedOut};
-ghost use Rattle.encoder_blocks.specs.inner.Fits.{BlockFits, TurnFits, TurnAt, ScoreRow};
+ghost use Rattle.encoder_blocks.specs.Block.{blockRun, normed, rotated};
+ghost use Rattle.encoder_blocks.specs.inner.Live.{hAt, AttnIn, AttnRotate, AttnMix, FeedIn, FeedOut};
+ghost use Rattle.encoder_blocks.specs.inner.Fits.{BlockFits, RotationFits, RotationAt, ScoreRow};
 use crate::Sizes;
 use buffers::part;
 use encoder_attention::attention::attend;
@@ -55,8 +55,8 @@ pub(crate) fn rotate_fine(
     sin: &[f32],
     ok: bool,
 ) -> bool
-    requires { ⌜ TurnAt z (length (now s)) (length (now cos)) (length (now sin)) x ⌝ }
-    ensures { λ r. ⌜ Wrote (now (s .entry)) (now (s .exit)) x (turnedAll z (now (cos .entry)) (now (sin .entry)) (region (now (s .entry)) x (nOf z))) ok r ⌝ }
+    requires { ⌜ RotationAt z (length (now s)) (length (now cos)) (length (now sin)) x ⌝ }
+    ensures { λ r. ⌜ Wrote (now (s .entry)) (now (s .exit)) x (rotated z (now (cos .entry)) (now (sin .entry)) (region (now (s .entry)) x (nOf z))) ok r ⌝ }
 {
     let t = z.tokens;
     let half = z.head_dim / 2;
@@ -66,9 +66,9 @@ pub(crate) fn rotate_fine(
 }
 
 // Rotated q and k.
-pub(crate) fn attn_turn(s: &mut [f32], z: Sizes, cos: &[f32], sin: &[f32], ok: bool) -> bool
-    requires { ⌜ TurnFits z (length (now s)) (length (now cos)) (length (now sin)) ⌝ }
-    ensures { λ r. ⌜ AttnTurn z (now (cos .entry)) (now (sin .entry)) (now (s .entry)) (now (s .exit)) ok r ⌝ }
+pub(crate) fn attn_rotate(s: &mut [f32], z: Sizes, cos: &[f32], sin: &[f32], ok: bool) -> bool
+    requires { ⌜ RotationFits z (length (now s)) (length (now cos)) (length (now sin)) ⌝ }
+    ensures { λ r. ⌜ AttnRotate z (now (cos .entry)) (now (sin .entry)) (now (s .entry)) (now (s .exit)) ok r ⌝ }
 {
     let n = z.tokens * z.hidden;
     let a = rotate_fine(s, 2 * n, z, cos, sin, ok);
@@ -158,12 +158,12 @@ pub(crate) fn pixtral_block_forward(
     sin: &[f32],
 ) -> bool
     requires { ⌜ BlockFits z (length (now s)) (length (now w)) ⌝ }
-    requires { ⌜ TurnFits z (length (now s)) (length (now cos)) (length (now sin)) ⌝ }
+    requires { ⌜ RotationFits z (length (now s)) (length (now cos)) (length (now sin)) ⌝ }
     requires { ⌜ ScoreRow z (length (now s)) row ⌝ }
     ensures { λ r. ⌜ answer r (hAt z (now (s .exit))) ≡ blockRun z (now (w .entry)) (now (cos .entry)) (now (sin .entry)) (hAt z (now (s .entry))) ⌝ }
 {
     let a = attn_in(s, z, w, true);
-    let b = attn_turn(s, z, cos, sin, a);
+    let b = attn_rotate(s, z, cos, sin, a);
     let c = attn_mix(s, z, row, w, b);
     let d = feed_in(s, z, w, true);
     let e = feed_out(s, z, w, d);

@@ -1,5 +1,5 @@
 pub mod Lengths
 pub mod Finites
-pub mod Turn
+pub mod Rotated
 pub mod Rooms
 pub mod Unique

@@ -3,7 +3,7 @@ ghost use mathlib.Core.Path.{_≡_};
 ghost use Prim.Native.Nat.{_+_, _*_};
 ghost use lib.ListN.{length};
 ghost use Rattle.buffers.specs.Region.{region, put};
-ghost use Rattle.encoder_kernels.specs.Rotate.{turned, turnedToken, rotateOf};
+ghost use Rattle.encoder_kernels.specs.Rotate.{rotatedHead, rotatedToken, rotateOf};
 ghost use Rattle.buffers.specs.inner.Room.{whereFits};
 ghost use Rattle.encoder_kernels.specs.inner.Room.{rotateFits};
 ghost use Rattle.encoder_kernels.specs.inner.Fits.{HeadFits, TokenFits, RotateFits};
@@ -13,7 +13,7 @@ use buffers::part;
 // One head vector, in place.
 pub(crate) fn rotate_half_inplace(s: &mut [f32], x: usize, half: usize, cos: &[f32], sin: &[f32])
     requires { ⌜ HeadFits (length (now s)) (length (now cos)) (length (now sin)) x half ⌝ }
-    ensures { λ _. ⌜ now (s .exit) ≡ put (now (s .entry)) x (turned half (now (cos .entry)) (now (sin .entry)) (region (now (s .entry)) x (half + half))) ⌝ }
+    ensures { λ _. ⌜ now (s .exit) ≡ put (now (s .entry)) x (rotatedHead half (now (cos .entry)) (now (sin .entry)) (region (now (s .entry)) x (half + half))) ⌝ }
 {
     let z = x + half;
     let mut j = 0usize;
@@ -36,7 +36,7 @@ pub(crate) fn rotate_token(
     sin: &[f32],
 )
     requires { ⌜ TokenFits (length (now s)) (length (now cos)) (length (now sin)) x heads half ⌝ }
-    ensures { λ _. ⌜ now (s .exit) ≡ put (now (s .entry)) x (turnedToken heads half (now (cos .entry)) (now (sin .entry)) (region (now (s .entry)) x (heads * (half + half)))) ⌝ }
+    ensures { λ _. ⌜ now (s .exit) ≡ put (now (s .entry)) x (rotatedToken heads half (now (cos .entry)) (now (sin .entry)) (region (now (s .entry)) x (heads * (half + half)))) ⌝ }
 {
     let mut r = 0usize;
     let mut xa = x;

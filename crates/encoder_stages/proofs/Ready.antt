@@ -17,7 +17,7 @@ use Rattle.encoder_blocks.specs.declared.Sizes.{Sizes}
 use Rattle.encoder_blocks.specs.Sizes.{partsOf}
 use Rattle.encoder_stages.specs.inner.Live.{regionsOf, countsOf}
 use Rattle.encoder_stages.specs.Forward.{sizesOf, runOf, forwardRun}
-use Rattle.encoder_blocks.specs.inner.Fits.{TurnFits, LayersFits}
+use Rattle.encoder_blocks.specs.inner.Fits.{RotationFits, LayersFits}
 use Rattle.encoder_stages.specs.inner.Fits.{CountsFit, RegionsFit, EmbedFits, SourceFits, MergeFits, ProjFits, RunFits}
 
 -- the squares of a grid that merge divides
@@ -102,8 +102,8 @@ module _ (s : EncoderSettings) (gh gw lenx lenw lenc lenn out lens t o : ℕ) (r
   side-holds : (g : ℕ) → g * s .picture .«patch_size» ≤ s .picture .«image_size» → g ≤ most (s .picture)
   side-holds g h = le-div-iff-mul-le (r .bounds .patch-low) .1 h
 
-  turn-fits : TurnFits z lens lenc lenn
-  turn-fits =
+  rotation-fits : RotationFits z lens lenc lenn
+  rotation-fits =
       record {
         scratch = omega (arith, l .scratch-holds);
         whole = r .settings .split;
@@ -124,7 +124,7 @@ module _ (s : EncoderSettings) (gh gw lenx lenw lenc lenn out lens t o : ℕ) (r
       record {
         weights = let e : countsOf s z .layers ≡ s .«num_layers» * floats (partsOf z) = ap (λ (n : ℕ). s .«num_layers» * n) (layer-long (z .hidden) (z .inter)) in omega arith;
         inner = r .settings .ranges .inner .1;
-        turn = turn-fits;
+        rotation = rotation-fits;
         scores = record { behind = omega arith; inside = omega (arith, l .scratch-holds) };
       }
 

@@ -19,7 +19,7 @@ pub record ScoreRow (z : Sizes) (lens row : ℕ) : Type 0 where
   pub inside : row + z .tokens ≤ lens
 
 -- what the rotation asks of the tables
-pub record TurnFits (z : Sizes) (lens lenc lenn : ℕ) : Type 0 where
+pub record RotationFits (z : Sizes) (lens lenc lenn : ℕ) : Type 0 where
   pub scratch : 7 * nOf z + 2 * mOf z ≤ lens
   pub whole : z .heads * z .«head_dim» ≡ z .hidden
   pub even : z .«head_dim» % 2 ≡ 0
@@ -34,15 +34,15 @@ pub record TurnFits (z : Sizes) (lens lenc lenn : ℕ) : Type 0 where
   pub sines : lenn ≡ z .side * z .side * z .«head_dim»
 
 -- rotation at x
-pub record TurnAt (z : Sizes) (lens lenc lenn x : ℕ) : Type 0 where
-  pub fits : TurnFits z lens lenc lenn
+pub record RotationAt (z : Sizes) (lens lenc lenn x : ℕ) : Type 0 where
+  pub fits : RotationFits z lens lenc lenn
   pub xIn : x + nOf z ≤ lens
 
 -- count layers
 pub record LayersFits (z : Sizes) (lens lenw lenc lenn row count : ℕ) : Type 0 where
   pub weights : count * floats (partsOf z) ≤ lenw
   pub inner : z .inter ≤ 8192
-  pub turn : TurnFits z lens lenc lenn
+  pub rotation : RotationFits z lens lenc lenn
   pub scores : ScoreRow z lens row
 
 -- what the first of the tests of `Room.antt` says

@@ -9,7 +9,7 @@ use Rattle.encoder_blocks.specs.declared.Sizes.{Sizes}
 use Rattle.encoder_blocks.specs.Sizes.{nOf, mOf}
 use Rattle.encoder_elements.specs.Element.{added, gated, rounded}
 use Rattle.encoder_steps.specs.Run.{fine}
-use Rattle.encoder_blocks.specs.Block.{normed, squareOf, innerOf, outerOf, turnedAll, mixed, scored}
+use Rattle.encoder_blocks.specs.Block.{normed, squareOf, innerOf, outerOf, rotated, mixed, scored}
 
 -- the regions of a scratch
 abbrev pub hAt : Sizes → List Float → List Float
@@ -39,12 +39,12 @@ pub record AttnIn (z : Sizes) (w s t : List Float) (ok r : Bool) : Type 0 where
   pub fine-is : r ≡ (let x = normed z "attention_norm" w (hAt z s) in fine ok (x ∷ squareOf z "q" w x ∷ squareOf z "k" w x ∷ squareOf z "v" w x ∷ []))
 
 -- rotated q and k
-pub record AttnTurn (z : Sizes) (cos sin s t : List Float) (ok r : Bool) : Type 0 where
+pub record AttnRotate (z : Sizes) (cos sin s t : List Float) (ok r : Bool) : Type 0 where
   pub h-is : hAt z t ≡ hAt z s
-  pub q-is : qAt z t ≡ turnedAll z cos sin (qAt z s)
-  pub k-is : kAt z t ≡ turnedAll z cos sin (kAt z s)
+  pub q-is : qAt z t ≡ rotated z cos sin (qAt z s)
+  pub k-is : kAt z t ≡ rotated z cos sin (kAt z s)
   pub v-is : vAt z t ≡ vAt z s
-  pub fine-is : r ≡ fine ok (turnedAll z cos sin (qAt z s) ∷ turnedAll z cos sin (kAt z s) ∷ [])
+  pub fine-is : r ≡ fine ok (rotated z cos sin (qAt z s) ∷ rotated z cos sin (kAt z s) ∷ [])
 
 -- scores, sums, o, residual
 pub record AttnMix (z : Sizes) (w s t : List Float) (ok r : Bool) : Type 0 where

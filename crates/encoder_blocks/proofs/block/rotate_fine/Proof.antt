@@ -8,14 +8,14 @@ use Rattle.encoder_kernels.specs.inner.Fits.{RotateFits}
 use Rattle.encoder_kernels.proofs.Rooms.{rotate-fits}
 use Rattle.encoder_blocks.specs.declared.Sizes.{Sizes}
 use Rattle.encoder_blocks.specs.Sizes.{nOf}
-use Rattle.encoder_blocks.specs.inner.Fits.{TurnAt}
-use Rattle.encoder_blocks.specs.Block.{turnedAll}
+use Rattle.encoder_blocks.specs.inner.Fits.{RotationAt}
+use Rattle.encoder_blocks.specs.Block.{rotated}
 use Rattle.encoder_steps.proofs.Writes.{wrote}
-use Rattle.encoder_blocks.proofs.Lives.{halves-whole, length-turned-all}
+use Rattle.encoder_blocks.proofs.Lives.{halves-whole, length-rotated}
 use Rattle.encoder_blocks.proofs.block.rotate_fine.Statement.{statement}
 use Rattle.encoder_blocks.proofs.block.rotate_fine.Tie as tie
 
-rotates : (z : Sizes) {lens lenc lenn x : ℕ} → TurnAt z lens lenc lenn x → RotateFits lens lenc lenn x (z .tokens) (z .heads) (z .«head_dim» / 2) (z .«grid_w») (z .side)
+rotates : (z : Sizes) {lens lenc lenn x : ℕ} → RotationAt z lens lenc lenn x → RotateFits lens lenc lenn x (z .tokens) (z .heads) (z .«head_dim» / 2) (z .«grid_w») (z .side)
 rotates z g =
     let f = g .fits in
     let half = z .«head_dim» / 2 in
@@ -51,15 +51,15 @@ same-length : tie.Need-same-length
 same-length c = search needs
 
 returns : tie.Need-returns
-unfolding turnedAll
+unfolding rotated
 returns c =
     let a = c .before .before .before .before .before .before .before .before .before .before .before .before .args in
     let g = c .before .before .before .before .before .before .before .before .before .before .before .before .pre in
     let r = c .before .before .before .before .before .before .rotate in
     let x = region (a .s .now) (a .x) (nOf (a .z)) in
     let e = halves-whole (a .z) (g .fits .whole) (g .fits .even) in
-    wrote (a .s .now) (r .last .0) (a .x) (nOf (a .z)) (turnedAll (a .z) (a .cos .now) (a .sin .now) x) (c .before .part .result .now) (a .ok) (c .finite .result)
-    (rw (rotate-fits (rotates (a .z) g), e) at (r .ensures)) (length-turned-all (a .z) e (a .cos .now) (a .sin .now) x) (g .xIn) (c .before .part .ensures) (c .finite .ensures)
+    wrote (a .s .now) (r .last .0) (a .x) (nOf (a .z)) (rotated (a .z) (a .cos .now) (a .sin .now) x) (c .before .part .result .now) (a .ok) (c .finite .result)
+    (rw (rotate-fits (rotates (a .z) g), e) at (r .ensures)) (length-rotated (a .z) e (a .cos .now) (a .sin .now) x) (g .xIn) (c .before .part .ensures) (c .finite .ensures)
 
 pub rotate-fine-spec : {M : Type 1} → statement M
 rotate-fine-spec =

@@ -46,8 +46,8 @@ pixtral-block-forward-requires c κs =
     let g = c .before .before .before .before .before .before .before .before .before .pre in
     let f = fit (floats (partsOf (a .z))) (c .before .before .loop-test .taken) in
     let e = c .before .before .before .loop .inv .2 in (
-      block-at (a .z) (length (a .cos .now)) (length (a .sin .now)) (ap length (c .part .ensures) ∙ length-region (a .w .now) (c .before .before .before .loop .a) (c .before .before .before .before .layer-floats .result) (omega (arith, g .weights, c .before .before .before .before .layer-floats .ensures)) ∙ c .before .before .before .before .layer-floats .ensures) (rw e (g .turn)),
-      (rw e (g .turn), rw e (g .scores)),
+      block-at (a .z) (length (a .cos .now)) (length (a .sin .now)) (ap length (c .part .ensures) ∙ length-region (a .w .now) (c .before .before .before .loop .a) (c .before .before .before .before .layer-floats .result) (omega (arith, g .weights, c .before .before .before .before .layer-floats .ensures)) ∙ c .before .before .before .before .layer-floats .ensures) (rw e (g .rotation)),
+      (rw e (g .rotation), rw e (g .scores)),
     )
 
 add-a : tie.Need-add-a Inv-loop μ-loop

@@ -24,10 +24,10 @@ each-layer-requires : tie.Need-each-layer-requires
 each-layer-requires c κs = layers-say (c .before .before .before .before .before .before .before .args .z) (sym (c .before .before .layers-fit .ensures) ∙ c .before .if1 .taken)
 
 mul-n : tie.Need-mul-n
-mul-n c = omega (arith, layers-say (c .before .before .before .before .before .before .before .before .before .before .before .before .args .z) (sym (c .before .before .before .before .before .before .before .layers-fit .ensures) ∙ c .before .before .before .before .before .before .if1 .taken) .turn .scratch)
+mul-n c = omega (arith, layers-say (c .before .before .before .before .before .before .before .before .before .before .before .before .args .z) (sym (c .before .before .before .before .before .before .before .layers-fit .ensures) ∙ c .before .before .before .before .before .before .if1 .taken) .rotation .scratch)
 
 sub-clear-at : tie.Need-sub-clear-at
-sub-clear-at c = omega (arith, layers-say (c .before .before .before .before .before .before .before .before .before .before .before .before .before .args .z) (sym (c .before .before .before .before .before .before .before .before .layers-fit .ensures) ∙ c .before .before .before .before .before .before .before .if1 .taken) .turn .scratch, c .before .before .before .before .before .each-layer .kept .0)
+sub-clear-at c = omega (arith, layers-say (c .before .before .before .before .before .before .before .before .before .before .before .before .before .args .z) (sym (c .before .before .before .before .before .before .before .before .layers-fit .ensures) ∙ c .before .before .before .before .before .before .before .if1 .taken) .rotation .scratch, c .before .before .before .before .before .each-layer .kept .0)
 
 clear-at-requires : tie.Need-clear-at-requires
 clear-at-requires c κs = search needs
@@ -43,7 +43,7 @@ returns c =
     let n = c .before .before .before .before .before .before .before .before .each-layer in
     let u = n .last .0 in
     let R = layersRun (a .z) (a .w .now) (a .cos .now) (a .sin .now) (a .count) (hAt (a .z) (a .s .now)) in
-    let k : nOf (a .z) ≤ length u = omega (arith, f .turn .scratch, n .kept .0) in
+    let k : nOf (a .z) ≤ length u = omega (arith, f .rotation .scratch, n .kept .0) in
     let w = went-of (n .result) (hAt (a .z) u) R (n .ensures) (c .before .before .before .before .before .if2 .taken) in
     let v = front-kept u (c .before .before .clear-at .last .0) (nOf (a .z)) k (c .before .before .clear-at .ensures) in
     (rw t (ap ran w), rw t (v ∙ ap (λ i. over (hAt (a .z) u) (tab i (λ _. zero32))) (n .kept .0) ∙ ap (λ r. handed r (a .s .now)) w))

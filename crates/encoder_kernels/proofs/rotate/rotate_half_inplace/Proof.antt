@@ -6,12 +6,12 @@ use borrow.Author.Needs.{needs}
 use lib.ListN.{length, length-set}
 use Rattle.buffers.specs.Region.{put}
 use Rattle.buffers.specs.Rows.{tab}
-use Rattle.encoder_kernels.proofs.Turn.{turning, turn-step, turned-all}
+use Rattle.encoder_kernels.proofs.Rotated.{rotating, rotate-step, rotated-all}
 use Rattle.encoder_kernels.proofs.rotate.rotate_half_inplace.Statement.{statement}
 use Rattle.encoder_kernels.proofs.rotate.rotate_half_inplace.Tie as tie
 
 abbrev Inv-loop : tie.InvT-loop
-Inv-loop s₀ x half cos sin z j₀ s j = (j ≤ half) × (length s ≡ length s₀) × (s ≡ turning s₀ cos sin x half j)
+Inv-loop s₀ x half cos sin z j₀ s j = (j ≤ half) × (length s ≡ length s₀) × (s ≡ rotating s₀ cos sin x half j)
 
 abbrev μ-loop : tie.MeasureT-loop
 μ-loop s₀ x half cos sin z j₀ s j = half - j
@@ -101,7 +101,7 @@ loop-again c =
     let a = c .before .before .before .before .before .before .before .before .args in (
       omega arith,
       simp length-set (l .inv .1),
-      cc (l .inv .2, turn-step (a .s .now) (a .cos .now) (a .sin .now) (a .x) (a .half) (l .j) (omega arith)),
+      cc (l .inv .2, rotate-step (a .s .now) (a .cos .now) (a .sin .now) (a .x) (a .half) (l .j) (omega arith)),
     )
 
 same-length : tie.Need-same-length Inv-loop μ-loop
@@ -110,7 +110,7 @@ same-length c = c .before .loop .inv .1
 returns : tie.Need-returns Inv-loop μ-loop
 returns c =
     let a = c .before .before .args in
-    c .before .loop .inv .2 ∙ ap (λ m. turning (a .s .now) (a .cos .now) (a .sin .now) (a .x) (a .half) m) (omega arith) ∙ turned-all (a .s .now) (a .cos .now) (a .sin .now) (a .x) (a .half)
+    c .before .loop .inv .2 ∙ ap (λ m. rotating (a .s .now) (a .cos .now) (a .sin .now) (a .x) (a .half) m) (omega arith) ∙ rotated-all (a .s .now) (a .cos .now) (a .sin .now) (a .x) (a .half)
 
 pub rotate-half-inplace-spec : {M : Type 1} → statement M
 rotate-half-inplace-spec =

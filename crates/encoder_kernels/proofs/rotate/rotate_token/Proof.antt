@@ -11,16 +11,16 @@ use Rattle.buffers.specs.Region.{region, put}
 use Rattle.buffers.specs.inner.Apart.{after}
 use Rattle.buffers.specs.Rows.{rows}
 use Rattle.buffers.specs.Each.{eachRow}
-use Rattle.encoder_kernels.specs.Rotate.{turned, turnedToken}
+use Rattle.encoder_kernels.specs.Rotate.{rotatedHead, rotatedToken}
 use Rattle.buffers.proofs.Steps.{row-step}
-use Rattle.encoder_kernels.proofs.Turn.{length-turned}
+use Rattle.encoder_kernels.proofs.Rotated.{length-head}
 use Rattle.encoder_kernels.proofs.rotate.rotate_token.Statement.{statement}
 use Rattle.encoder_kernels.proofs.rotate.rotate_token.Tie as tie
 
 abbrev Inv-loop : tie.InvT-loop
 Inv-loop s₀ x heads half cos sin r₀ xa₀ s r xa =
     (r ≤ heads) × (xa ≡ x + r * (half + half)) × (length s ≡ length s₀)
-    × (s ≡ put s₀ x (eachRow r (half + half) (λ _. turned half cos sin) (region s₀ x (heads * (half + half)))))
+    × (s ≡ put s₀ x (eachRow r (half + half) (λ _. rotatedHead half cos sin) (region s₀ x (heads * (half + half)))))
 
 abbrev μ-loop : tie.MeasureT-loop
 μ-loop s₀ x heads half cos sin r₀ xa₀ s r xa = heads - r
@@ -60,17 +60,17 @@ loop-again c =
       omega arith,
       rw (add-one, suc-mul) (omega arith),
       c .before .before .rotate-half-inplace .kept .0 ∙ l .inv .2,
-      cc (c .before .before .rotate-half-inplace .ensures, l .inv .1, l .inv .3, row-step (a .s .now) (a .x) (a .x) (a .heads) hd hd (l .r) (λ _. turned (a .half) (a .cos .now) (a .sin .now)) (λ _ x. length-turned (a .half) (a .cos .now) (a .sin .now) x) (after (omega arith)) (omega arith)),
+      cc (c .before .before .rotate-half-inplace .ensures, l .inv .1, l .inv .3, row-step (a .s .now) (a .x) (a .x) (a .heads) hd hd (l .r) (λ _. rotatedHead (a .half) (a .cos .now) (a .sin .now)) (λ _ x. length-head (a .half) (a .cos .now) (a .sin .now) x) (after (omega arith)) (omega arith)),
     )
 
 same-length : tie.Need-same-length Inv-loop μ-loop
 same-length c = c .before .loop .inv .2
 
 returns : tie.Need-returns Inv-loop μ-loop
-unfolding turnedToken
+unfolding rotatedToken
 returns c =
     let a = c .before .before .before .before .before .args in
-    c .before .loop .inv .3 ∙ ap (λ n. put (a .s .now) (a .x) (eachRow n (a .half + a .half) (λ _. turned (a .half) (a .cos .now) (a .sin .now)) (region (a .s .now) (a .x) (a .heads * (a .half + a .half))))) (omega arith)
+    c .before .loop .inv .3 ∙ ap (λ n. put (a .s .now) (a .x) (eachRow n (a .half + a .half) (λ _. rotatedHead (a .half) (a .cos .now) (a .sin .now)) (region (a .s .now) (a .x) (a .heads * (a .half + a .half))))) (omega arith)
 
 pub rotate-token-spec : {M : Type 1} → statement M
 rotate-token-spec =

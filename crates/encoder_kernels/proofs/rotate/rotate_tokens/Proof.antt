@@ -12,16 +12,16 @@ use Rattle.buffers.specs.Region.{region, put}
 use Rattle.buffers.specs.inner.Apart.{after}
 use Rattle.buffers.specs.Rows.{rows}
 use Rattle.buffers.specs.Each.{eachRow}
-use Rattle.encoder_kernels.specs.Rotate.{turnedToken, position, turnedAt, rotateOf}
+use Rattle.encoder_kernels.specs.Rotate.{rotatedToken, position, rotatedAt, rotateOf}
 use Rattle.buffers.proofs.Steps.{row-step}
-use Rattle.encoder_kernels.proofs.Turn.{length-token, position-lt}
+use Rattle.encoder_kernels.proofs.Rotated.{length-token, position-lt}
 use Rattle.encoder_kernels.proofs.rotate.rotate_tokens.Statement.{statement}
 use Rattle.encoder_kernels.proofs.rotate.rotate_tokens.Tie as tie
 
 abbrev Inv-loop : tie.InvT-loop
 Inv-loop s₀ x tokens heads half gw side cos sin hd dim i₀ xa₀ s i xa =
     (i ≤ tokens) × (xa ≡ x + i * (heads * (half + half))) × (length s ≡ length s₀)
-    × (s ≡ put s₀ x (eachRow i (heads * (half + half)) (turnedAt heads half gw side cos sin) (region s₀ x (tokens * (heads * (half + half))))))
+    × (s ≡ put s₀ x (eachRow i (heads * (half + half)) (rotatedAt heads half gw side cos sin) (region s₀ x (tokens * (heads * (half + half))))))
 
 abbrev μ-loop : tie.MeasureT-loop
 μ-loop s₀ x tokens heads half gw side cos sin hd dim i₀ xa₀ s i xa = tokens - i
@@ -103,7 +103,7 @@ loop-again c =
         l .inv .1,
         l .inv .3,
         row-step (a .s .now) (a .x) (a .x) (a .tokens) (a .heads * hd) (a .heads * hd) (l .i)
-            (λ i. turnedToken (a .heads) (a .half) (region (a .cos .now) (p i) hd) (region (a .sin .now) (p i) hd))
+            (λ i. rotatedToken (a .heads) (a .half) (region (a .cos .now) (p i) hd) (region (a .sin .now) (p i) hd))
             (λ i x. length-token (a .heads) (a .half) (region (a .cos .now) (p i) hd) (region (a .sin .now) (p i) hd) x) (after (omega arith)) (omega arith),
       ),
     )
@@ -115,7 +115,7 @@ returns : tie.Need-returns Inv-loop μ-loop
 unfolding rotateOf
 returns c =
     let a = c .before .before .before .before .before .args in
-    c .before .loop .inv .3 ∙ ap (λ n. put (a .s .now) (a .x) (eachRow n (a .heads * (a .half + a .half)) (turnedAt (a .heads) (a .half) (a .gw) (a .side) (a .cos .now) (a .sin .now)) (region (a .s .now) (a .x) (a .tokens * (a .heads * (a .half + a .half)))))) (omega arith)
+    c .before .loop .inv .3 ∙ ap (λ n. put (a .s .now) (a .x) (eachRow n (a .heads * (a .half + a .half)) (rotatedAt (a .heads) (a .half) (a .gw) (a .side) (a .cos .now) (a .sin .now)) (region (a .s .now) (a .x) (a .tokens * (a .heads * (a .half + a .half)))))) (omega arith)
 
 pub rotate-tokens-spec : {M : Type 1} → statement M
 rotate-tokens-spec =

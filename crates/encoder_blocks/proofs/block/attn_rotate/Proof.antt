@@ -1,8 +1,8 @@
--- `encoder_blocks::block::attn_turn` meets its contract. Assumes nothing.
+-- `encoder_blocks::block::attn_rotate` meets its contract. Assumes nothing.
 use borrow.Author.Needs.{needs}
-use Rattle.encoder_blocks.proofs.Lives.{halves-whole, attn-turn}
-use Rattle.encoder_blocks.proofs.block.attn_turn.Statement.{statement}
-use Rattle.encoder_blocks.proofs.block.attn_turn.Tie as tie
+use Rattle.encoder_blocks.proofs.Lives.{halves-whole, attn-rotate}
+use Rattle.encoder_blocks.proofs.block.attn_rotate.Statement.{statement}
+use Rattle.encoder_blocks.proofs.block.attn_rotate.Tie as tie
 
 mul-n : tie.Need-mul-n
 mul-n c = search needs
@@ -26,11 +26,11 @@ returns : tie.Need-returns
 returns c =
     let a = c .before .before .before .before .before .before .before .before .before .before .before .before .args in
     let g = c .before .before .before .before .before .before .before .before .before .before .before .before .pre in
-    attn-turn (a .z) (a .cos .now) (a .s .now) (g .scratch) (halves-whole (a .z) (g .whole) (g .even)) (a .cos .now) (a .sin .now) (c .before .before .before .before .before .before .rotate-fine .last .0) (c .before .before .rotate-fine2 .last .0) (a .ok) (c .before .before .before .before .before .before .rotate-fine .result) (c .before .before .rotate-fine2 .result)
+    attn-rotate (a .z) (a .cos .now) (a .s .now) (g .scratch) (halves-whole (a .z) (g .whole) (g .even)) (a .cos .now) (a .sin .now) (c .before .before .before .before .before .before .rotate-fine .last .0) (c .before .before .rotate-fine2 .last .0) (a .ok) (c .before .before .before .before .before .before .rotate-fine .result) (c .before .before .rotate-fine2 .result)
     (c .before .before .before .before .before .before .rotate-fine .ensures) (c .before .before .rotate-fine2 .ensures)
 
-pub attn-turn-spec : {M : Type 1} → statement M
-attn-turn-spec =
+pub attn-rotate-spec : {M : Type 1} → statement M
+attn-rotate-spec =
     tie.close
     (tie.spec
     mul-n
