@@ -3,7 +3,8 @@ mod block;
 pub mod layers;
 mod room;
 
-// The sizes of a call: side is P, the most patches on a side; the hidden size is heads times head_dim, which is even.
+// The sizes of a call: side is P, the most patches on a side. The layers test that hidden is heads times head_dim, and
+// head_dim even.
 pub struct Sizes {
     pub tokens: usize,
     pub grid_w: usize,

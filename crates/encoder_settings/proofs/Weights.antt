@@ -1,7 +1,8 @@
--- Laws of a table of weights: its parts tile the slice, and each stands behind all those before it. Assumes nothing.
+-- Laws of a table of weights: each part stands behind all those before it, under a name of its own, and the parts tile the
+-- slice. Assumes nothing.
 use mathlib.Core.Path.{_≡_, refl, sym, ap, _∙_}
 use mathlib.Core.Bool.{Bool, true, false, cond}
-use mathlib.Core.List.{List, [], _∷_, _++_, append-assoc, append-nil}
+use mathlib.Core.List.{List, [], _∷_, _++_, map, append-assoc, append-nil}
 use Prim.Native.Nat.{ℕ, zero, suc, _+_, _*_, _≤_}
 use Prim.Native.String.{String}
 use native.Mathlib.Nat.{suc-mul, zero-mul}
@@ -45,6 +46,27 @@ stands t name w at n e f = sym (part-is t name w ∙ ap (λ (a : ℕ). region w 
 
 pub layer-long : (H I : ℕ) → layerSum H I ≡ floats (layer H I)
 layer-long H I = omega arith
+
+-- ---- no name stands twice in a table: what is found under each is its own piece
+
+abbrev byName : Table → List Float → List (String × List Float)
+byName t w = map (λ p. (p .0, part t (p .0) w)) t
+
+pub embedding-named : (H F : ℕ) (w : List Float) → cut (embedding H F) w ≡ byName (embedding H F) w
+unfolding cut named
+embedding-named H F w = refl
+
+pub layer-named : (H I : ℕ) (w : List Float) → cut (layer H I) w ≡ byName (layer H I) w
+unfolding cut named
+layer-named H I w = refl
+
+pub projector-named : (H wide X : ℕ) (w : List Float) → cut (projector H wide X) w ≡ byName (projector H wide X) w
+unfolding cut named
+projector-named H wide X w = refl
+
+pub weights-named : (s : EncoderSettings) (w : List Float) → cut (weights s) w ≡ byName (weights s) w
+unfolding cut named
+weights-named s w = refl
 
 -- ---- the parts tile the slice
 
