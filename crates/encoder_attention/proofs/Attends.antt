@@ -73,36 +73,37 @@ module _ (s : List Float) (q k v row out t heads hd : ℕ) (sc : Float) where
   pub inside : (i h : ℕ) → i < t → h < heads → i * dim + h * hd + hd ≤ n
   inside i h a b = let f = fit dim a in let f′ = fit hd b in omega arith
 
-  pub head-run : (i h : ℕ) → HeadAt (length s) q k v row out t heads hd i h → (s₁ s₂ s₃ : List Float)
+  -- the values stand at e of each of t rows of w
+  pub head-run : (w e i h : ℕ) → HeadAt (length s) q k v row out t heads hd i h w e → (s₁ s₂ s₃ : List Float)
       → s₁ ≡ put s row (scaled t sc (weighedRow hd t t 0 (region s (q + (i * dim + h * hd)) hd) (region s (k + h * hd * t) (hd * t))))
       → s₂ ≡ put s₁ row (softmaxOf t (region s₁ row t))
-      → s₃ ≡ put s₂ (out + (i * dim + h * hd)) (weighedRow t dim hd (h * hd) (region s₂ row t) (region s₂ v n))
+      → s₃ ≡ put s₂ (out + (i * dim + h * hd)) (weighedRow t w hd e (region s₂ row t) (region s₂ v (t * w)))
       → (region s₁ row t ≡ headScores t dim hd sc qs ks i (h * hd))
-      × (blank zero32 row t s₃ ≡ put (blank zero32 row t s) (out + (i * dim + h * hd)) (headSums t dim hd sc qs ks vs i (h * hd)))
-  head-run i h g s₁ s₂ s₃ e₁ e₂ e₃ =
+      × (blank zero32 row t s₃ ≡ put (blank zero32 row t s) (out + (i * dim + h * hd)) (weighedRow t w hd e (softmaxOf t (headScores t dim hd sc qs ks i (h * hd))) (region s v (t * w))))
+  head-run w e i h g s₁ s₂ s₃ e₁ e₂ e₃ =
       let f = inside i h (g .token) (g .head) in
       let o = h * hd in
       let S = headScores t dim hd sc qs ks i o in
       let ls = length-scoreRow t dim hd o sc (region qs (i * dim + o) hd) ks in
       let lp = length-softmax t S in
-      let W = headSums t dim hd sc qs ks vs i o in
-      let lw = length-weighed t dim hd o (softmaxOf t S) vs in
-      let w = g .fits in
+      let W = weighedRow t w hd e (softmaxOf t S) (region s v (t * w)) in
+      let lw = length-weighed t w hd e (softmaxOf t S) (region s v (t * w)) in
+      let x = g .fits in
       let Q = region qs (i * dim + o) hd in
-      let lq : length Q ≡ hd = length-region qs (i * dim + o) hd (rw (length-region s q n (w .qIn)) f) in
+      let lq : length Q ≡ hd = length-region qs (i * dim + o) hd (rw (length-region s q n (x .qIn)) f) in
       let e₁′ : s₁ ≡ put s row S =
       e₁ ∙ ap (put s row) (ap (λ z. scaled t sc (weighedRow hd t t 0 z (region s (k + o * t) (hd * t)))) (sym (region-region s q n (i * dim + o) hd (omega arith)))
       ∙ ap (λ z. scaled t sc (weighedRow hd t t 0 Q z)) (sym (region-region s k n (o * t) (hd * t) (head-rows t heads hd h (g .head))))
       ∙ turned-scores t dim hd o sc Q (region s k n) lq (fit hd (g .head))) in
-      let r₁ : region s₁ row t ≡ S = ap (λ l. region l row t) e₁′ ∙ region-put-same s row S t (sym ls) (rw ls (w .rowIn)) in
+      let r₁ : region s₁ row t ≡ S = ap (λ l. region l row t) e₁′ ∙ region-put-same s row S t (sym ls) (rw ls (x .rowIn)) in
       let e₂′ : s₂ ≡ put s row (softmaxOf t S) = e₂ ∙ rw (r₁, e₁′) (put-put s row S (softmaxOf t S) (ls ∙ sym lp)) in
-      let r₂ : region s₂ row t ≡ softmaxOf t S = ap (λ l. region l row t) e₂′ ∙ region-put-same s row (softmaxOf t S) t (sym lp) (rw lp (w .rowIn)) in
-      let v₂ : region s₂ v n ≡ vs = ap (λ l. region l v n) e₂′ ∙ region-put s row (softmaxOf t S) v n (rw lp (w .vrow)) in
+      let r₂ : region s₂ row t ≡ softmaxOf t S = ap (λ l. region l row t) e₂′ ∙ region-put-same s row (softmaxOf t S) t (sym lp) (rw lp (x .rowIn)) in
+      let v₂ : region s₂ v (t * w) ≡ region s v (t * w) = ap (λ l. region l v (t * w)) e₂′ ∙ region-put s row (softmaxOf t S) v (t * w) (rw lp (x .vrow)) in
       let e₃′ : s₃ ≡ put s₂ (out + (i * dim + o)) W = e₃ ∙ rw (r₂, v₂) in (
         r₁,
         rw (
           e₃′,
-          blank-put zero32 row t s₂ (out + (i * dim + o)) W (rw lw (apart-sub (w .outrow) (omega arith) (omega arith) (omega arith) (omega arith))),
+          blank-put zero32 row t s₂ (out + (i * dim + o)) W (rw lw (apart-sub (x .outrow) (omega arith) (omega arith) (omega arith) (omega arith))),
           e₂′,
           blank-same zero32 row t s (softmaxOf t S) lp,
         ),
@@ -119,7 +120,7 @@ module _ (s : List Float) (q k v row out t heads hd : ℕ) (sc : Float) where
   abbrev pub scoresAt : ℕ → ℕ → List Float
   scoresAt i h = headScores t dim hd sc qs ks i (h * hd)
 
-  length-sumsAt : (i h : ℕ) → length (sumsAt i h) ≡ hd
+  pub length-sumsAt : (i h : ℕ) → length (sumsAt i h) ≡ hd
   length-sumsAt i h = length-weighed t dim hd (h * hd) (softmaxOf t (scoresAt i h)) vs
 
   record Seen (u : List Float) : Type 0 where
@@ -129,7 +130,7 @@ module _ (s : List Float) (q k v row out t heads hd : ℕ) (sc : Float) where
 
   -- the inputs are as they were once some of the sums at y are written
   all-seen : (y m : ℕ) (u ys : List Float) → length ys ≡ m → blank zero32 row t u ≡ put (blank zero32 row t s) y ys
-      → AttendFits (length s) q k v row out t heads hd → out ≤ y → y + m ≤ out + n → Seen u
+      → AttendFits (length s) q k v n row out t heads hd → out ≤ y → y + m ≤ out + n → Seen u
   all-seen y m u ys l e w a b =
       record {
         q-same = seen q y m u ys l e (w .qrow) (apart-sub (w .qout) (omega arith) (omega arith) a b);
@@ -141,7 +142,7 @@ module _ (s : List Float) (q k v row out t heads hd : ℕ) (sc : Float) where
   unfolding rows
   sound-more c f = rw (add-one, sound-append)
 
-  pub token-turn : (i h : ℕ) → HeadAt (length s) q k v row out t heads hd i h → (u u′ : List Float) (ok fine : Bool)
+  pub token-turn : (i h : ℕ) → HeadAt (length s) q k v row out t heads hd i h dim (h * hd) → (u u′ : List Float) (ok fine : Bool)
       → ok ≡ sound (rows h (scoresAt i))
       → blank zero32 row t u ≡ put (blank zero32 row t s) (out + i * dim) (rows h (sumsAt i))
       → fine ≡ sound (headScores t dim hd sc (region u q n) (keysOf t dim (region u k n)) i (h * hd))

@@ -11,7 +11,8 @@ use Rattle.buffers.specs.Region.{region, put}
 use Rattle.number_floats.specs.Constants.{zero32}
 use Rattle.buffers.specs.inner.Apart.{Apart}
 use Rattle.buffers.specs.Each.{blank}
-use Rattle.buffers.proofs.Regions.{getD-region, region-put, region-put-same, length-region}
+use Rattle.buffers.proofs.Regions.{getD-region, region-put, region-put-same, length-region, apart-sym}
+use Rattle.buffers.proofs.Steps.{blank-put, blank-rest}
 use Rattle.buffers.proofs.Lists.{fit, getD-tab, tab-ext, tab-mul, tab-self}
 use Rattle.encoder_linear.specs.Linear.{sumOf}
 use Rattle.encoder_linear.specs.Weighed.{columnOf, weighedRow}
@@ -20,6 +21,7 @@ use Rattle.encoder_linear.proofs.Pieces.{grid-ext, length-grid, getD-grid}
 use Rattle.encoder_attention.specs.Attention.{scoreRow, scaled, scoresOf, attentionOf}
 use Rattle.encoder_attention.specs.inner.Fits.{KeysFit}
 use Rattle.encoder_attention.specs.inner.Keys.{turnedKeys, keysOf}
+use Rattle.encoder_attention.proofs.Bands.{blank-back}
 
 pub keys-back : (t dim : ℕ) (k : List Float) → length k ≡ t * dim → keysOf t dim (turnedKeys t dim k) ≡ k
 unfolding keysOf turnedKeys
@@ -76,6 +78,10 @@ module _ (s u : List Float) (q k v kt row out t heads hd : ℕ) (f : KeysFit (le
       ∙ ap (keysOf t (heads * hd)) (region-put-same s kt T n (sym l) (rw l (f .turn .ktIn)))
       ∙ keys-back t (heads * hd) (region s k n) (length-region s k n (f .turn .kIn))
 
+  -- they stand in both places
+  pub stands : region u k n ≡ keysOf t (heads * hd) (region u kt n)
+  stands = same-at k (f .turn .apart) ∙ sym same-keys
+
   pub same-scores : (sc : Float) → scoresOf t heads hd sc (region u q n) (keysOf t (heads * hd) (region u kt n)) ≡ scoresOf t heads hd sc (region s q n) (region s k n)
   same-scores sc = rw (same-at q (f .qkt), same-keys)
 
@@ -89,3 +95,21 @@ module _ (s u : List Float) (q k v kt row out t heads hd : ℕ) (f : KeysFit (le
   same-left sc m w a b =
       a ∙ b ∙ ap (put (blank zero32 row t u) out) (same-sums sc)
       ∙ ap (λ x. put (blank zero32 row t x) out (attentionOf t heads hd sc (region s q n) (region s k n) (region s v n))) e
+
+-- and turned back, they stand again at k, where the sums of each head left something else
+module _ (s u z : List Float) (q k v kt row out t heads hd : ℕ) (f : KeysFit (length s) q k v kt row out t heads hd)
+    (aside : Apart out (t * (heads * hd)) k (t * (heads * hd)))
+    (stood : region s k (t * (heads * hd)) ≡ keysOf t (heads * hd) (region s kt (t * (heads * hd))))
+    (back : z ≡ put u k (turnedKeys (heads * hd) t (region u kt (heads * hd * t)))) where
+  pub turned-back : (l : List Float) → length l ≡ t * (heads * hd)
+      → blank zero32 k (t * (heads * hd)) u ≡ put (blank zero32 k (t * (heads * hd)) s) out l → blank zero32 row t z ≡ put (blank zero32 row t s) out l
+  unfolding turnedKeys keysOf
+  turned-back l e b =
+      let m = t * (heads * hd) in
+      let same : region u kt m ≡ region s kt m =
+      blank-rest zero32 k m s u out l b kt m (apart-sym (f .turn .apart)) (rw e (f .turned .kout)) in
+      let c : heads * hd * t ≡ m = mul-comm (heads * hd) t in
+      let z′ : z ≡ put u k (keysOf t (heads * hd) (region u kt m)) = back ∙ ap (λ i. put u k (keysOf t (heads * hd) (region u kt i))) c in
+      let y : z ≡ put s out l =
+      z′ ∙ ap (λ r. put u k (keysOf t (heads * hd) r)) same ∙ ap (put u k) (sym stood) ∙ blank-back zero32 k m out s u l (f .turn .kIn) (rw e aside) b in
+      ap (blank zero32 row t) y ∙ blank-put zero32 row t s out l (rw e (f .turned .outrow))

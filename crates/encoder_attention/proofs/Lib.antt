@@ -1,4 +1,6 @@
 pub mod Keys
 pub mod Attends
+pub mod Bands
+pub mod Values
 pub mod Rooms
 pub mod Unique

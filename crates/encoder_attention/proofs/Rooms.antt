@@ -3,12 +3,15 @@
 use mathlib.Core.Bool.{Bool, true, _&&_}
 use mathlib.Core.Path.{_≡_}
 use Prim.Native.Nat.{ℕ, _+_, _*_, _≤_}
+use native.Mathlib.Nat.{add-mul, mul-comm, mul-le-mul-right}
 use native.Mathlib.Omega.{arith}
+use lib.Dec.{leb}
+use Rattle.buffers.proofs.Regions.{apart-sym}
 use borrow.Author.Tests.{leb-true, le-leb}
 use Rattle.buffers.specs.inner.Room.{inside, aside}
 use Rattle.buffers.proofs.Rooms.{and-parts, two, aside-says, aside-is}
-use Rattle.encoder_attention.specs.inner.Room.{threeAside, placesFit, attendFits}
-use Rattle.encoder_attention.specs.inner.Fits.{KeysFit}
+use Rattle.encoder_attention.specs.inner.Room.{threeAside, placesFit, attendFits, spareFits}
+use Rattle.encoder_attention.specs.inner.Fits.{KeysFit, HeadsFit}
 
 module _ {len q k v kt row out t heads hd : ℕ} where
   pub attend-says : attendFits len q k v kt row out t heads hd ≡ true → KeysFit len q k v kt row out t heads hd
@@ -70,3 +73,37 @@ module _ {len q k v kt row out t heads hd : ℕ} where
       (two (two (two (two (aside-is (f .qrow)) (aside-is (f .krow))) (aside-is (f .vrow))) (two (two (aside-is (f .qout)) (aside-is (f .kout))) (aside-is (f .vout))))
       (aside-is (f .outrow))))
       (two (le-leb (k + n) len (g .turn .kIn)) (two (two (aside-is (g .qkt)) (aside-is (g .turn .apart))) (aside-is (g .vkt))))))
+
+  -- where the keys' place is free it has room for a head's values and two rows
+  pub heads-fit : KeysFit len q k v kt row out t heads hd → spareFits q k v out (t * (heads * hd)) heads hd ≡ true → HeadsFit len q kt v k out t heads hd
+  unfolding spareFits
+  heads-fit g h =
+      let n = t * (heads * hd) in
+      let f = g .turned in
+      let a = and-parts (leb 2 heads && leb 2 hd) (threeAside q v out n k n) h in
+      let b = and-parts (leb 2 heads) (leb 2 hd) (a .0) in
+      let c = and-parts (aside q n k n && aside v n k n) (aside out n k n) (a .1) in
+      let d = and-parts (aside q n k n) (aside v n k n) (c .0) in
+      let two-heads = mul-le-mul-right hd (leb-true 2 heads (b .0)) in
+      let two-wide = leb-true 2 hd (b .1) in
+      let wide : hd + 2 ≤ heads * hd = omega arith in
+      let all = mul-le-mul-right t wide in
+      let e = add-mul hd 2 t in
+      let m = mul-comm hd t in
+      let m′ = mul-comm (heads * hd) t in
+      record {
+        qIn = f .qIn;
+        kIn = f .kIn;
+        vIn = f .vIn;
+        gIn = g .turn .kIn;
+        outIn = f .outIn;
+        dimIn = f .dimIn;
+        spare = omega arith;
+        qg = aside-says q n k n (d .0);
+        kg = apart-sym (g .turn .apart);
+        vg = aside-says v n k n (d .1);
+        outg = aside-says out n k n (c .1);
+        qout = f .qout;
+        kout = f .kout;
+        vout = f .vout;
+      }

@@ -1,3 +1,4 @@
 pub mod Fits
 pub mod Room
 pub mod Keys
+pub mod Values

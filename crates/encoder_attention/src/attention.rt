@@ -12,11 +12,13 @@ ghost use Rattle.encoder_kernels.specs.Finite.{sound};
 ghost use Rattle.encoder_linear.specs.inner.Lanes.{spread};
 ghost use Rattle.encoder_linear.specs.Weighed.{weighedRow};
 ghost use Rattle.encoder_linear.specs.inner.Fits.{WeighFits};
-ghost use Rattle.encoder_attention.specs.Attention.{maxOf, totalOf, inverseOf, scaled, headScores, headSums, softmaxOf, tokenScores, tokenSums, scoresOf, attentionOf};
+ghost use Rattle.encoder_attention.specs.Attention.{maxOf, totalOf, inverseOf, scaled, headScores, softmaxOf, tokenScores, tokenSums, scoresOf, attentionOf};
 ghost use Rattle.encoder_attention.specs.inner.Keys.{turnedKeys, keysOf};
 ghost use Rattle.encoder_attention.specs.inner.Room.{attendFits};
-ghost use Rattle.encoder_attention.specs.inner.Fits.{TurnFits, KeyAt, HeadAt, TokenAt, AttendFits};
+ghost use Rattle.encoder_attention.specs.inner.Fits.{TurnFits, KeyAt, HeadAt, TokenAt, AttendFits, KeysFit};
+use crate::heads::attend_heads;
 use crate::room::attend_fits;
+use crate::room::spare;
 use crate::soften::exp_row;
 use buffers::clear_at;
 use buffers::part;
@@ -99,7 +101,8 @@ pub(crate) fn softmax(s: &mut [f32], row: usize, t: usize)
     scale_row(s, row, t, f);
 }
 
-// One query of one head: its scores over the keys, turned at k, softened, weigh the values. Says whether every score was finite.
+// One query of one head: its scores over the keys, turned at k, softened, weigh the values, which stand at e of each row of
+// w. Says whether every score was finite.
 pub(crate) fn attend_head(
     s: &mut [f32],
     q: usize,
@@ -113,11 +116,13 @@ pub(crate) fn attend_head(
     i: usize,
     h: usize,
     scaling: f32,
+    w: usize,
+    e: usize,
 ) -> bool
-    requires { ⌜ HeadAt (length (now s)) q k v row out t heads hd i h ⌝ }
+    requires { ⌜ HeadAt (length (now s)) q k v row out t heads hd i h w e ⌝ }
     ensures { λ r. ⌜ r ≡ sound (headScores t (heads * hd) hd scaling (region (now (s .entry)) q (t * (heads * hd))) (keysOf t (heads * hd) (region (now (s .entry)) k (t * (heads * hd)))) i (h * hd)) ⌝ }
     ensures { λ r. ⌜ blank zero32 row t (now (s .exit)) ≡ put (blank zero32 row t (now (s .entry))) (out + (i * (heads * hd) + h * hd))
-        (headSums t (heads * hd) hd scaling (region (now (s .entry)) q (t * (heads * hd))) (keysOf t (heads * hd) (region (now (s .entry)) k (t * (heads * hd)))) (region (now (s .entry)) v (t * (heads * hd))) i (h * hd)) ⌝ }
+        (weighedRow t w hd e (softmaxOf t (headScores t (heads * hd) hd scaling (region (now (s .entry)) q (t * (heads * hd))) (keysOf t (heads * hd) (region (now (s .entry)) k (t * (heads * hd)))) i (h * hd))) (region (now (s .entry)) v (t * w))) ⌝ }
 {
     let dim = heads * hd;
     let o = h * hd;
@@ -125,7 +130,7 @@ pub(crate) fn attend_head(
     scores(s, q + at, k + o * t, row, t, hd, scaling);
     let ok = finite(part(s, row, t));
     softmax(s, row, t);
-    weigh(s, row, v, out + at, t, dim, hd, o);
+    weigh(s, row, v, out + at, t, w, hd, e);
     ok
 }
 
@@ -148,10 +153,26 @@ pub(crate) fn attend_token(
     ensures { λ r. ⌜ blank zero32 row t (now (s .exit)) ≡ put (blank zero32 row t (now (s .entry))) (out + i * (heads * hd))
         (tokenSums t heads hd scaling (region (now (s .entry)) q (t * (heads * hd))) (keysOf t (heads * hd) (region (now (s .entry)) k (t * (heads * hd)))) (region (now (s .entry)) v (t * (heads * hd))) i) ⌝ }
 {
+    let dim = heads * hd;
     let mut ok = true;
     let mut h = 0usize;
     while h < heads {
-        let fine = attend_head(s, q, k, v, row, out, t, heads, hd, i, h, scaling);
+        let fine = attend_head(
+            s,
+            q,
+            k,
+            v,
+            row,
+            out,
+            t,
+            heads,
+            hd,
+            i,
+            h,
+            scaling,
+            dim,
+            h * hd,
+        );
         ok = ok & fine;
         h += 1;
     }
@@ -171,7 +192,7 @@ pub(crate) fn attend_tokens(
     hd: usize,
     scaling: f32,
 ) -> bool
-    requires { ⌜ AttendFits (length (now s)) q k v row out t heads hd ⌝ }
+    requires { ⌜ AttendFits (length (now s)) q k v (t * (heads * hd)) row out t heads hd ⌝ }
     ensures { λ r. ⌜ r ≡ sound (scoresOf t heads hd scaling (region (now (s .entry)) q (t * (heads * hd))) (keysOf t (heads * hd) (region (now (s .entry)) k (t * (heads * hd))))) ⌝ }
     ensures { λ r. ⌜ blank zero32 row t (now (s .exit)) ≡ put (blank zero32 row t (now (s .entry))) out
         (attentionOf t heads hd scaling (region (now (s .entry)) q (t * (heads * hd))) (keysOf t (heads * hd) (region (now (s .entry)) k (t * (heads * hd)))) (region (now (s .entry)) v (t * (heads * hd)))) ⌝ }
@@ -210,6 +231,37 @@ pub(crate) fn turn_keys(s: &mut [f32], k: usize, kt: usize, t: usize, dim: usize
     }
 }
 
+// Every query, once the keys stand turned at kt. Where k's place is free it takes a head's values and its scores, and
+// the keys are turned back at the end.
+pub(crate) fn attend_turned(
+    s: &mut [f32],
+    q: usize,
+    k: usize,
+    v: usize,
+    kt: usize,
+    row: usize,
+    out: usize,
+    t: usize,
+    heads: usize,
+    hd: usize,
+    scaling: f32,
+) -> bool
+    requires { ⌜ KeysFit (length (now s)) q k v kt row out t heads hd
+        × (region (now s) k (t * (heads * hd)) ≡ keysOf t (heads * hd) (region (now s) kt (t * (heads * hd)))) ⌝ }
+    ensures { λ r. ⌜ r ≡ sound (scoresOf t heads hd scaling (region (now (s .entry)) q (t * (heads * hd))) (keysOf t (heads * hd) (region (now (s .entry)) kt (t * (heads * hd))))) ⌝ }
+    ensures { λ r. ⌜ blank zero32 row t (now (s .exit)) ≡ put (blank zero32 row t (now (s .entry))) out
+        (attentionOf t heads hd scaling (region (now (s .entry)) q (t * (heads * hd))) (keysOf t (heads * hd) (region (now (s .entry)) kt (t * (heads * hd)))) (region (now (s .entry)) v (t * (heads * hd)))) ⌝ }
+{
+    let dim = heads * hd;
+    let n = t * dim;
+    if spare(q, k, v, out, n, heads, hd) {
+        let ok = attend_heads(s, q, kt, v, k, out, t, heads, hd, scaling);
+        turn_keys(s, kt, k, dim, t);
+        return ok;
+    }
+    attend_tokens(s, q, kt, v, row, out, t, heads, hd, scaling)
+}
+
 // Every query: its sums at out. Says whether all fits and every scaled score was finite; the keys then stand turned at
 // kt, and the score row is +0.
 pub fn attend(
@@ -234,7 +286,7 @@ pub fn attend(
 {
     if attend_fits(s.len(), q, k, v, kt, row, out, t, heads, hd) {
         turn_keys(s, k, kt, t, heads * hd);
-        let ok = attend_tokens(s, q, kt, v, row, out, t, heads, hd, scaling);
+        let ok = attend_turned(s, q, k, v, kt, row, out, t, heads, hd, scaling);
         clear_at(s, row, t);
         return ok;
     }

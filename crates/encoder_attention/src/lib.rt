@@ -1,4 +1,5 @@
 // Attention, with one score row for the source's matrix of scores.
 pub mod attention;
+mod heads;
 mod room;
 mod soften;

@@ -1,6 +1,6 @@
 // Whether what the attention is handed fits. No test forms a number that could wrap.
 ghost use mathlib.Core.Path.{_≡_};
-ghost use Rattle.encoder_attention.specs.inner.Room.{threeAside, placesFit, attendFits};
+ghost use Rattle.encoder_attention.specs.inner.Room.{threeAside, placesFit, attendFits, spareFits};
 use buffers::room::aside;
 use buffers::room::inside;
 use buffers::room::rows_inside;
@@ -52,4 +52,19 @@ pub(crate) fn attend_fits(
         }
     }
     false
+}
+
+// Whether the n floats at k have room for a head's values and two score rows, once the keys are turned.
+pub(crate) fn spare(
+    q: usize,
+    k: usize,
+    v: usize,
+    out: usize,
+    n: usize,
+    heads: usize,
+    hd: usize,
+) -> bool
+    ensures { λ r. ⌜ r ≡ spareFits q k v out n heads hd ⌝ }
+{
+    ((2 <= heads) & (2 <= hd)) & three_aside(q, v, out, n, k, n)
 }

@@ -1,6 +1,7 @@
 -- Whether what the attention is handed fits. Assumes nothing.
 use mathlib.Core.Bool.{Bool, _&&_}
 use Prim.Native.Nat.{ℕ, _*_}
+use lib.Dec.{leb}
 use Rattle.buffers.specs.inner.Room.{inside, aside}
 
 -- n floats at each of q, k and v lie apart from the m at at
@@ -18,3 +19,7 @@ unfoldable pub attendFits : ℕ → ℕ → ℕ → ℕ → ℕ → ℕ → ℕ 
 attendFits len q k v kt row out t heads hd =
     inside len 0 (heads * hd) && (inside len q (t * (heads * hd)) && (placesFit len q kt v row out t (t * (heads * hd))
     && (inside len k (t * (heads * hd)) && threeAside q k v (t * (heads * hd)) kt (t * (heads * hd)))))
+
+-- the n floats at k lie apart from queries, values and sums, and there is room in them for a head's values and two rows
+unfoldable pub spareFits : ℕ → ℕ → ℕ → ℕ → ℕ → ℕ → ℕ → Bool
+spareFits q k v out n heads hd = (leb 2 heads && leb 2 hd) && threeAside q v out n k n

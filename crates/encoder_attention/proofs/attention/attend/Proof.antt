@@ -6,7 +6,7 @@ use borrow.Author.Needs.{needs}
 use lib.ListN.{length}
 use Rattle.buffers.proofs.Rooms.{written}
 use Rattle.encoder_kernels.specs.Finite.{sound}
-use Rattle.encoder_attention.proofs.Keys.{same-scores, same-left}
+use Rattle.encoder_attention.proofs.Keys.{stands, same-scores, same-left}
 use Rattle.encoder_attention.proofs.Rooms.{attend-says}
 use Rattle.encoder_attention.proofs.attention.attend.Statement.{statement}
 use Rattle.encoder_attention.proofs.attention.attend.Tie as tie
@@ -20,8 +20,12 @@ mul-turn-keys c = omega (arith, attend-says (sym (c .before .before .attend-fits
 turn-keys-requires : tie.Need-turn-keys-requires
 turn-keys-requires c κs = attend-says (sym (c .before .before .attend-fits .ensures) ∙ c .before .if1 .taken) .turn
 
-attend-tokens-requires : tie.Need-attend-tokens-requires
-attend-tokens-requires c κs = rw (c .before .before .before .turn-keys .kept .0) (attend-says (sym (c .before .before .before .before .before .before .attend-fits .ensures) ∙ c .before .before .before .before .before .if1 .taken) .turned)
+attend-turned-requires : tie.Need-attend-turned-requires
+attend-turned-requires c κs =
+    let a = c .before .before .before .before .before .before .before .before .args in
+    let k = c .before .before .before .turn-keys in
+    let f = attend-says (sym (c .before .before .before .before .before .before .attend-fits .ensures) ∙ c .before .before .before .before .before .if1 .taken) in
+    (rw (k .kept .0) f, stands (a .s .now) (k .last .0) (a .q) (a .k) (a .v) (a .kt) (a .row) (a .out) (a .t) (a .heads) (a .hd) f (k .ensures))
 
 clear-at-requires : tie.Need-clear-at-requires
 clear-at-requires c κs = search needs
@@ -35,7 +39,7 @@ returns c =
     let t = sym (c .before .before .before .before .before .before .before .before .before .before .before .before .before .attend-fits .ensures) ∙ c .before .before .before .before .before .before .before .before .before .before .before .before .if1 .taken in
     let f = attend-says t in
     let k = c .before .before .before .before .before .before .before .before .before .before .turn-keys in
-    let m = c .before .before .before .before .before .before .attend-tokens in
+    let m = c .before .before .before .before .before .before .attend-turned in
     let w = c .before .before .clear-at in
     let S = same-scores (a .s .now) (k .last .0) (a .q) (a .k) (a .v) (a .kt) (a .row) (a .out) (a .t) (a .heads) (a .hd) f (k .ensures) (a .scaling) in
     let x = written (m .last .0) (w .last .0) _ (a .row) (a .t) (rw (m .kept .0 ∙ k .kept .0) (f .turned .rowIn)) (w .ensures) in
@@ -52,7 +56,7 @@ attend-spec =
     attend-fits-requires
     mul-turn-keys
     turn-keys-requires
-    attend-tokens-requires
+    attend-turned-requires
     clear-at-requires
     same-length
     returns

@@ -68,19 +68,19 @@ weigh-requires : tie.Need-weigh-requires
 weigh-requires c κs = search needs
 
 -- the values and the place of the sums, as `weigh` asks
-weighed : {len q k v row out t heads hd i h : ℕ} → HeadAt len q k v row out t heads hd i h
-    → WeighFits len row v (out + (i * (heads * hd) + h * hd)) t (heads * hd) hd (h * hd)
-weighed {len} {q} {k} {v} {row} {out} {t} {heads} {hd} {i} {h} g =
-    let w = g .fits in
+weighed : {len q k v row out t heads hd i h w e : ℕ} → HeadAt len q k v row out t heads hd i h w e
+    → WeighFits len row v (out + (i * (heads * hd) + h * hd)) t w hd e
+weighed {len} {q} {k} {v} {row} {out} {t} {heads} {hd} {i} {h} {w} {e} g =
+    let x = g .fits in
     let f = fit hd (g .head) in
     let f′ = fit (heads * hd) (g .token) in
     record {
-      vIn = w .vIn;
-      rowIn = w .rowIn;
-      outIn = omega (arith, w .outIn);
-      oIn = f;
-      rowout = apart-sym (apart-sub (w .outrow) (omega arith) (omega arith) (omega arith) (omega arith));
-      vout = apart-sub (w .vout) (omega arith) (omega arith) (omega arith) (omega arith);
+      vIn = x .vIn;
+      rowIn = x .rowIn;
+      outIn = omega (arith, x .outIn);
+      oIn = g .place;
+      rowout = apart-sym (apart-sub (x .outrow) (omega arith) (omega arith) (omega arith) (omega arith));
+      vout = apart-sub (x .vout) (omega arith) (omega arith) (omega arith) (omega arith);
     }
 
 same-length : tie.Need-same-length
@@ -95,7 +95,7 @@ returns c =
     let w = c .before .before .weigh in
     let l : length (so .last .0) ≡ length (a .s .now) = so .kept .0 ∙ sc .kept .0 in
     let f = weigh-fits (weighed (k .pre)) in
-    let r = head-run (a .s .now) (a .q) (a .k) (a .v) (a .row) (a .out) (a .t) (a .heads) (a .hd) (a .scaling) (a .i) (a .h) (k .pre)
+    let r = head-run (a .s .now) (a .q) (a .k) (a .v) (a .row) (a .out) (a .t) (a .heads) (a .hd) (a .scaling) (a .w) (a .e) (a .i) (a .h) (k .pre)
     (sc .last .0) (so .last .0) (w .last .0) (sc .ensures) (so .ensures) (rw (l, f) at (w .ensures)) in
     (c .before .before .before .before .before .before .before .before .finite .ensures ∙ ap sound (c .before .before .before .before .before .before .before .before .before .part .ensures ∙ r .0), r .1)
 

@@ -7,6 +7,7 @@ use lib.ListN.{length}
 use Rattle.buffers.specs.Region.{put}
 use Rattle.number_floats.specs.Constants.{zero32}
 use Rattle.buffers.specs.Rows.{rows}
+use Rattle.buffers.proofs.Lists.{fit}
 use Rattle.encoder_attention.specs.Attention.{tokenScores, tokenSums}
 use Rattle.buffers.specs.Each.{blank}
 use Rattle.encoder_kernels.specs.Finite.{sound}
@@ -15,21 +16,27 @@ use Rattle.encoder_attention.proofs.attention.attend_token.Statement.{s
 use Rattle.encoder_attention.proofs.attention.attend_token.Tie as tie
 
 abbrev Inv-loop : tie.InvT-loop
-Inv-loop s₀ q k v row out t heads hd i scaling ok₀ h₀ s ok h =
+Inv-loop s₀ q k v row out t heads hd i scaling dim ok₀ h₀ s ok h =
     (h ≤ heads) × (length s ≡ length s₀) × (ok ≡ sound (rows h (scoresAt s₀ q k v row out t heads hd scaling i)))
     × (blank zero32 row t s ≡ put (blank zero32 row t s₀) (out + i * (heads * hd)) (rows h (sumsAt s₀ q k v row out t heads hd scaling i)))
 
 abbrev μ-loop : tie.MeasureT-loop
-μ-loop s₀ q k v row out t heads hd i scaling ok₀ h₀ s ok h = heads - h
+μ-loop s₀ q k v row out t heads hd i scaling dim ok₀ h₀ s ok h = heads - h
+
+mul-dim : tie.Need-mul-dim Inv-loop μ-loop
+mul-dim c = omega (arith, c .before .pre .fits .dimIn)
 
 loop-holds : tie.Need-loop-holds Inv-loop μ-loop
 unfolding rows put sound
 loop-holds c = (omega arith, refl, refl, refl)
 
+mul-attend-head : tie.Need-mul-attend-head Inv-loop μ-loop
+mul-attend-head c = let k = c .before .before .before .before in omega (arith, fit (k .args .hd) (c .before .loop-test .taken), k .pre .fits .dimIn)
+
 attend-head-requires : tie.Need-attend-head-requires Inv-loop μ-loop
 attend-head-requires c κs =
     let g = c .before .before .before .before .pre in
-    record { fits = rw (c .before .before .loop .inv .1) (g .fits); token = g .token; head = c .before .loop-test .taken }
+    record { fits = rw (c .before .before .loop .inv .1) (g .fits); token = g .token; head = c .before .loop-test .taken; place = fit (c .before .before .before .before .args .hd) (c .before .loop-test .taken) }
 
 add-h : tie.Need-add-h Inv-loop μ-loop
 add-h c = search needs
@@ -44,7 +51,7 @@ loop-again c =
     let g = c .before .before .before .before .before .before .before .pre in
     let e = c .before .before .attend-head .ensures in
     let r = token-turn (a .s .now) (a .q) (a .k) (a .v) (a .row) (a .out) (a .t) (a .heads) (a .hd) (a .scaling) (a .i) (l .h)
-    (record { fits = g .fits; token = g .token; head = c .before .before .before .before .loop-test .taken }) (l .s) (c .before .before .attend-head .last .0) (l .ok) (c .before .before .attend-head .result) (l .inv .2) (l .inv .3) (e .0) (e .1) in
+    (record { fits = g .fits; token = g .token; head = c .before .before .before .before .loop-test .taken; place = fit (a .hd) (c .before .before .before .before .loop-test .taken) }) (l .s) (c .before .before .attend-head .last .0) (l .ok) (c .before .before .attend-head .result) (l .inv .2) (l .inv .3) (e .0) (e .1) in
     (omega arith, c .before .before .attend-head .kept .0 ∙ l .inv .1, r .0, r .1)
 
 same-length : tie.Need-same-length Inv-loop μ-loop
@@ -66,7 +73,9 @@ attend-token-spec =
     (tie.spec
     Inv-loop
     μ-loop
+    mul-dim
     loop-holds
+    mul-attend-head
     attend-head-requires
     add-h
     loop-less
