@@ -16,14 +16,14 @@ use Rattle.buffers.specs.inner.Apart.{Apart}
 use Rattle.buffers.proofs.Regions.{put-put, region-put, region-put-same, region-region, length-region, apart-sub}
 use Rattle.buffers.proofs.Lists.{fit, length-tab, length-rows, put-rows}
 use Rattle.buffers.specs.Each.{blank}
-use Rattle.encoder_kernels.specs.Finite.{sound}
+use Rattle.encoder_kernels.specs.Finite.{allFinite}
 use Rattle.encoder_attention.specs.Attention.{scoreRow, expLess, scaled, softened, softmaxOf, headScores, headSums, tokenScores, tokenSums, attentionOf}
 use Rattle.encoder_linear.specs.Weighed.{weighedRow}
 use Rattle.encoder_attention.specs.inner.Keys.{keysOf}
 use Rattle.encoder_attention.proofs.Keys.{turned-scores}
 use Rattle.encoder_attention.specs.inner.Fits.{AttendFits, HeadAt, TokenAt}
 use Rattle.buffers.proofs.Steps.{blank-same, blank-put, blank-rest}
-use Rattle.encoder_kernels.proofs.Finites.{sound-append}
+use Rattle.encoder_kernels.proofs.Finites.{all-finite-append}
 use Rattle.encoder_linear.proofs.Sums.{length-weighed}
 
 pub length-scoreRow : (t dim hd o : ℕ) (scaling : Float) (q k : List Float) → length (scoreRow t dim hd o scaling q k) ≡ t
@@ -138,23 +138,23 @@ module _ (s : List Float) (q k v row out t heads hd : ℕ) (sc : Float) where
         v-same = seen v y m u ys l e (w .vrow) (apart-sub (w .vout) (omega arith) (omega arith) a b);
       }
 
-  pub sound-more : (c : ℕ) (f : ℕ → List Float) → sound (rows (c + 1) f) ≡ sound (rows c f) && sound (f c)
+  pub all-finite-more : (c : ℕ) (f : ℕ → List Float) → allFinite (rows (c + 1) f) ≡ allFinite (rows c f) && allFinite (f c)
   unfolding rows
-  sound-more c f = rw (add-one, sound-append)
+  all-finite-more c f = rw (add-one, all-finite-append)
 
-  pub token-turn : (i h : ℕ) → HeadAt (length s) q k v row out t heads hd i h dim (h * hd) → (u u′ : List Float) (ok fine : Bool)
-      → ok ≡ sound (rows h (scoresAt i))
+  pub token-turn : (i h : ℕ) → HeadAt (length s) q k v row out t heads hd i h dim (h * hd) → (u u′ : List Float) (ok here : Bool)
+      → ok ≡ allFinite (rows h (scoresAt i))
       → blank zero32 row t u ≡ put (blank zero32 row t s) (out + i * dim) (rows h (sumsAt i))
-      → fine ≡ sound (headScores t dim hd sc (region u q n) (keysOf t dim (region u k n)) i (h * hd))
+      → here ≡ allFinite (headScores t dim hd sc (region u q n) (keysOf t dim (region u k n)) i (h * hd))
       → blank zero32 row t u′ ≡ put (blank zero32 row t u) (out + (i * dim + h * hd)) (headSums t dim hd sc (region u q n) (keysOf t dim (region u k n)) (region u v n) i (h * hd))
-      → (ok && fine ≡ sound (rows (h + 1) (scoresAt i)))
+      → (ok && here ≡ allFinite (rows (h + 1) (scoresAt i)))
       × (blank zero32 row t u′ ≡ put (blank zero32 row t s) (out + i * dim) (rows (h + 1) (sumsAt i)))
-  token-turn i h g u u′ ok fine a b c d =
+  token-turn i h g u u′ ok here a b c d =
       let f = inside i h (g .token) (g .head) in
       let l = length-rows (sumsAt i) hd (length-sumsAt i) h in
       let z = all-seen (out + i * dim) (h * hd) u (rows h (sumsAt i)) l b (g .fits) (omega arith) (omega arith) in
       let p : out + (i * dim + h * hd) ≡ out + i * dim + h * hd = omega arith in (
-        rw (sound-more h (scoresAt i), a, c, z .q-same, z .k-same),
+        rw (all-finite-more h (scoresAt i), a, c, z .q-same, z .k-same),
         rw (d, z .q-same, z .k-same, z .v-same, b, p) (put-rows (sumsAt i) hd (length-sumsAt i) (blank zero32 row t s) (out + i * dim) h),
       )
 
@@ -164,17 +164,17 @@ module _ (s : List Float) (q k v row out t heads hd : ℕ) (sc : Float) where
   length-tokenAt : (i : ℕ) → length (tokenAt i) ≡ dim
   length-tokenAt i = length-tokenSums t heads hd sc qs ks vs i
 
-  pub attend-turn : (i : ℕ) → TokenAt (length s) q k v row out t heads hd i → (u u′ : List Float) (ok fine : Bool)
-      → ok ≡ sound (rows i (λ j. tokenScores t heads hd sc qs ks j))
+  pub attend-turn : (i : ℕ) → TokenAt (length s) q k v row out t heads hd i → (u u′ : List Float) (ok here : Bool)
+      → ok ≡ allFinite (rows i (λ j. tokenScores t heads hd sc qs ks j))
       → blank zero32 row t u ≡ put (blank zero32 row t s) out (rows i tokenAt)
-      → fine ≡ sound (tokenScores t heads hd sc (region u q n) (keysOf t dim (region u k n)) i)
+      → here ≡ allFinite (tokenScores t heads hd sc (region u q n) (keysOf t dim (region u k n)) i)
       → blank zero32 row t u′ ≡ put (blank zero32 row t u) (out + i * dim) (tokenSums t heads hd sc (region u q n) (keysOf t dim (region u k n)) (region u v n) i)
-      → (ok && fine ≡ sound (rows (i + 1) (λ j. tokenScores t heads hd sc qs ks j)))
+      → (ok && here ≡ allFinite (rows (i + 1) (λ j. tokenScores t heads hd sc qs ks j)))
       × (blank zero32 row t u′ ≡ put (blank zero32 row t s) out (rows (i + 1) tokenAt))
-  attend-turn i g u u′ ok fine a b c d =
+  attend-turn i g u u′ ok here a b c d =
       let f = fit dim (g .token) in
       let l = length-rows tokenAt dim length-tokenAt i in
       let z = all-seen out (i * dim) u (rows i tokenAt) l b (g .fits) (omega arith) (omega arith) in (
-        rw (sound-more i (λ j. tokenScores t heads hd sc qs ks j), a, c, z .q-same, z .k-same),
+        rw (all-finite-more i (λ j. tokenScores t heads hd sc qs ks j), a, c, z .q-same, z .k-same),
         rw (d, z .q-same, z .k-same, z .v-same, b) (put-rows tokenAt dim length-tokenAt (blank zero32 row t s) out i),
       )

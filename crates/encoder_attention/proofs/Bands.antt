@@ -15,8 +15,8 @@ use Rattle.buffers.specs.inner.Apart.{Apart, before}
 use Rattle.buffers.proofs.Regions.{put-append, put-put, put-comm, put-split, region-put, length-region, apart-sym}
 use Rattle.buffers.proofs.Lists.{fit, length-tab, tab-add, length-rows}
 use Rattle.buffers.proofs.Steps.{blank-region}
-use Rattle.encoder_kernels.specs.Finite.{sound}
-use Rattle.encoder_kernels.proofs.Finites.{sound-append}
+use Rattle.encoder_kernels.specs.Finite.{allFinite}
+use Rattle.encoder_kernels.proofs.Finites.{all-finite-append}
 
 module _ {A : Type 0} where
   -- a write apart from the pieces may come before them
@@ -127,16 +127,16 @@ unfolding all
 all-swap zero m f = all-true m
 all-swap (suc n) m f = ap (λ b. b && all m (f n)) (all-swap n m f) ∙ all-and m (λ j. all n (λ i. f i j)) (f n)
 
-sound-rows : (n : ℕ) (f : ℕ → List Float) → sound (rows n f) ≡ all n (λ i. sound (f i))
-unfolding rows all sound
-sound-rows zero f = refl
-sound-rows (suc n) f = sound-append (rows n f) (f n) ∙ ap (λ b. b && sound (f n)) (sound-rows n f)
+all-finite-rows : (n : ℕ) (f : ℕ → List Float) → allFinite (rows n f) ≡ all n (λ i. allFinite (f i))
+unfolding rows all allFinite
+all-finite-rows zero f = refl
+all-finite-rows (suc n) f = all-finite-append (rows n f) (f n) ∙ ap (λ b. b && allFinite (f n)) (all-finite-rows n f)
 
-sounds : (n m : ℕ) (f : ℕ → ℕ → List Float) → sound (rows n (λ i. rows m (f i))) ≡ all n (λ i. all m (λ j. sound (f i j)))
-unfolding rows all sound
-sounds zero m f = refl
-sounds (suc n) m f = sound-append (rows n (λ i. rows m (f i))) (rows m (f n)) ∙ rw (sounds n m f, sound-rows m (f n))
+all-finites : (n m : ℕ) (f : ℕ → ℕ → List Float) → allFinite (rows n (λ i. rows m (f i))) ≡ all n (λ i. all m (λ j. allFinite (f i j)))
+unfolding rows all allFinite
+all-finites zero m f = refl
+all-finites (suc n) m f = all-finite-append (rows n (λ i. rows m (f i))) (rows m (f n)) ∙ rw (all-finites n m f, all-finite-rows m (f n))
 
 -- all are finite whichever way they are gone through
-pub sound-turned : (n m : ℕ) (f : ℕ → ℕ → List Float) → sound (rows m (λ j. rows n (λ i. f i j))) ≡ sound (rows n (λ i. rows m (f i)))
-sound-turned n m f = sounds m n (λ j i. f i j) ∙ all-swap m n (λ j i. sound (f i j)) ∙ sym (sounds n m f)
+pub all-finite-turned : (n m : ℕ) (f : ℕ → ℕ → List Float) → allFinite (rows m (λ j. rows n (λ i. f i j))) ≡ allFinite (rows n (λ i. rows m (f i)))
+all-finite-turned n m f = all-finites m n (λ j i. f i j) ∙ all-swap m n (λ j i. allFinite (f i j)) ∙ sym (all-finites n m f)

@@ -8,7 +8,7 @@ use lib.Ieee.{Float}
 use Rattle.buffers.specs.Region.{region, put}
 use Rattle.number_floats.specs.Constants.{zero32}
 use Rattle.buffers.specs.Each.{blank}
-use Rattle.encoder_kernels.specs.Finite.{sound}
+use Rattle.encoder_kernels.specs.Finite.{allFinite}
 use Rattle.encoder_attention.specs.Attention.{scoresOf, attentionOf}
 use Rattle.encoder_attention.specs.inner.Keys.{turnedKeys}
 use Rattle.encoder_attention.specs.inner.Room.{attendFits}
@@ -16,7 +16,7 @@ use Rattle.number_floats.proofs.Unique.{one}
 
 abbrev pub Attends : List Float → ℕ → ℕ → ℕ → ℕ → ℕ → ℕ → ℕ → ℕ → ℕ → Float → Bool → List Float → Type 0
 Attends s q k v kt row out t heads hd scaling r s′ =
-    (r ≡ (attendFits (length s) q k v kt row out t heads hd && sound (scoresOf t heads hd scaling (region s q (t * (heads * hd))) (region s k (t * (heads * hd))))))
+    (r ≡ (attendFits (length s) q k v kt row out t heads hd && allFinite (scoresOf t heads hd scaling (region s q (t * (heads * hd))) (region s k (t * (heads * hd))))))
     × (s′ ≡ cond (attendFits (length s) q k v kt row out t heads hd) (put (blank zero32 row t (put s kt (turnedKeys t (heads * hd) (region s k (t * (heads * hd)))))) out (attentionOf t heads hd scaling (region s q (t * (heads * hd))) (region s k (t * (heads * hd))) (region s v (t * (heads * hd))))) s)
 
 pub attend-unique : (s : List Float) (q k v kt row out t heads hd : ℕ) (scaling : Float) (r r′ : Bool) (s′ s″ : List Float)

@@ -16,7 +16,7 @@ use Rattle.buffers.proofs.Regions.{region-put, region-put-same, apart-sub, apar
 use Rattle.buffers.proofs.Lists.{fit, length-tab, length-rows, tab-ext}
 use Rattle.buffers.proofs.Puts.{puts-ext, puts-step}
 use Rattle.number_floats.specs.Constants.{zero32}
-use Rattle.encoder_kernels.specs.Finite.{sound}
+use Rattle.encoder_kernels.specs.Finite.{allFinite}
 use Rattle.encoder_linear.specs.Linear.{sumOf}
 use Rattle.encoder_linear.specs.Weighed.{columnOf, weighedRow}
 use Rattle.encoder_linear.proofs.Sums.{sum-ext, length-weighed}
@@ -25,7 +25,7 @@ use Rattle.encoder_attention.specs.Attention.{softmaxOf, headScores}
 use Rattle.encoder_attention.specs.inner.Keys.{keysOf}
 use Rattle.encoder_attention.specs.inner.Values.{headValues}
 use Rattle.encoder_attention.specs.inner.Fits.{QueriesAt, HeadsFit}
-use Rattle.encoder_attention.proofs.Attends.{sumsAt, scoresAt, length-sumsAt, sound-more}
+use Rattle.encoder_attention.proofs.Attends.{sumsAt, scoresAt, length-sumsAt, all-finite-more}
 use Rattle.encoder_attention.proofs.Bands.{puts-put, puts-seen, puts-more, blank-in}
 
 pub length-values : (t dim hd o : ℕ) (v : List Float) → length (headValues t dim hd o v) ≡ t * hd
@@ -57,14 +57,14 @@ module _ (s : List Float) (q k v row out t heads hd h : ℕ) (sc : Float) where
   length-summed : (i : ℕ) → length (summed i) ≡ hd
   length-summed i = length-weighed t hd hd 0 (softmaxOf t (scored i)) (region s v (t * hd))
 
-  pub queries-turn : QueriesAt (length s) q k v row out t heads hd h → (i : ℕ) → i < t → (u u′ : List Float) (ok fine : Bool)
-      → ok ≡ sound (rows i scored)
+  pub queries-turn : QueriesAt (length s) q k v row out t heads hd h → (i : ℕ) → i < t → (u u′ : List Float) (ok here : Bool)
+      → ok ≡ allFinite (rows i scored)
       → blank zero32 row t u ≡ putRows (blank zero32 row t s) i goes summed
-      → fine ≡ sound (headScores t (heads * hd) hd sc (region u q (t * (heads * hd))) (keysOf t (heads * hd) (region u k (t * (heads * hd)))) i (h * hd))
+      → here ≡ allFinite (headScores t (heads * hd) hd sc (region u q (t * (heads * hd))) (keysOf t (heads * hd) (region u k (t * (heads * hd)))) i (h * hd))
       → blank zero32 row t u′ ≡ put (blank zero32 row t u) (goes i) (weighedRow t hd hd 0
       (softmaxOf t (headScores t (heads * hd) hd sc (region u q (t * (heads * hd))) (keysOf t (heads * hd) (region u k (t * (heads * hd)))) i (h * hd))) (region u v (t * hd)))
-      → (ok && fine ≡ sound (rows (i + 1) scored)) × (blank zero32 row t u′ ≡ putRows (blank zero32 row t s) (i + 1) goes summed)
-  queries-turn w i l u u′ ok fine a b c d =
+      → (ok && here ≡ allFinite (rows (i + 1) scored)) × (blank zero32 row t u′ ≡ putRows (blank zero32 row t s) (i + 1) goes summed)
+  queries-turn w i l u u′ ok here a b c d =
       let f′ = fit hd (w .head) in
       let seen : (x m : ℕ) → Apart x m row t → Apart x m out (t * (heads * hd)) → region u x m ≡ region s x m =
       λ x m ar ao. puts-seen zero32 row t s u goes summed i x m b ar
@@ -74,7 +74,7 @@ module _ (s : List Float) (q k v row out t heads hd h : ℕ) (sc : Float) where
       let q₁ = seen q (t * (heads * hd)) (x .qrow) (x .qout) in
       let k₁ = seen k (t * (heads * hd)) (x .krow) (x .kout) in
       let v₁ = seen v (t * hd) (x .vrow) (x .vout) in (
-        rw (sound-more s q k v row out t heads hd sc i scored, a, c, q₁, k₁),
+        rw (all-finite-more s q k v row out t heads hd sc i scored, a, c, q₁, k₁),
         rw (d, q₁, k₁, v₁, b) (puts-step (blank zero32 row t s) goes summed i),
       )
 
@@ -125,17 +125,17 @@ module _ (s : List Float) (q k v g out t heads hd : ℕ) (sc : Float) (w : Heads
       let f = fit dim m in
       rw (length-rows (F i) hd (length-sumsAt s q k v g out t heads hd sc i) h) (apart-sub a (omega arith) (omega arith) (omega arith) (omega arith))
 
-  pub heads-turn : (h : ℕ) → h < heads → (u u₁ u₂ : List Float) (ok fine : Bool)
-      → ok ≡ sound (rows h (λ j. rows t (λ i. S i j)))
+  pub heads-turn : (h : ℕ) → h < heads → (u u₁ u₂ : List Float) (ok here : Bool)
+      → ok ≡ allFinite (rows h (λ j. rows t (λ i. S i j)))
       → blank zero32 g n u ≡ putRows (blank zero32 g n s) t (λ i. out + i * dim) (λ i. rows h (F i))
       → length u ≡ length s
       → u₁ ≡ put u g (headValues t dim hd (h * hd) (region u v n))
-      → fine ≡ sound (rows t (λ i. headScores t dim hd sc (region u₁ q n) (keysOf t dim (region u₁ k n)) i (h * hd)))
+      → here ≡ allFinite (rows t (λ i. headScores t dim hd sc (region u₁ q n) (keysOf t dim (region u₁ k n)) i (h * hd)))
       → blank zero32 row t u₂ ≡ putRows (blank zero32 row t u₁) t (λ i. out + (i * dim + h * hd))
       (λ i. weighedRow t hd hd 0 (softmaxOf t (headScores t dim hd sc (region u₁ q n) (keysOf t dim (region u₁ k n)) i (h * hd))) (region u₁ g (t * hd)))
-      → (ok && fine ≡ sound (rows (h + 1) (λ j. rows t (λ i. S i j))))
+      → (ok && here ≡ allFinite (rows (h + 1) (λ j. rows t (λ i. S i j))))
       × (blank zero32 g n u₂ ≡ putRows (blank zero32 g n s) t (λ i. out + i * dim) (λ i. rows (h + 1) (F i)))
-  heads-turn h l u u₁ u₂ ok fine a b c d e z =
+  heads-turn h l u u₁ u₂ ok here a b c d e z =
       let o = h * hd in
       let H = headValues t dim hd o (region u v n) in
       let lh = length-values t dim hd o (region u v n) in
@@ -166,7 +166,7 @@ module _ (s : List Float) (q k v g out t heads hd : ℕ) (sc : Float) (w : Heads
       λ i m. let f = fit dim m in
       rw (length-weighed t hd hd 0 (softmaxOf t (headScores t dim hd sc (region u₁ q n) (keysOf t dim (region u₁ k n)) i o)) (region u₁ g (t * hd)), ln)
       (apart-sub (w .outg) (omega arith) (omega arith) (omega arith) (omega arith)) in (
-        rw (sound-more s q k v g out t heads hd sc h (λ j. rows t (λ i. S i j)), a, e, q₁, k₁),
+        rw (all-finite-more s q k v g out t heads hd sc h (λ j. rows t (λ i. S i j)), a, e, q₁, k₁),
         sym (rowed u₂)
             ∙ ap (blank zero32 g n) z
             ∙ sym (puts-put (blank zero32 row t u₁) at G t g N outs)

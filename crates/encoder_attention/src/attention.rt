@@ -8,7 +8,7 @@ ghost use lib.Ieee.{lt, nan};
 ghost use Rattle.buffers.specs.Region.{region, put};
 ghost use Rattle.number_floats.specs.Constants.{zero32};
 ghost use Rattle.buffers.specs.Each.{blank};
-ghost use Rattle.encoder_kernels.specs.Finite.{sound};
+ghost use Rattle.encoder_kernels.specs.Finite.{allFinite};
 ghost use Rattle.encoder_linear.specs.inner.Lanes.{spread};
 ghost use Rattle.encoder_linear.specs.Weighed.{weighedRow};
 ghost use Rattle.encoder_linear.specs.inner.Fits.{WeighFits};
@@ -120,7 +120,7 @@ pub(crate) fn attend_head(
     e: usize,
 ) -> bool
     requires { ⌜ HeadAt (length (now s)) q k v row out t heads hd i h w e ⌝ }
-    ensures { λ r. ⌜ r ≡ sound (headScores t (heads * hd) hd scaling (region (now (s .entry)) q (t * (heads * hd))) (keysOf t (heads * hd) (region (now (s .entry)) k (t * (heads * hd)))) i (h * hd)) ⌝ }
+    ensures { λ r. ⌜ r ≡ allFinite (headScores t (heads * hd) hd scaling (region (now (s .entry)) q (t * (heads * hd))) (keysOf t (heads * hd) (region (now (s .entry)) k (t * (heads * hd)))) i (h * hd)) ⌝ }
     ensures { λ r. ⌜ blank zero32 row t (now (s .exit)) ≡ put (blank zero32 row t (now (s .entry))) (out + (i * (heads * hd) + h * hd))
         (weighedRow t w hd e (softmaxOf t (headScores t (heads * hd) hd scaling (region (now (s .entry)) q (t * (heads * hd))) (keysOf t (heads * hd) (region (now (s .entry)) k (t * (heads * hd)))) i (h * hd))) (region (now (s .entry)) v (t * w))) ⌝ }
 {
@@ -149,7 +149,7 @@ pub(crate) fn attend_token(
     scaling: f32,
 ) -> bool
     requires { ⌜ TokenAt (length (now s)) q k v row out t heads hd i ⌝ }
-    ensures { λ r. ⌜ r ≡ sound (tokenScores t heads hd scaling (region (now (s .entry)) q (t * (heads * hd))) (keysOf t (heads * hd) (region (now (s .entry)) k (t * (heads * hd)))) i) ⌝ }
+    ensures { λ r. ⌜ r ≡ allFinite (tokenScores t heads hd scaling (region (now (s .entry)) q (t * (heads * hd))) (keysOf t (heads * hd) (region (now (s .entry)) k (t * (heads * hd)))) i) ⌝ }
     ensures { λ r. ⌜ blank zero32 row t (now (s .exit)) ≡ put (blank zero32 row t (now (s .entry))) (out + i * (heads * hd))
         (tokenSums t heads hd scaling (region (now (s .entry)) q (t * (heads * hd))) (keysOf t (heads * hd) (region (now (s .entry)) k (t * (heads * hd)))) (region (now (s .entry)) v (t * (heads * hd))) i) ⌝ }
 {
@@ -157,7 +157,7 @@ pub(crate) fn attend_token(
     let mut ok = true;
     let mut h = 0usize;
     while h < heads {
-        let fine = attend_head(
+        let here = attend_head(
             s,
             q,
             k,
@@ -173,7 +173,7 @@ pub(crate) fn attend_token(
             dim,
             h * hd,
         );
-        ok = ok & fine;
+        ok = ok & here;
         h += 1;
     }
     ok
@@ -193,15 +193,15 @@ pub(crate) fn attend_tokens(
     scaling: f32,
 ) -> bool
     requires { ⌜ AttendFits (length (now s)) q k v (t * (heads * hd)) row out t heads hd ⌝ }
-    ensures { λ r. ⌜ r ≡ sound (scoresOf t heads hd scaling (region (now (s .entry)) q (t * (heads * hd))) (keysOf t (heads * hd) (region (now (s .entry)) k (t * (heads * hd))))) ⌝ }
+    ensures { λ r. ⌜ r ≡ allFinite (scoresOf t heads hd scaling (region (now (s .entry)) q (t * (heads * hd))) (keysOf t (heads * hd) (region (now (s .entry)) k (t * (heads * hd))))) ⌝ }
     ensures { λ r. ⌜ blank zero32 row t (now (s .exit)) ≡ put (blank zero32 row t (now (s .entry))) out
         (attentionOf t heads hd scaling (region (now (s .entry)) q (t * (heads * hd))) (keysOf t (heads * hd) (region (now (s .entry)) k (t * (heads * hd)))) (region (now (s .entry)) v (t * (heads * hd)))) ⌝ }
 {
     let mut ok = true;
     let mut i = 0usize;
     while i < t {
-        let fine = attend_token(s, q, k, v, row, out, t, heads, hd, i, scaling);
-        ok = ok & fine;
+        let here = attend_token(s, q, k, v, row, out, t, heads, hd, i, scaling);
+        ok = ok & here;
         i += 1;
     }
     ok
@@ -248,7 +248,7 @@ pub(crate) fn attend_turned(
 ) -> bool
     requires { ⌜ KeysFit (length (now s)) q k v kt row out t heads hd
         × (region (now s) k (t * (heads * hd)) ≡ keysOf t (heads * hd) (region (now s) kt (t * (heads * hd)))) ⌝ }
-    ensures { λ r. ⌜ r ≡ sound (scoresOf t heads hd scaling (region (now (s .entry)) q (t * (heads * hd))) (keysOf t (heads * hd) (region (now (s .entry)) kt (t * (heads * hd))))) ⌝ }
+    ensures { λ r. ⌜ r ≡ allFinite (scoresOf t heads hd scaling (region (now (s .entry)) q (t * (heads * hd))) (keysOf t (heads * hd) (region (now (s .entry)) kt (t * (heads * hd))))) ⌝ }
     ensures { λ r. ⌜ blank zero32 row t (now (s .exit)) ≡ put (blank zero32 row t (now (s .entry))) out
         (attentionOf t heads hd scaling (region (now (s .entry)) q (t * (heads * hd))) (keysOf t (heads * hd) (region (now (s .entry)) kt (t * (heads * hd)))) (region (now (s .entry)) v (t * (heads * hd)))) ⌝ }
 {
@@ -278,7 +278,7 @@ pub fn attend(
     scaling: f32,
 ) -> bool
     ensures { λ r. ⌜ r ≡ (attendFits (length (now (s .entry))) q k v kt row out t heads hd
-        && sound (scoresOf t heads hd scaling (region (now (s .entry)) q (t * (heads * hd))) (region (now (s .entry)) k (t * (heads * hd))))) ⌝ }
+        && allFinite (scoresOf t heads hd scaling (region (now (s .entry)) q (t * (heads * hd))) (region (now (s .entry)) k (t * (heads * hd))))) ⌝ }
     ensures { λ r. ⌜ now (s .exit) ≡ cond (attendFits (length (now (s .entry))) q k v kt row out t heads hd)
         (put (blank zero32 row t (put (now (s .entry)) kt (turnedKeys t (heads * hd) (region (now (s .entry)) k (t * (heads * hd)))))) out
         (attentionOf t heads hd scaling (region (now (s .entry)) q (t * (heads * hd))) (region (now (s .entry)) k (t * (heads * hd))) (region (now (s .entry)) v (t * (heads * hd)))))

@@ -8,7 +8,7 @@ ghost use Rattle.buffers.specs.Region.{region, put, putRows};
 ghost use Rattle.buffers.specs.Rows.{tab, rows};
 ghost use Rattle.buffers.specs.Each.{blank};
 ghost use Rattle.number_floats.specs.Constants.{zero32};
-ghost use Rattle.encoder_kernels.specs.Finite.{sound};
+ghost use Rattle.encoder_kernels.specs.Finite.{allFinite};
 ghost use Rattle.encoder_linear.specs.Weighed.{weighedRow};
 ghost use Rattle.encoder_attention.specs.Attention.{headScores, softmaxOf, scoresOf, attentionOf};
 ghost use Rattle.encoder_attention.specs.inner.Keys.{keysOf};
@@ -55,15 +55,15 @@ pub(crate) fn attend_queries(
     scaling: f32,
 ) -> bool
     requires { ⌜ QueriesAt (length (now s)) q k v row out t heads hd h ⌝ }
-    ensures { λ r. ⌜ r ≡ sound (rows t (λ i. headScores t (heads * hd) hd scaling (region (now (s .entry)) q (t * (heads * hd))) (keysOf t (heads * hd) (region (now (s .entry)) k (t * (heads * hd)))) i (h * hd))) ⌝ }
+    ensures { λ r. ⌜ r ≡ allFinite (rows t (λ i. headScores t (heads * hd) hd scaling (region (now (s .entry)) q (t * (heads * hd))) (keysOf t (heads * hd) (region (now (s .entry)) k (t * (heads * hd)))) i (h * hd))) ⌝ }
     ensures { λ r. ⌜ blank zero32 row t (now (s .exit)) ≡ putRows (blank zero32 row t (now (s .entry))) t (λ i. out + (i * (heads * hd) + h * hd))
         (λ i. weighedRow t hd hd 0 (softmaxOf t (headScores t (heads * hd) hd scaling (region (now (s .entry)) q (t * (heads * hd))) (keysOf t (heads * hd) (region (now (s .entry)) k (t * (heads * hd)))) i (h * hd))) (region (now (s .entry)) v (t * hd))) ⌝ }
 {
     let mut ok = true;
     let mut i = 0usize;
     while i < t {
-        let fine = attend_head(s, q, k, v, row, out, t, heads, hd, i, h, scaling, hd, 0);
-        ok = ok & fine;
+        let here = attend_head(s, q, k, v, row, out, t, heads, hd, i, h, scaling, hd, 0);
+        ok = ok & here;
         i += 1;
     }
     ok
@@ -83,7 +83,7 @@ pub(crate) fn attend_heads(
     scaling: f32,
 ) -> bool
     requires { ⌜ HeadsFit (length (now s)) q k v g out t heads hd ⌝ }
-    ensures { λ r. ⌜ r ≡ sound (scoresOf t heads hd scaling (region (now (s .entry)) q (t * (heads * hd))) (keysOf t (heads * hd) (region (now (s .entry)) k (t * (heads * hd))))) ⌝ }
+    ensures { λ r. ⌜ r ≡ allFinite (scoresOf t heads hd scaling (region (now (s .entry)) q (t * (heads * hd))) (keysOf t (heads * hd) (region (now (s .entry)) k (t * (heads * hd))))) ⌝ }
     ensures { λ r. ⌜ blank zero32 g (t * (heads * hd)) (now (s .exit)) ≡ put (blank zero32 g (t * (heads * hd)) (now (s .entry))) out
         (attentionOf t heads hd scaling (region (now (s .entry)) q (t * (heads * hd))) (keysOf t (heads * hd) (region (now (s .entry)) k (t * (heads * hd)))) (region (now (s .entry)) v (t * (heads * hd)))) ⌝ }
 {
@@ -93,8 +93,8 @@ pub(crate) fn attend_heads(
     let mut h = 0usize;
     while h < heads {
         gather(s, v, g, t, dim, hd, h * hd);
-        let fine = attend_queries(s, q, k, g, row, out, t, heads, hd, h, scaling);
-        ok = ok & fine;
+        let here = attend_queries(s, q, k, g, row, out, t, heads, hd, h, scaling);
+        ok = ok & here;
         h += 1;
     }
     ok

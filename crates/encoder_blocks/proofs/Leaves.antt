@@ -9,7 +9,7 @@ use lib.Ieee.{Float}
 use Rattle.buffers.proofs.Regions.{length-region}
 use Rattle.encoder_elements.specs.Element.{added, gated, rounded}
 use Rattle.encoder_elements.proofs.Lengths.{length-rounded}
-use Rattle.encoder_steps.specs.Run.{Run, stopped, went, fine, answer, ran, handed}
+use Rattle.encoder_steps.specs.Run.{Run, stopped, went, stagesFinite, answer, ran, handed}
 use Rattle.encoder_steps.proofs.Writes.{answer-went, then-went}
 use Rattle.encoder_steps.proofs.Fronts.{front-is}
 use Rattle.encoder_blocks.specs.declared.Sizes.{Sizes}
@@ -31,7 +31,7 @@ block-long z w cos sin h l e =
     let d = outerOf z "down" w a in
     let h′ = added (nOf z) (g .0) d in
     let b = rounded (nOf z) h′ in
-    ap length (sym (answer-went (fine true (x ∷ innerOf z "gate" w x ∷ innerOf z "up" w x ∷ a ∷ d ∷ h′ ∷ b ∷ [])) b l (g .1))) ∙ length-rounded (nOf z) h′
+    ap length (sym (answer-went (stagesFinite true (x ∷ innerOf z "gate" w x ∷ innerOf z "up" w x ∷ a ∷ d ∷ h′ ∷ b ∷ [])) b l (g .1))) ∙ length-rounded (nOf z) h′
 
 layers-long : (z : Sizes) (w cos sin : List Float) (n : ℕ) (h l : List Float) → length h ≡ nOf z → layersRun z w cos sin n h ≡ went l → length l ≡ nOf z
 unfolding layersRun

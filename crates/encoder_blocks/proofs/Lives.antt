@@ -16,9 +16,9 @@ use Rattle.encoder_blocks.specs.Sizes.{nOf, mOf, partsOf}
 use Prim.Native.String.{String}
 use Rattle.encoder_settings.specs.Weights.{part}
 use Rattle.buffers.specs.Each.{blank}
-use Rattle.encoder_kernels.specs.Finite.{sound}
+use Rattle.encoder_kernels.specs.Finite.{allFinite}
 use Rattle.encoder_elements.specs.Element.{added, gated, rounded}
-use Rattle.encoder_steps.specs.Run.{fine, answer, thenRun}
+use Rattle.encoder_steps.specs.Run.{stagesFinite, answer, thenRun}
 use Rattle.encoder_steps.specs.inner.Step.{Wrote}
 use Rattle.encoder_steps.proofs.Writes.{answer-then, got, long, left}
 use Rattle.encoder_blocks.specs.Block.{normed, squareOf, innerOf, outerOf, rotated, mixed, scored, attnRun, feedRun, blockRun}
@@ -77,7 +77,7 @@ module _ (z : Sizes) (w s : List Float) (f : 7 * nOf z + 2 * mOf z ≤ length s)
       → Wrote s₂ s₃ (3 * n) (squareOf z "k" w (region s₂ n n)) b c
       → Wrote s₃ s₄ (4 * n) (squareOf z "v" w (region s₃ n n)) c r
       → AttnIn z w s s₄ ok r
-  unfolding fine
+  unfolding stagesFinite
   attn-in s₁ s₂ s₃ s₄ ok a b c r w₁ w₂ w₃ w₄ =
       let x = normed z "attention_norm" w (hAt z s) in
       let l₁ = length-normed z "attention_norm" w (hAt z s) in
@@ -95,14 +95,14 @@ module _ (z : Sizes) (w s : List Float) (f : 7 * nOf z + 2 * mOf z ≤ length s)
         q-is = left w₄ n l₄ (2 * n) n (before (omega arith)) ∙ left w₃ n l₃ (2 * n) n (before (omega arith)) ∙ got w₂ n l₂ (omega arith) ∙ ap (squareOf z "q" w) x₁;
         k-is = left w₄ n l₄ (3 * n) n (before (omega arith)) ∙ got w₃ n l₃ (omega arith) ∙ ap (squareOf z "k" w) x₂;
         v-is = got w₄ n l₄ (omega arith) ∙ ap (squareOf z "v" w) x₃;
-        fine-is = cc;
+        finite-is = cc;
       }
 
   pub attn-rotate : z .heads * (z .«head_dim» / 2 + z .«head_dim» / 2) ≡ z .hidden → (cos sin s₁ s₂ : List Float) (ok a r : Bool)
       → Wrote s s₁ (2 * n) (rotated z cos sin (qAt z s)) ok a
       → Wrote s₁ s₂ (3 * n) (rotated z cos sin (kAt z s₁)) a r
       → AttnRotate z cos sin s s₂ ok r
-  unfolding fine
+  unfolding stagesFinite
   attn-rotate e cos sin s₁ s₂ ok a r w₁ w₂ =
       let l₁ = length-rotated z e cos sin (qAt z s) in
       let l₂ = length-rotated z e cos sin (kAt z s₁) in
@@ -113,18 +113,18 @@ module _ (z : Sizes) (w s : List Float) (f : 7 * nOf z + 2 * mOf z ≤ length s)
         q-is = left w₂ n l₂ (2 * n) n (before (omega arith)) ∙ got w₁ n l₁ (omega arith);
         k-is = got w₂ n l₂ (omega arith) ∙ ap (rotated z cos sin) x₁;
         v-is = left w₂ n l₂ (4 * n) n (after (omega arith)) ∙ left w₁ n l₁ (4 * n) n (after (omega arith));
-        fine-is = cc;
+        finite-is = cc;
       }
 
   pub attn-mix : z .heads * z .«head_dim» ≡ z .hidden → (row : ℕ) → 7 * n + 2 * m ≤ row → row + z .tokens ≤ length s → (s₁ s₂ s₃ : List Float) (ok f₁ f₂ b r : Bool)
-      → f₁ ≡ sound (scored z (qAt z s) (kAt z s))
+      → f₁ ≡ allFinite (scored z (qAt z s) (kAt z s))
       → s₁ ≡ put (blank zero32 row (z .tokens) (put s n (turnedKeys (z .tokens) (z .hidden) (kAt z s)))) (5 * n) (mixed z (qAt z s) (kAt z s) (vAt z s))
       → length s₁ ≡ length s
-      → f₂ ≡ sound (region s₁ (5 * n) n)
+      → f₂ ≡ allFinite (region s₁ (5 * n) n)
       → Wrote s₁ s₂ (6 * n) (squareOf z "o" w (region s₁ (5 * n) n)) ((ok && f₁) && f₂) b
       → Wrote s₂ s₃ 0 (added n (hAt z s₂) (region s₂ (6 * n) n)) b r
       → AttnMix z w s s₃ ok r
-  unfolding fine
+  unfolding stagesFinite
   attn-mix e row behind inside s₁ s₂ s₃ ok f₁ f₂ b r e₁ e₂ k₁ e₃ w₁ w₂ =
       let t = z .tokens in
       let A = mixed z (qAt z s) (kAt z s) (vAt z s) in
@@ -143,7 +143,7 @@ module _ (z : Sizes) (w s : List Float) (f : 7 * nOf z + 2 * mOf z ≤ length s)
       let o₂ : region s₂ (6 * n) n ≡ squareOf z "o" w A = got w₁ n l₁ (omega arith) ∙ ap (squareOf z "o" w) a₁ in
       record {
         h-is = got w₂ n l₂ (omega arith) ∙ rw (h₂, o₂);
-        fine-is = cc;
+        finite-is = cc;
       }
 
   pub feed-in : (s₁ s₂ s₃ : List Float) (ok a b r : Bool)
@@ -151,7 +151,7 @@ module _ (z : Sizes) (w s : List Float) (f : 7 * nOf z + 2 * mOf z ≤ length s)
       → Wrote s₁ s₂ (7 * n) (innerOf z "gate" w (region s₁ n n)) a b
       → Wrote s₂ s₃ (7 * n + m) (innerOf z "up" w (region s₂ n n)) b r
       → FeedIn z w s s₃ ok r
-  unfolding fine
+  unfolding stagesFinite
   feed-in s₁ s₂ s₃ ok a b r w₁ w₂ w₃ =
       let x = normed z "ffn_norm" w (hAt z s) in
       let l₁ = length-normed z "ffn_norm" w (hAt z s) in
@@ -165,7 +165,7 @@ module _ (z : Sizes) (w s : List Float) (f : 7 * nOf z + 2 * mOf z ≤ length s)
         h-is = left w₃ m l₃ 0 n (before (omega arith)) ∙ left w₂ m l₂ 0 n (before (omega arith)) ∙ left w₁ n l₁ 0 n (before (omega arith));
         g-is = left w₃ m l₃ (7 * n) m (before (omega arith)) ∙ got w₂ m l₂ (omega arith) ∙ ap (innerOf z "gate" w) x₁;
         u-is = got w₃ m l₃ (omega arith) ∙ ap (innerOf z "up" w) x₂;
-        fine-is = cc;
+        finite-is = cc;
       }
 
   pub feed-out : (s₁ s₂ s₃ s₄ : List Float) (ok a b c r : Bool)
@@ -174,7 +174,7 @@ module _ (z : Sizes) (w s : List Float) (f : 7 * nOf z + 2 * mOf z ≤ length s)
       → Wrote s₂ s₃ 0 (added n (hAt z s₂) (region s₂ (6 * n) n)) b c
       → Wrote s₃ s₄ 0 (rounded n (hAt z s₃)) c r
       → FeedOut z w s s₄ ok r
-  unfolding fine
+  unfolding stagesFinite
   feed-out s₁ s₂ s₃ s₄ ok a b c r w₁ w₂ w₃ w₄ =
       let l₁ = length-gated m (gAt z s) (uAt z s) in
       let l₂ = length-outer z "down" w (gAt z s₁) in
@@ -189,14 +189,14 @@ module _ (z : Sizes) (w s : List Float) (f : 7 * nOf z + 2 * mOf z ≤ length s)
       let h₃ : hAt z s₃ ≡ added n (hAt z s) (outerOf z "down" w (gated m (gAt z s) (uAt z s))) = got w₃ n l₃ (omega arith) ∙ rw (h₂, d₂) in
       record {
         h-is = got w₄ n l₄ (omega arith) ∙ ap (rounded n) h₃;
-        fine-is = cc;
+        finite-is = cc;
       }
 
   -- the block from its pieces
   pub block-run : (cos sin s₁ s₂ s₃ s₄ s₅ : List Float) (a b c d e : Bool)
       → AttnIn z w s s₁ true a → AttnRotate z cos sin s₁ s₂ a b → AttnMix z w s₂ s₃ b c → FeedIn z w s₃ s₄ true d → FeedOut z w s₄ s₅ d e
       → answer (c && e) (hAt z s₅) ≡ blockRun z w cos sin (hAt z s)
-  unfolding fine blockRun attnRun feedRun
+  unfolding stagesFinite blockRun attnRun feedRun
   block-run cos sin s₁ s₂ s₃ s₄ s₅ a b c d e p₁ p₂ p₃ p₄ p₅ =
       let first : answer c (hAt z s₃) ≡ attnRun z w cos sin (hAt z s) = cc in
       let second : feedRun z w (hAt z s₃) ≡ answer e (hAt z s₅) = cc in

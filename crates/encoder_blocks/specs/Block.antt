@@ -11,7 +11,7 @@ use Rattle.encoder_elements.specs.Element.{added, gated, rounded}
 use Rattle.encoder_kernels.specs.Norm.{normOf}
 use Rattle.encoder_kernels.specs.Rotate.{rotateOf}
 use Rattle.encoder_attention.specs.Attention.{scoresOf, attentionOf}
-use Rattle.encoder_steps.specs.Run.{Run, checked, thenRun}
+use Rattle.encoder_steps.specs.Run.{Run, examined, thenRun}
 
 -- a norm of the tokens, by the part of that name of the layer's weights w
 unfoldable pub normed : Sizes → String → List Float → List Float → List Float
@@ -48,7 +48,7 @@ attnRun z w cos sin h =
     let a = mixed z q′ k′ v in
     let o = squareOf z "o" w a in
     let h′ = added (nOf z) h o in
-    checked (x ∷ q ∷ k ∷ v ∷ q′ ∷ k′ ∷ scored z q′ k′ ∷ a ∷ o ∷ h′ ∷ []) h′
+    examined (x ∷ q ∷ k ∷ v ∷ q′ ∷ k′ ∷ scored z q′ k′ ∷ a ∷ o ∷ h′ ∷ []) h′
 
 -- the second half: bf16 (h + down (silu gate * up))
 unfoldable pub feedRun : Sizes → List Float → List Float → Run
@@ -60,7 +60,7 @@ feedRun z w h =
     let d = outerOf z "down" w a in
     let h′ = added (nOf z) h d in
     let b = rounded (nOf z) h′ in
-    checked (x ∷ g ∷ u ∷ a ∷ d ∷ h′ ∷ b ∷ []) b
+    examined (x ∷ g ∷ u ∷ a ∷ d ∷ h′ ∷ b ∷ []) b
 
 -- the block
 unfoldable pub blockRun : Sizes → List Float → List Float → List Float → List Float → Run

@@ -13,11 +13,11 @@ use buffers::part;
 use encoder_attention::attention::attend;
 use encoder_kernels::finite::finite;
 use encoder_kernels::rotate::rotate;
-use encoder_steps::add_fine;
-use encoder_steps::gate_fine;
+use encoder_steps::add_finite;
+use encoder_steps::gate_finite;
 use encoder_steps::matrix;
-use encoder_steps::norm_fine;
-use encoder_steps::round_fine;
+use encoder_steps::norm_finite;
+use encoder_steps::round_finite;
 
 // The norm before the attention, of h.
 pub(crate) fn attention_norm(s: &mut [f32], z: Sizes, w: &[f32], ok: bool) -> bool
@@ -26,7 +26,7 @@ pub(crate) fn attention_norm(s: &mut [f32], z: Sizes, w: &[f32], ok: bool) -> bo
 {
     let t = z.tokens;
     let dim = z.hidden;
-    norm_fine(s, 0, t * dim, t, dim, part(w, 0, dim), ok)
+    norm_finite(s, 0, t * dim, t, dim, part(w, 0, dim), ok)
 }
 
 // Norm, q, k, v.
@@ -47,7 +47,7 @@ pub(crate) fn attn_in(s: &mut [f32], z: Sizes, w: &[f32], ok: bool) -> bool
 }
 
 // Rotation of what stands at x.
-pub(crate) fn rotate_fine(
+pub(crate) fn rotate_finite(
     s: &mut [f32],
     x: usize,
     z: Sizes,
@@ -71,8 +71,8 @@ pub(crate) fn attn_rotate(s: &mut [f32], z: Sizes, cos: &[f32], sin: &[f32], ok:
     ensures { λ r. ⌜ AttnRotate z (now (cos .entry)) (now (sin .entry)) (now (s .entry)) (now (s .exit)) ok r ⌝ }
 {
     let n = z.tokens * z.hidden;
-    let a = rotate_fine(s, 2 * n, z, cos, sin, ok);
-    rotate_fine(s, 3 * n, z, cos, sin, a)
+    let a = rotate_finite(s, 2 * n, z, cos, sin, ok);
+    rotate_finite(s, 3 * n, z, cos, sin, a)
 }
 
 // Scores, sums, o, residual. The keys are turned where the norm stood, which nothing reads any more.
@@ -100,7 +100,7 @@ pub(crate) fn attn_mix(s: &mut [f32], z: Sizes, row: usize, w: &[f32], ok: bool)
     );
     let g = finite(part(s, 5 * n, n));
     let a = matrix(s, 5 * n, 6 * n, t, dim, dim, w, o, (ok & f) & g);
-    add_fine(s, 0, 6 * n, n, a)
+    add_finite(s, 0, 6 * n, n, a)
 }
 
 // The norm before the feed-forward, of h.
@@ -111,7 +111,7 @@ pub(crate) fn ffn_norm(s: &mut [f32], z: Sizes, w: &[f32], ok: bool) -> bool
     let t = z.tokens;
     let dim = z.hidden;
     let at = dim + 4 * (dim * dim);
-    norm_fine(s, 0, t * dim, t, dim, part(w, at, dim), ok)
+    norm_finite(s, 0, t * dim, t, dim, part(w, at, dim), ok)
 }
 
 // Norm, gate, up.
@@ -142,10 +142,10 @@ pub(crate) fn feed_out(s: &mut [f32], z: Sizes, w: &[f32], ok: bool) -> bool
     let n = t * dim;
     let m = t * inter;
     let down = 2 * dim + 4 * (dim * dim) + 2 * (inter * dim);
-    let a = gate_fine(s, 7 * n, 7 * n + m, m, ok);
+    let a = gate_finite(s, 7 * n, 7 * n + m, m, ok);
     let b = matrix(s, 7 * n, 6 * n, t, inter, dim, w, down, a);
-    let c = add_fine(s, 0, 6 * n, n, b);
-    round_fine(s, 0, n, c)
+    let c = add_finite(s, 0, 6 * n, n, b);
+    round_finite(s, 0, n, c)
 }
 
 // The block: h, the first n floats of the scratch, becomes the block's result where every stage is finite.

@@ -1,4 +1,4 @@
--- Laws of `sound`. Assumes nothing.
+-- Laws of `allFinite`. Assumes nothing.
 use mathlib.Core.Bool.{Bool, true, false, _&&_}
 use mathlib.Core.Path.{_≡_, refl}
 use mathlib.Core.List.{List, [], _∷_, _++_}
@@ -7,7 +7,7 @@ use lib.ListN.{length, getD, take}
 use lib.Seq.{take-suc}
 use lib.Ieee.{Float, nan}
 use lib.Ieee.Scale.{finite}
-use Rattle.encoder_kernels.specs.Finite.{sound}
+use Rattle.encoder_kernels.specs.Finite.{allFinite}
 
 and-assoc : (a b c : Bool) → (a && b) && c ≡ a && (b && c)
 and-assoc true b c = refl
@@ -17,11 +17,11 @@ and-true : (a : Bool) → a && true ≡ a
 and-true true = refl
 and-true false = refl
 
-pub sound-append : (l m : List Float) → sound (l ++ m) ≡ sound l && sound m
-unfolding sound
-sound-append [] m = refl
-sound-append (x ∷ l) m = rw (sound-append l m, and-assoc)
+pub all-finite-append : (l m : List Float) → allFinite (l ++ m) ≡ allFinite l && allFinite m
+unfolding allFinite
+all-finite-append [] m = refl
+all-finite-append (x ∷ l) m = rw (all-finite-append l m, and-assoc)
 
-pub sound-take : (l : List Float) (i : ℕ) → i < length l → sound (take (suc i) l) ≡ sound (take i l) && finite (getD l i nan)
-unfolding sound
-sound-take l i h = rw (take-suc l i nan h, sound-append, and-true)
+pub all-finite-take : (l : List Float) (i : ℕ) → i < length l → allFinite (take (suc i) l) ≡ allFinite (take i l) && finite (getD l i nan)
+unfolding allFinite
+all-finite-take l i h = rw (take-suc l i nan h, all-finite-append, and-true)

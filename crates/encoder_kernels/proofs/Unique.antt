@@ -5,7 +5,7 @@ use mathlib.Core.List.{List}
 use Prim.Native.Nat.{ℕ, _+_, _*_}
 use lib.ListN.{length}
 use lib.Ieee.{Float}
-use Rattle.encoder_kernels.specs.Finite.{sound}
+use Rattle.encoder_kernels.specs.Finite.{allFinite}
 use Rattle.buffers.specs.Region.{region}
 use Rattle.encoder_kernels.specs.Norm.{normOf}
 use Rattle.buffers.specs.inner.Room.{whereFits}
@@ -13,7 +13,7 @@ use Rattle.encoder_kernels.specs.inner.Room.{normFits, rotateFits}
 use Rattle.encoder_kernels.specs.Rotate.{rotateOf}
 use Rattle.number_floats.proofs.Unique.{one}
 
-pub finite-unique : (x : List Float) (r r′ : Bool) → r ≡ sound x → r′ ≡ sound x → r ≡ r′
+pub finite-unique : (x : List Float) (r r′ : Bool) → r ≡ allFinite x → r′ ≡ allFinite x → r ≡ r′
 finite-unique x r r′ = one _
 
 abbrev pub Norms : List Float → ℕ → ℕ → ℕ → ℕ → List Float → List Float → Type 0

@@ -4,6 +4,6 @@ use mathlib.Core.List.{List, [], _∷_}
 use lib.Ieee.{Float}
 use lib.Ieee.Scale.{finite}
 
-unfoldable pub sound : List Float → Bool
-sound [] = true
-sound (x ∷ l) = finite x && sound l
+unfoldable pub allFinite : List Float → Bool
+allFinite [] = true
+allFinite (x ∷ l) = finite x && allFinite l

@@ -1,10 +1,10 @@
 // The test for finite values.
 ghost use mathlib.Core.Path.{_≡_};
-ghost use Rattle.encoder_kernels.specs.Finite.{sound};
+ghost use Rattle.encoder_kernels.specs.Finite.{allFinite};
 
 // Whether every value of x is finite.
 pub fn finite(x: &[f32]) -> bool
-    ensures { λ r. ⌜ r ≡ sound (now (x .entry)) ⌝ }
+    ensures { λ r. ⌜ r ≡ allFinite (now (x .entry)) ⌝ }
 {
     let inf = 1.0f32 / 0.0;
     let mut ok = true;

@@ -11,9 +11,9 @@ use Rattle.encoder_settings.specs.Weights.{part, embedding}
 use Rattle.encoder_blocks.specs.declared.Sizes.{Sizes}
 use Rattle.encoder_blocks.specs.Sizes.{nOf}
 use Rattle.encoder_elements.specs.Element.{rounded}
-use Rattle.encoder_steps.specs.Run.{Run, fine, answer, checked, thenRun}
+use Rattle.encoder_steps.specs.Run.{Run, stagesFinite, answer, examined, thenRun}
 use Rattle.encoder_stages.specs.Embed.{patchConv, lnPre, embedRun}
-use Rattle.encoder_stages.specs.inner.Inputs.{inputsFine}
+use Rattle.encoder_stages.specs.inner.Inputs.{inputsFinite}
 use Rattle.encoder_steps.specs.inner.Step.{Wrote}
 use Rattle.encoder_blocks.specs.inner.Live.{hAt}
 use Rattle.encoder_stages.specs.inner.Live.{Embedded}
@@ -40,7 +40,7 @@ module _ (z : Sizes) (f : ℕ) (w x s : List Float) (room : 2 * nOf z ≤ length
       → Wrote s₂ s₃ 0 (lnPre z f w (region s₂ n n)) b c
       → Wrote s₃ s₄ 0 (rounded n (region s₃ 0 n)) c r
       → Embedded z f w x s₄ ok r
-  unfolding fine
+  unfolding stagesFinite
   embedded s₁ s₂ s₃ s₄ ok a b c r w₁ w₂ w₃ w₄ =
       let k₁ = long w₁ n length-conv in
       let l₂ = length-rounded n (region s₁ n n) in
@@ -53,27 +53,27 @@ module _ (z : Sizes) (f : ℕ) (w x s : List Float) (room : 2 * nOf z ≤ length
       let x₃ : region s₃ 0 n ≡ lnPre z f w (rounded n (patchConv z f w x)) = got w₃ n l₃ (omega arith) ∙ ap (lnPre z f w) x₂ in
       record {
         h-is = got w₄ n l₄ (omega arith) ∙ ap (rounded n) x₃;
-        fine-is = cc;
+        finite-is = cc;
       }
 
-fine-not : (ls : List (List Float)) → fine false ls ≡ false
-unfolding fine
-fine-not [] = refl
-fine-not (l ∷ ls) = fine-not ls
+stages-finite-not : (ls : List (List Float)) → stagesFinite false ls ≡ false
+unfolding stagesFinite
+stages-finite-not [] = refl
+stages-finite-not (l ∷ ls) = stages-finite-not ls
 
-fine-and : (ok : Bool) (ls : List (List Float)) → fine ok ls ≡ (ok && fine true ls)
-fine-and true ls = refl
-fine-and false ls = fine-not ls
+stages-finite-and : (ok : Bool) (ls : List (List Float)) → stagesFinite ok ls ≡ (ok && stagesFinite true ls)
+stages-finite-and true ls = refl
+stages-finite-and false ls = stages-finite-not ls
 
-pub embed-run : (z : Sizes) (f : ℕ) (w v cos sin x t : List Float) (ok r : Bool) → ok ≡ inputsFine x w cos sin → Embedded z f v x t ok r
-    → answer r (hAt z t) ≡ thenRun (checked (x ∷ w ∷ cos ∷ sin ∷ []) x) (embedRun z f v)
-unfolding fine embedRun
+pub embed-run : (z : Sizes) (f : ℕ) (w v cos sin x t : List Float) (ok r : Bool) → ok ≡ inputsFinite x w cos sin → Embedded z f v x t ok r
+    → answer r (hAt z t) ≡ thenRun (examined (x ∷ w ∷ cos ∷ sin ∷ []) x) (embedRun z f v)
+unfolding stagesFinite embedRun
 embed-run z f w v cos sin x t ok r e g =
     let a = patchConv z f v x in
     let b = rounded (nOf z) a in
     let c = lnPre z f v b in
-    let k = fine true (a ∷ b ∷ c ∷ rounded (nOf z) c ∷ []) in
-    ap (λ u. answer u (hAt z t)) (g .fine-is ∙ fine-and ok (a ∷ b ∷ c ∷ rounded (nOf z) c ∷ []))
+    let k = stagesFinite true (a ∷ b ∷ c ∷ rounded (nOf z) c ∷ []) in
+    ap (λ u. answer u (hAt z t)) (g .finite-is ∙ stages-finite-and ok (a ∷ b ∷ c ∷ rounded (nOf z) c ∷ []))
     ∙ answer-then ok k x (hAt z t) (embedRun z f v) (ap (answer k) (sym (g .h-is))) ∙ ap (λ u. thenRun (answer u x) (embedRun z f v)) e
 
 -- three runs one after another

@@ -12,10 +12,10 @@ use Rattle.buffers.specs.Region.{region, put}
 use Rattle.buffers.proofs.Regions.{length-put, region-put-same}
 use Rattle.buffers.proofs.Lists.{length-tab, length-rows}
 use Rattle.encoder_settings.specs.Weights.{part, projector}
-use Rattle.encoder_kernels.specs.Finite.{sound}
+use Rattle.encoder_kernels.specs.Finite.{allFinite}
 use Rattle.encoder_elements.specs.Element.{gelued}
 use Rattle.encoder_stages.specs.Merge.{placeOf, mergedToken, mergeOf}
-use Rattle.encoder_steps.specs.Run.{fine, answer}
+use Rattle.encoder_steps.specs.Run.{stagesFinite, answer}
 use Rattle.encoder_stages.specs.Project.{projNorm, mergingLayer, linear1, linear2, projectRun}
 use Rattle.encoder_steps.specs.inner.Step.{Wrote}
 use Rattle.encoder_stages.specs.inner.Fits.{ProjFits}
@@ -70,7 +70,7 @@ module _ (t dim o wide text : ℕ) where
       → Wrote s₄ s₅ at (gelued (o * text) (region s₄ at (o * text))) c d
       → Wrote s₅ s₆ (at + o * text) (linear2 t dim o wide text w (region s₅ at (o * text))) d r
       → answer r (region s₆ (at + o * text) (o * text)) ≡ projectRun t dim o wide text merge gh gw w (region s 0 (t * dim))
-  unfolding fine projectRun
+  unfolding stagesFinite projectRun
   project-run w s s₁ s₂ s₃ s₄ s₅ s₆ lenw merge gh gw at a b c d r f w₁ e w₃ w₄ w₅ w₆ =
       let n = t * dim in
       let x = projNorm t dim o wide text w (region s 0 n) in
@@ -94,9 +94,9 @@ module _ (t dim o wide text : ℕ) where
       let x₅ : region s₅ at (o * text) ≡ gelued (o * text) (linear1 t dim o wide text w (mergingLayer t dim o wide text w g)) = got w₅ (o * text) l₅ (omega (arith, f .room)) ∙ ap (gelued (o * text)) x₄ in
       let l₆ = length-second w (region s₅ at (o * text)) in
       let x₆ : region s₆ (at + o * text) (o * text) ≡ linear2 t dim o wide text w (gelued (o * text) (linear1 t dim o wide text w (mergingLayer t dim o wide text w g))) = got w₆ (o * text) l₆ (omega (arith, f .room)) ∙ ap (linear2 t dim o wide text w) x₅ in
-      let ra : a ≡ (true && sound x) = w₁ .fine-is in
-      let rb : b ≡ (a && sound (mergingLayer t dim o wide text w g)) = w₃ .fine-is ∙ rw x₂ in
-      let rc : c ≡ (b && sound (linear1 t dim o wide text w (mergingLayer t dim o wide text w g))) = w₄ .fine-is ∙ rw x₃ in
-      let rd : d ≡ (c && sound (gelued (o * text) (linear1 t dim o wide text w (mergingLayer t dim o wide text w g)))) = w₅ .fine-is ∙ ap (λ u. c && sound (gelued (o * text) u)) x₄ in
-      let re : r ≡ (d && sound (linear2 t dim o wide text w (gelued (o * text) (linear1 t dim o wide text w (mergingLayer t dim o wide text w g))))) = w₆ .fine-is ∙ rw x₅ in
+      let ra : a ≡ (true && allFinite x) = w₁ .finite-is in
+      let rb : b ≡ (a && allFinite (mergingLayer t dim o wide text w g)) = w₃ .finite-is ∙ rw x₂ in
+      let rc : c ≡ (b && allFinite (linear1 t dim o wide text w (mergingLayer t dim o wide text w g))) = w₄ .finite-is ∙ rw x₃ in
+      let rd : d ≡ (c && allFinite (gelued (o * text) (linear1 t dim o wide text w (mergingLayer t dim o wide text w g)))) = w₅ .finite-is ∙ ap (λ u. c && allFinite (gelued (o * text) u)) x₄ in
+      let re : r ≡ (d && allFinite (linear2 t dim o wide text w (gelued (o * text) (linear1 t dim o wide text w (mergingLayer t dim o wide text w g))))) = w₆ .finite-is ∙ rw x₅ in
       rw (x₆, re, rd, rc, rb, ra)

@@ -17,10 +17,10 @@ use Rattle.encoder_stages.specs.declared.Counts.{Counts}
 use Rattle.encoder_stages.specs.declared.Regions.{Regions}
 use Rattle.encoder_linear.proofs.Sums.{length-linear}
 use Rattle.encoder_elements.specs.Element.{gelued}
-use Rattle.encoder_steps.specs.Run.{Run, went, fine, answer, checked, thenRun}
+use Rattle.encoder_steps.specs.Run.{Run, went, stagesFinite, answer, examined, thenRun}
 use Rattle.encoder_steps.proofs.Writes.{answer-went, then-went}
 use Rattle.encoder_stages.specs.Embed.{embedRun}
-use Rattle.encoder_stages.specs.inner.Inputs.{inputsFine}
+use Rattle.encoder_stages.specs.inner.Inputs.{inputsFinite}
 use Rattle.encoder_blocks.specs.Layers.{layersRun}
 use Rattle.encoder_stages.specs.Merge.{mergeOf}
 use Rattle.encoder_stages.specs.Project.{projNorm, mergingLayer, linear1, linear2, projectRun}
@@ -47,7 +47,7 @@ module _ (s : EncoderSettings) (gh gw t o : ℕ) (w cos sin x : List Float) wher
       → length w ≡ weightFloats s
       → v₁ ≡ region w 0 (p .embedding) → v₂ ≡ region w (p .embedding) (p .layers)
       → v₃ ≡ region w (p .embedding + p .layers) (length w - (p .embedding + p .layers))
-      → ok ≡ inputsFine x w cos sin
+      → ok ≡ inputsFinite x w cos sin
       → Embedded z (p .patch) v₁ x s₁ ok a
       → answer b (hAt z s₂) ≡ layersRun z v₂ cos sin (s .«num_layers») (hAt z s₁)
       → answer c (region s₃ (q .linear + e) e) ≡ projectRun t (z .hidden) o (p .merged) (s .«text_hidden_size») (s .picture .«spatial_merge_size») gh gw v₃ (region s₂ 0 (t * z .hidden))
@@ -56,7 +56,7 @@ module _ (s : EncoderSettings) (gh gw t o : ℕ) (w cos sin x : List Float) wher
   run-of v₁ v₂ v₃ s₁ s₂ s₃ ok a b c f₁ f₂ f₃ d₁ d₂ d₃ i g l k =
       let T = weights s in
       let P : List Float → List Float → Run = λ u m. projectRun t (z .hidden) o (p .merged) (s .«text_hidden_size») (s .picture .«spatial_merge_size») gh gw u m in
-      let I = checked (x ∷ w ∷ cos ∷ sin ∷ []) x in
+      let I = examined (x ∷ w ∷ cos ∷ sin ∷ []) x in
       let g₁ = d₁ ∙ stands T "embedding" w 0 (p .embedding) (omega arith) (omega (arith, f₁)) in
       let g₂ = d₂ ∙ stands T "layers" w (p .embedding) (p .layers) (omega (arith, f₁)) (omega (arith, f₂)) in
       let g₃ = d₃ ∙ stands T "projector" w (p .embedding + p .layers) (length w - (p .embedding + p .layers)) (omega (arith, f₁, f₂)) (omega (arith, f₁, f₂, f₃)) in
@@ -75,7 +75,7 @@ project-long t dim o wide text merge gh gw w h l e =
     let b = linear1 t dim o wide text w a in
     let c = gelued (o * text) b in
     let d = linear2 t dim o wide text w c in
-    ap length (sym (answer-went (fine true (x ∷ a ∷ b ∷ c ∷ d ∷ [])) d l e)) ∙ length-linear o text text (part (projector dim wide text) "linear_2" w) c
+    ap length (sym (answer-went (stagesFinite true (x ∷ a ∷ b ∷ c ∷ d ∷ [])) d l e)) ∙ length-linear o text text (part (projector dim wide text) "linear_2" w) c
 
 -- o rows of the text size
 pub vectors-long : (s : EncoderSettings) (gh gw t o : ℕ) (w cos sin x l : List Float) → runOf s gh gw t o w cos sin x ≡ went l → length l ≡ o * s .«text_hidden_size»
@@ -83,7 +83,7 @@ unfolding runOf
 vectors-long s gh gw t o w cos sin x l e =
     let z = sizesOf s t gw in
     let T = weights s in
-    let r = thenRun (thenRun (checked (x ∷ w ∷ cos ∷ sin ∷ []) x) (embedRun z (patchFloats (s .picture .«patch_size»)) (part T "embedding" w))) (layersRun z (part T "layers" w) cos sin (s .«num_layers»)) in
+    let r = thenRun (thenRun (examined (x ∷ w ∷ cos ∷ sin ∷ []) x) (embedRun z (patchFloats (s .picture .«patch_size»)) (part T "embedding" w))) (layersRun z (part T "layers" w) cos sin (s .«num_layers»)) in
     let wide = z .hidden * mergeArea (s .picture) in
     let f = projectRun t (z .hidden) o wide (s .«text_hidden_size») (s .picture .«spatial_merge_size») gh gw (part T "projector" w) in
     let g = then-went r f l e in

@@ -9,7 +9,7 @@ use Rattle.encoder_blocks.specs.Sizes.{nOf}
 use Rattle.encoder_linear.specs.Linear.{linearOf}
 use Rattle.encoder_elements.specs.Element.{rounded}
 use Rattle.encoder_kernels.specs.Norm.{normOf}
-use Rattle.encoder_steps.specs.Run.{Run, checked}
+use Rattle.encoder_steps.specs.Run.{Run, examined}
 
 unfoldable pub patchConv : Sizes → ℕ → List Float → List Float → List Float
 patchConv z f w x = linearOf (z .tokens) f (z .hidden) (part (embedding (z .hidden) f) "patch_conv" w) x
@@ -23,4 +23,4 @@ embedRun z f w x =
     let b = rounded (nOf z) a in
     let c = lnPre z f w b in
     let d = rounded (nOf z) c in
-    checked (a ∷ b ∷ c ∷ d ∷ []) d
+    examined (a ∷ b ∷ c ∷ d ∷ []) d

@@ -9,7 +9,7 @@ use Rattle.encoder_settings.specs.declared.EncoderSettings.{EncoderSettings}
 use Rattle.encoder_settings.specs.Weights.{part, weights}
 use Rattle.encoder_settings.specs.Settings.{mergeArea}
 use Rattle.encoder_blocks.specs.declared.Sizes.{Sizes}
-use Rattle.encoder_steps.specs.Run.{Run, checked, thenRun}
+use Rattle.encoder_steps.specs.Run.{Run, examined, thenRun}
 use Rattle.encoder_stages.specs.Embed.{embedRun}
 use Rattle.encoder_blocks.specs.Layers.{layersRun}
 use Rattle.encoder_stages.specs.Project.{projectRun}
@@ -32,7 +32,7 @@ sizesOf s t gw =
 unfoldable pub runOf : EncoderSettings → ℕ → ℕ → ℕ → ℕ → List Float → List Float → List Float → List Float → Run
 runOf s gh gw t o w cos sin x =
     let z = sizesOf s t gw in
-    thenRun (thenRun (thenRun (checked (x ∷ w ∷ cos ∷ sin ∷ []) x)
+    thenRun (thenRun (thenRun (examined (x ∷ w ∷ cos ∷ sin ∷ []) x)
     (embedRun z (patchFloats (s .picture .«patch_size»)) (part (weights s) "embedding" w)))
     (layersRun z (part (weights s) "layers" w) cos sin (s .«num_layers»)))
     (projectRun t (z .hidden) o (z .hidden * mergeArea (s .picture)) (s .«text_hidden_size») (s .picture .«spatial_merge_size») gh gw (part (weights s) "projector" w))

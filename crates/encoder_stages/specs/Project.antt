@@ -7,7 +7,7 @@ use Rattle.encoder_linear.specs.Linear.{linearOf}
 use Rattle.encoder_kernels.specs.Norm.{normOf}
 use Rattle.encoder_elements.specs.Element.{gelued}
 use Rattle.encoder_stages.specs.Merge.{mergeOf}
-use Rattle.encoder_steps.specs.Run.{Run, checked}
+use Rattle.encoder_steps.specs.Run.{Run, examined}
 
 -- t tokens of dim; o output tokens, whose merged rows have wide floats; text
 module _ (t dim o wide text : ℕ) where
@@ -30,4 +30,4 @@ module _ (t dim o wide text : ℕ) where
       let b = linear1 w a in
       let c = gelued (o * text) b in
       let d = linear2 w c in
-      checked (x ∷ a ∷ b ∷ c ∷ d ∷ []) d
+      examined (x ∷ a ∷ b ∷ c ∷ d ∷ []) d

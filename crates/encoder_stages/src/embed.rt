@@ -5,18 +5,18 @@ ghost use Rattle.encoder_linear.specs.Linear.{linearOf};
 ghost use Rattle.encoder_linear.specs.inner.Fits.{FromFits};
 ghost use Rattle.encoder_steps.specs.inner.Step.{Wrote};
 ghost use Rattle.encoder_stages.specs.inner.Live.{Embedded};
-ghost use Rattle.encoder_stages.specs.inner.Inputs.{inputsFine};
+ghost use Rattle.encoder_stages.specs.inner.Inputs.{inputsFinite};
 ghost use Rattle.encoder_stages.specs.inner.Fits.{EmbedFits};
 use buffers::part;
 use encoder_blocks::Sizes;
 use encoder_kernels::finite::finite;
 use encoder_linear::linear::linear_from;
-use encoder_steps::norm_fine;
-use encoder_steps::round_fine;
+use encoder_steps::norm_finite;
+use encoder_steps::round_finite;
 
 // Whether patches, weights and tables are finite.
-pub(crate) fn inputs_fine(x: &[f32], w: &[f32], cos: &[f32], sin: &[f32]) -> bool
-    ensures { λ r. ⌜ r ≡ inputsFine (now (x .entry)) (now (w .entry)) (now (cos .entry)) (now (sin .entry)) ⌝ }
+pub(crate) fn inputs_finite(x: &[f32], w: &[f32], cos: &[f32], sin: &[f32]) -> bool
+    ensures { λ r. ⌜ r ≡ inputsFinite (now (x .entry)) (now (w .entry)) (now (cos .entry)) (now (sin .entry)) ⌝ }
 {
     let a = finite(x);
     let b = finite(w);
@@ -26,7 +26,7 @@ pub(crate) fn inputs_fine(x: &[f32], w: &[f32], cos: &[f32], sin: &[f32]) -> boo
 }
 
 // A linear layer of another slice, and whether all is finite up to here.
-pub(crate) fn from_fine(
+pub(crate) fn from_finite(
     x: &[f32],
     s: &mut [f32],
     y: usize,
@@ -53,8 +53,8 @@ pub(crate) fn embed(x: &[f32], s: &mut [f32], z: Sizes, f: usize, w: &[f32], ok:
     let dim = z.hidden;
     let n = t * dim;
     let e = dim * f;
-    let a = from_fine(x, s, n, t, f, dim, part(w, 0, e), ok);
-    let b = round_fine(s, n, n, a);
-    let c = norm_fine(s, n, 0, t, dim, part(w, e, dim), b);
-    round_fine(s, 0, n, c)
+    let a = from_finite(x, s, n, t, f, dim, part(w, 0, e), ok);
+    let b = round_finite(s, n, n, a);
+    let c = norm_finite(s, n, 0, t, dim, part(w, e, dim), b);
+    round_finite(s, 0, n, c)
 }

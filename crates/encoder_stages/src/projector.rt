@@ -14,7 +14,7 @@ use buffers::part;
 use encoder_elements::element::gelu_inplace;
 use encoder_kernels::finite::finite;
 use encoder_steps::matrix;
-use encoder_steps::norm_fine;
+use encoder_steps::norm_finite;
 
 // Where place p of the merged rows takes its value from.
 pub(crate) fn source(p: usize, merge: usize, gh: usize, gw: usize, dim: usize) -> usize
@@ -55,7 +55,7 @@ pub(crate) fn merge_tokens(
 }
 
 // gelu of the n floats at y, and whether all is finite up to here.
-pub(crate) fn gelu_fine(s: &mut [f32], y: usize, n: usize, ok: bool) -> bool
+pub(crate) fn gelu_finite(s: &mut [f32], y: usize, n: usize, ok: bool) -> bool
     requires { ⌜ y + n ≤ length (now s) ⌝ }
     ensures { λ r. ⌜ Wrote (now (s .entry)) (now (s .exit)) y (gelued n (region (now (s .entry)) y n)) ok r ⌝ }
 {
@@ -84,10 +84,10 @@ pub(crate) fn projector_forward(
     let p = dim + dim * wide;
     let q = p + text * dim;
     let e = o * text;
-    let a = norm_fine(s, 0, n, t, dim, part(w, 0, dim), true);
+    let a = norm_finite(s, 0, n, t, dim, part(w, 0, dim), true);
     merge_tokens(s, n, 2 * n, o * wide, merge, gh, gw, dim);
     let b = matrix(s, 2 * n, 3 * n, o, wide, dim, w, dim, a);
     let c = matrix(s, 3 * n, at, o, dim, text, w, p, b);
-    let d = gelu_fine(s, at, e, c);
+    let d = gelu_finite(s, at, e, c);
     matrix(s, at, at + e, o, text, text, w, q, d)
 }

@@ -10,7 +10,7 @@ ghost use Rattle.encoder_stages.specs.Forward.{sizesOf, runOf};
 ghost use Rattle.encoder_stages.specs.Vectors.{ranBy, leftBy, ranOf, leftOf};
 ghost use Rattle.encoder_stages.specs.inner.Fits.{RunFits};
 use crate::embed::embed;
-use crate::embed::inputs_fine;
+use crate::embed::inputs_finite;
 use crate::layout::counts_of;
 use crate::layout::regions;
 use crate::layout::sizes_of;
@@ -47,7 +47,7 @@ pub(crate) fn encode(
     let p = counts_of(s, z);
     let r = regions(z, o * s.text_hidden_size);
     let at = p.embedding + p.layers;
-    let ok = inputs_fine(patches, w, cos, sin);
+    let ok = inputs_finite(patches, w, cos, sin);
     let a = embed(patches, scratch, z, p.patch, part(w, 0, p.embedding), ok);
     let v = part(w, p.embedding, p.layers);
     let b = layers(scratch, z, r.row, v, s.num_layers, cos, sin);

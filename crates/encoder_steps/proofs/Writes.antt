@@ -16,7 +16,7 @@ use Rattle.encoder_linear.specs.Linear.{linearOf}
 use Rattle.encoder_linear.proofs.Sums.{length-linear}
 use Rattle.encoder_linear.proofs.Rooms.{linear-fits}
 use Rattle.encoder_elements.specs.Element.{added, gated, rounded}
-use Rattle.encoder_kernels.specs.Finite.{sound}
+use Rattle.encoder_kernels.specs.Finite.{allFinite}
 use Rattle.encoder_kernels.specs.inner.Fits.{NormFits}
 use Rattle.encoder_elements.specs.inner.Fits.{PairFits}
 use Rattle.encoder_kernels.specs.Norm.{normOf}
@@ -27,18 +27,18 @@ use Rattle.encoder_elements.proofs.Lengths.{length-added, length-gated, length-
 use Rattle.encoder_kernels.proofs.Rooms.{norm-fits}
 use Rattle.encoder_elements.proofs.Rooms.{pair-fits}
 use Rattle.encoder_steps.specs.Run.{Run, stopped, went, answer, thenRun}
-use Rattle.encoder_steps.specs.inner.Step.{fineAt, matrixFits, MatrixAt, Tried, Wrote}
+use Rattle.encoder_steps.specs.inner.Step.{finiteAt, matrixFits, MatrixAt, Tried, Wrote}
 
 pub answer-then : (a b : Bool) (l m : List Float) (f : List Float → Run) → f l ≡ answer b m → answer (a && b) m ≡ thenRun (answer a l) f
 answer-then true b l m f e = sym e
 answer-then false b l m f e = refl
 
 -- from the write, and the test of what it wrote
-pub wrote : (s t : List Float) (y n : ℕ) (l p : List Float) (ok f : Bool) → t ≡ put s y l → length l ≡ n → y + n ≤ length s → p ≡ region t y n → f ≡ sound p
+pub wrote : (s t : List Float) (y n : ℕ) (l p : List Float) (ok f : Bool) → t ≡ put s y l → length l ≡ n → y + n ≤ length s → p ≡ region t y n → f ≡ allFinite p
     → Wrote s t y l ok (ok && f)
 wrote s t y n l p ok f e h k g i =
     let q : region t y n ≡ l = ap (λ u. region u y n) e ∙ region-put-same s y l n (sym h) (rw h k) in
-    record { all = e; fine-is = ap (λ b. ok && b) (i ∙ ap sound (g ∙ q)) }
+    record { all = e; finite-is = ap (λ b. ok && b) (i ∙ ap allFinite (g ∙ q)) }
 
 module _ {s t l : List Float} {y : ℕ} {ok r : Bool} (w : Wrote s t y l ok r) (n : ℕ) (h : length l ≡ n) where
   -- what was written
@@ -56,13 +56,13 @@ module _ {s t l : List Float} {y : ℕ} {ok r : Bool} (w : Wrote s t y l ok r) (
 
 module _ {s t : List Float} {ok r : Bool} where
   tried : (fits : Bool) (l : List Float) (y n : ℕ) → fits ≡ true → length l ≡ n → y + n ≤ length s → Tried fits s t y n l ok r → Wrote s t y l ok r
-  unfolding fineAt
+  unfolding finiteAt
   tried fits l y n h k i w =
       let e : t ≡ put s y l = w .all ∙ ap (λ b. whereFits b s y l) h in
       let q : region t y n ≡ l = ap (λ u. region u y n) e ∙ region-put-same s y l n (sym k) (rw k i) in
       let j : length t ≡ length s = ap length e ∙ length-put s y l in
       let f : inside (length t) y n ≡ true = le-leb (y + n) (length t) (rw j i) in
-      record { all = e; fine-is = w .fine-is ∙ ap (λ b. ok && (b && sound (region t y n))) f ∙ ap (λ u. ok && sound u) q }
+      record { all = e; finite-is = w .finite-is ∙ ap (λ b. ok && (b && allFinite (region t y n))) f ∙ ap (λ u. ok && allFinite u) q }
 
   pub matrix-wrote : (w : List Float) (x y n nin nout at : ℕ) → MatrixAt (length s) (length w) x y n nin nout at
       → Tried (matrixFits (length s) (length w) x y n nin nout at) s t y (n * nout) (linearOf n nin nout (region w at (nout * nin)) (region s x (n * nin))) ok r

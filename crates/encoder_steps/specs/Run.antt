@@ -3,24 +3,24 @@ use mathlib.Core.Bool.{Bool, true, false, _&&_}
 use mathlib.Core.List.{List, [], _∷_}
 use lib.Ieee.{Float}
 use Rattle.buffers.specs.Region.{over, cleared}
-use Rattle.encoder_kernels.specs.Finite.{sound}
+use Rattle.encoder_kernels.specs.Finite.{allFinite}
 
 pub data Run : Type 0 where
   stopped : Run
   went : List Float → Run
 
 -- whether every value of every stage is finite
-unfoldable pub fine : Bool → List (List Float) → Bool
-fine ok [] = ok
-fine ok (l ∷ ls) = fine (ok && sound l) ls
+unfoldable pub stagesFinite : Bool → List (List Float) → Bool
+stagesFinite ok [] = ok
+stagesFinite ok (l ∷ ls) = stagesFinite (ok && allFinite l) ls
 
 -- the run that the stages allow
 abbrev pub answer : Bool → List Float → Run
 answer true l = went l
 answer false l = stopped
 
-abbrev pub checked : List (List Float) → List Float → Run
-checked stages l = answer (fine true stages) l
+abbrev pub examined : List (List Float) → List Float → Run
+examined stages l = answer (stagesFinite true stages) l
 
 -- one run after another
 abbrev pub thenRun : Run → (List Float → Run) → Run

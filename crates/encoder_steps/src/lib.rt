@@ -10,7 +10,7 @@ ghost use Rattle.encoder_elements.specs.Element.{added, gated, rounded};
 ghost use Rattle.encoder_kernels.specs.Norm.{normOf};
 ghost use Rattle.encoder_kernels.specs.inner.Room.{normFits};
 ghost use Rattle.encoder_elements.specs.inner.Room.{pairFits};
-ghost use Rattle.encoder_steps.specs.inner.Step.{fineAt, matrixFits, Tried};
+ghost use Rattle.encoder_steps.specs.inner.Step.{finiteAt, matrixFits, Tried};
 use buffers::part;
 use buffers::room::inside;
 use buffers::room::rows_inside;
@@ -22,15 +22,15 @@ use encoder_kernels::norm::rms_norm;
 use encoder_linear::linear::linear_no_bias_forward;
 
 // Whether the n floats at y lie inside, and are finite.
-pub(crate) fn fine_at(s: &[f32], y: usize, n: usize) -> bool
-    ensures { λ r. ⌜ r ≡ fineAt (now (s .entry)) y n ⌝ }
+pub(crate) fn finite_at(s: &[f32], y: usize, n: usize) -> bool
+    ensures { λ r. ⌜ r ≡ finiteAt (now (s .entry)) y n ⌝ }
 {
     inside(s.len(), y, n) & finite(part(s, y, n))
 }
 
 // The same of n rows of d floats.
-pub(crate) fn fine_rows(s: &[f32], y: usize, n: usize, d: usize) -> bool
-    ensures { λ r. ⌜ r ≡ fineAt (now (s .entry)) y (n * d) ⌝ }
+pub(crate) fn finite_rows(s: &[f32], y: usize, n: usize, d: usize) -> bool
+    ensures { λ r. ⌜ r ≡ finiteAt (now (s .entry)) y (n * d) ⌝ }
 {
     if rows_inside(s.len(), y, n, d) {
         return finite(part(s, y, n * d));
@@ -55,12 +55,12 @@ pub fn matrix(
 {
     if rows_inside(w.len(), at, nout, nin) {
         linear_no_bias_forward(s, x, y, n, nin, nout, part(w, at, nout * nin));
-        return ok & fine_rows(s, y, n, nout);
+        return ok & finite_rows(s, y, n, nout);
     }
-    ok & fine_rows(s, y, n, nout)
+    ok & finite_rows(s, y, n, nout)
 }
 
-pub fn norm_fine(
+pub fn norm_finite(
     s: &mut [f32],
     x: usize,
     y: usize,
@@ -73,29 +73,29 @@ pub fn norm_fine(
         (normOf n dim (now (w .entry)) (region (now (s .entry)) x (n * dim))) ok r ⌝ }
 {
     rms_norm(s, x, y, n, dim, w);
-    ok & fine_rows(s, y, n, dim)
+    ok & finite_rows(s, y, n, dim)
 }
 
-pub fn add_fine(s: &mut [f32], y: usize, z: usize, n: usize, ok: bool) -> bool
+pub fn add_finite(s: &mut [f32], y: usize, z: usize, n: usize, ok: bool) -> bool
     ensures { λ r. ⌜ Tried (pairFits (length (now (s .entry))) y z n) (now (s .entry)) (now (s .exit)) y n
         (added n (region (now (s .entry)) y n) (region (now (s .entry)) z n)) ok r ⌝ }
 {
     add_into(s, y, z, n);
-    ok & fine_at(s, y, n)
+    ok & finite_at(s, y, n)
 }
 
 // silu of the gate, times up.
-pub fn gate_fine(s: &mut [f32], y: usize, z: usize, n: usize, ok: bool) -> bool
+pub fn gate_finite(s: &mut [f32], y: usize, z: usize, n: usize, ok: bool) -> bool
     ensures { λ r. ⌜ Tried (pairFits (length (now (s .entry))) y z n) (now (s .entry)) (now (s .exit)) y n
         (gated n (region (now (s .entry)) y n) (region (now (s .entry)) z n)) ok r ⌝ }
 {
     gate(s, y, z, n);
-    ok & fine_at(s, y, n)
+    ok & finite_at(s, y, n)
 }
 
-pub fn round_fine(s: &mut [f32], y: usize, n: usize, ok: bool) -> bool
+pub fn round_finite(s: &mut [f32], y: usize, n: usize, ok: bool) -> bool
     ensures { λ r. ⌜ Tried (R.inside (length (now (s .entry))) y n) (now (s .entry)) (now (s .exit)) y n (rounded n (region (now (s .entry)) y n)) ok r ⌝ }
 {
     truncate_to_bf16_inplace(s, y, n);
-    ok & fine_at(s, y, n)
+    ok & finite_at(s, y, n)
 }

@@ -2,8 +2,8 @@
 use mathlib.Core.Bool.{Bool, _&&_}
 use mathlib.Core.List.{List}
 use lib.Ieee.{Float}
-use Rattle.encoder_kernels.specs.Finite.{sound}
+use Rattle.encoder_kernels.specs.Finite.{allFinite}
 
 -- patches, weights and tables are examined first
-abbrev pub inputsFine : List Float → List Float → List Float → List Float → Bool
-inputsFine x w cos sin = ((sound x && sound w) && sound cos) && sound sin
+abbrev pub inputsFinite : List Float → List Float → List Float → List Float → Bool
+inputsFinite x w cos sin = ((allFinite x && allFinite w) && allFinite cos) && allFinite sin

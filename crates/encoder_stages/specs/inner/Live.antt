@@ -10,7 +10,7 @@ use Rattle.encoder_settings.specs.declared.EncoderSettings.{EncoderSettings}
 use Rattle.encoder_settings.specs.Settings.{mergeArea}
 use Rattle.encoder_settings.specs.inner.Bounds.{layerSum}
 use Rattle.encoder_elements.specs.Element.{rounded}
-use Rattle.encoder_steps.specs.Run.{fine}
+use Rattle.encoder_steps.specs.Run.{stagesFinite}
 use Rattle.encoder_blocks.specs.declared.Sizes.{Sizes}
 use Rattle.encoder_blocks.specs.Sizes.{nOf, mOf}
 use Rattle.encoder_blocks.specs.inner.Live.{hAt}
@@ -35,4 +35,4 @@ countsOf s z =
 -- patch projection, its bf16, ln_pre, its bf16
 pub record Embedded (z : Sizes) (f : ℕ) (w x t : List Float) (ok r : Bool) : Type 0 where
   pub h-is : hAt z t ≡ rounded (nOf z) (lnPre z f w (rounded (nOf z) (patchConv z f w x)))
-  pub fine-is : r ≡ (let a = patchConv z f w x in let b = rounded (nOf z) a in let c = lnPre z f w b in fine ok (a ∷ b ∷ c ∷ rounded (nOf z) c ∷ []))
+  pub finite-is : r ≡ (let a = patchConv z f w x in let b = rounded (nOf z) a in let c = lnPre z f w b in stagesFinite ok (a ∷ b ∷ c ∷ rounded (nOf z) c ∷ []))

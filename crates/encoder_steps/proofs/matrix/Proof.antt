@@ -25,8 +25,8 @@ part-requires c κs = search needs
 linear-no-bias-forward-requires : tie.Need-linear-no-bias-forward-requires
 linear-no-bias-forward-requires c κs = search needs
 
-fine-rows-requires : tie.Need-fine-rows-requires
-fine-rows-requires c κs = search needs
+finite-rows-requires : tie.Need-finite-rows-requires
+finite-rows-requires c κs = search needs
 
 same-length : tie.Need-same-length
 same-length c = c .before .before .before .before .linear-no-bias-forward .kept .0
@@ -39,10 +39,10 @@ returns c =
     let t = sym (c .before .before .before .before .before .before .before .before .rows-inside .ensures) ∙ c .before .before .before .before .before .before .before .if1 .taken in
     let k : length (p .result .now) ≡ a .nout * a .nin =
     ap length (p .ensures) ∙ length-region (a .w .now) (a .at) (a .nout * a .nin) (leb-true (a .at + a .nout * a .nin) (length (a .w .now)) t) in
-    record { all = rw t (rw (k, p .ensures) at (c .before .before .before .before .linear-no-bias-forward .ensures)); fine-is = ap (λ b. a .ok && b) (c .fine-rows .ensures) }
+    record { all = rw t (rw (k, p .ensures) at (c .before .before .before .before .linear-no-bias-forward .ensures)); finite-is = ap (λ b. a .ok && b) (c .finite-rows .ensures) }
 
-fine-rows-requires-2 : tie.Need-fine-rows-requires-2
-fine-rows-requires-2 c κs = search needs
+finite-rows-requires-2 : tie.Need-finite-rows-requires-2
+finite-rows-requires-2 c κs = search needs
 
 same-length-2 : tie.Need-same-length-2
 same-length-2 c = search needs
@@ -52,7 +52,7 @@ unfolding matrixFits
 returns-2 c =
     let a = c .before .before .before .before .before .before .args in
     let f = sym (c .before .before .before .rows-inside .ensures) ∙ c .before .before .if1 .left in
-    record { all = rw f refl; fine-is = ap (λ b. a .ok && b) (c .fine-rows2 .ensures) }
+    record { all = rw f refl; finite-is = ap (λ b. a .ok && b) (c .stagesFinite-rows2 .ensures) }
 
 pub matrix-spec : {M : Type 1} → statement M
 matrix-spec =
@@ -62,9 +62,9 @@ matrix-spec =
     mul-part
     part-requires
     linear-no-bias-forward-requires
-    fine-rows-requires
+    finite-rows-requires
     same-length
     returns
-    fine-rows-requires-2
+    finite-rows-requires-2
     same-length-2
     returns-2)

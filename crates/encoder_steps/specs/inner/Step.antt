@@ -9,11 +9,11 @@ use Rattle.buffers.specs.Region.{region, put}
 use Rattle.buffers.specs.inner.Apart.{Apart}
 use Rattle.buffers.specs.inner.Room.{inside, whereFits}
 use Rattle.encoder_linear.specs.inner.Room.{linearFits}
-use Rattle.encoder_kernels.specs.Finite.{sound}
+use Rattle.encoder_kernels.specs.Finite.{allFinite}
 
 -- the n floats at y lie inside, and are finite
-unfoldable pub fineAt : List Float → ℕ → ℕ → Bool
-fineAt s y n = inside (length s) y n && sound (region s y n)
+unfoldable pub finiteAt : List Float → ℕ → ℕ → Bool
+finiteAt s y n = inside (length s) y n && allFinite (region s y n)
 
 -- a linear layer by the matrix at place at of the weights, from x to y
 unfoldable pub matrixFits : ℕ → ℕ → ℕ → ℕ → ℕ → ℕ → ℕ → ℕ → Bool
@@ -29,9 +29,9 @@ pub record MatrixAt (lens lenw x y rows nin nout at : ℕ) : Type 0 where
 -- a step, whether it fits or not: l written at y where it fits, and whether the n floats there are finite, and all up to here
 pub record Tried (fits : Bool) (s t : List Float) (y n : ℕ) (l : List Float) (ok r : Bool) : Type 0 where
   pub all : t ≡ whereFits fits s y l
-  pub fine-is : r ≡ (ok && fineAt t y n)
+  pub finite-is : r ≡ (ok && finiteAt t y n)
 
 -- one that fits: l written at y, and whether all is finite up to here
 pub record Wrote (s t : List Float) (y : ℕ) (l : List Float) (ok r : Bool) : Type 0 where
   pub all : t ≡ put s y l
-  pub fine-is : r ≡ (ok && sound l)
+  pub finite-is : r ≡ (ok && allFinite l)

@@ -5,7 +5,7 @@ use native.Mathlib.Omega.{arith}
 use borrow.Author.Needs.{needs}
 use lib.ListN.{length}
 use Rattle.buffers.proofs.Rooms.{written}
-use Rattle.encoder_kernels.specs.Finite.{sound}
+use Rattle.encoder_kernels.specs.Finite.{allFinite}
 use Rattle.encoder_attention.proofs.Keys.{stands, same-scores, same-left}
 use Rattle.encoder_attention.proofs.Rooms.{attend-says}
 use Rattle.encoder_attention.proofs.attention.attend.Statement.{statement}
@@ -44,7 +44,7 @@ returns c =
     let S = same-scores (a .s .now) (k .last .0) (a .q) (a .k) (a .v) (a .kt) (a .row) (a .out) (a .t) (a .heads) (a .hd) f (k .ensures) (a .scaling) in
     let x = written (m .last .0) (w .last .0) _ (a .row) (a .t) (rw (m .kept .0 ∙ k .kept .0) (f .turned .rowIn)) (w .ensures) in
     let A = same-left (a .s .now) (k .last .0) (a .q) (a .k) (a .v) (a .kt) (a .row) (a .out) (a .t) (a .heads) (a .hd) f (k .ensures) (a .scaling) (m .last .0) (w .last .0) x (m .ensures .1) in
-    (rw t (m .ensures .0 ∙ ap sound S), rw t A)
+    (rw t (m .ensures .0 ∙ ap allFinite S), rw t A)
 
 returns-2 : tie.Need-returns-2
 returns-2 c = (rw (← c .before .attend-fits .ensures, c .if1 .left), rw (← c .before .attend-fits .ensures, c .if1 .left))

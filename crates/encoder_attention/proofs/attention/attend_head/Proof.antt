@@ -6,7 +6,7 @@ use borrow.Author.Needs.{needs}
 use lib.ListN.{length}
 use Rattle.buffers.proofs.Lists.{fit}
 use Rattle.buffers.proofs.Regions.{apart-sub, apart-sym}
-use Rattle.encoder_kernels.specs.Finite.{sound}
+use Rattle.encoder_kernels.specs.Finite.{allFinite}
 use Rattle.encoder_attention.proofs.Attends.{head-run, head-rows}
 use Rattle.encoder_linear.specs.inner.Fits.{WeighFits}
 use Rattle.encoder_linear.proofs.Rooms.{weigh-fits}
@@ -97,7 +97,7 @@ returns c =
     let f = weigh-fits (weighed (k .pre)) in
     let r = head-run (a .s .now) (a .q) (a .k) (a .v) (a .row) (a .out) (a .t) (a .heads) (a .hd) (a .scaling) (a .w) (a .e) (a .i) (a .h) (k .pre)
     (sc .last .0) (so .last .0) (w .last .0) (sc .ensures) (so .ensures) (rw (l, f) at (w .ensures)) in
-    (c .before .before .before .before .before .before .before .before .finite .ensures ∙ ap sound (c .before .before .before .before .before .before .before .before .before .part .ensures ∙ r .0), r .1)
+    (c .before .before .before .before .before .before .before .before .finite .ensures ∙ ap allFinite (c .before .before .before .before .before .before .before .before .before .part .ensures ∙ r .0), r .1)
 
 pub attend-head-spec : {M : Type 1} → statement M
 attend-head-spec =

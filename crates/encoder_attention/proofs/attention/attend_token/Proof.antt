@@ -10,14 +10,14 @@ use Rattle.buffers.specs.Rows.{rows}
 use Rattle.buffers.proofs.Lists.{fit}
 use Rattle.encoder_attention.specs.Attention.{tokenScores, tokenSums}
 use Rattle.buffers.specs.Each.{blank}
-use Rattle.encoder_kernels.specs.Finite.{sound}
+use Rattle.encoder_kernels.specs.Finite.{allFinite}
 use Rattle.encoder_attention.proofs.Attends.{sumsAt, scoresAt, token-turn}
 use Rattle.encoder_attention.proofs.attention.attend_token.Statement.{statement}
 use Rattle.encoder_attention.proofs.attention.attend_token.Tie as tie
 
 abbrev Inv-loop : tie.InvT-loop
 Inv-loop s₀ q k v row out t heads hd i scaling dim ok₀ h₀ s ok h =
-    (h ≤ heads) × (length s ≡ length s₀) × (ok ≡ sound (rows h (scoresAt s₀ q k v row out t heads hd scaling i)))
+    (h ≤ heads) × (length s ≡ length s₀) × (ok ≡ allFinite (rows h (scoresAt s₀ q k v row out t heads hd scaling i)))
     × (blank zero32 row t s ≡ put (blank zero32 row t s₀) (out + i * (heads * hd)) (rows h (sumsAt s₀ q k v row out t heads hd scaling i)))
 
 abbrev μ-loop : tie.MeasureT-loop
@@ -27,7 +27,7 @@ mul-dim : tie.Need-mul-dim Inv-loop μ-loop
 mul-dim c = omega (arith, c .before .pre .fits .dimIn)
 
 loop-holds : tie.Need-loop-holds Inv-loop μ-loop
-unfolding rows put sound
+unfolding rows put allFinite
 loop-holds c = (omega arith, refl, refl, refl)
 
 mul-attend-head : tie.Need-mul-attend-head Inv-loop μ-loop
@@ -63,7 +63,7 @@ returns c =
     let a = c .before .before .before .args in
     let l = c .before .loop in
     let z : l .h ≡ a .heads = omega arith in (
-      l .inv .2 ∙ ap (λ n. sound (rows n (scoresAt (a .s .now) (a .q) (a .k) (a .v) (a .row) (a .out) (a .t) (a .heads) (a .hd) (a .scaling) (a .i)))) z,
+      l .inv .2 ∙ ap (λ n. allFinite (rows n (scoresAt (a .s .now) (a .q) (a .k) (a .v) (a .row) (a .out) (a .t) (a .heads) (a .hd) (a .scaling) (a .i)))) z,
       l .inv .3 ∙ ap (λ n. put (blank zero32 (a .row) (a .t) (a .s .now)) (a .out + a .i * (a .heads * a .hd)) (rows n (sumsAt (a .s .now) (a .q) (a .k) (a .v) (a .row) (a .out) (a .t) (a .heads) (a .hd) (a .scaling) (a .i)))) z,
     )
 

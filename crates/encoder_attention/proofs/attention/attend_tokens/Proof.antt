@@ -10,21 +10,21 @@ use Rattle.buffers.specs.Rows.{rows}
 use Rattle.buffers.specs.Each.{blank}
 use Rattle.encoder_attention.specs.Attention.{tokenScores, scoresOf, attentionOf}
 use Rattle.encoder_attention.specs.inner.Keys.{keysOf}
-use Rattle.encoder_kernels.specs.Finite.{sound}
+use Rattle.encoder_kernels.specs.Finite.{allFinite}
 use Rattle.encoder_attention.proofs.Attends.{tokenAt, attend-turn}
 use Rattle.encoder_attention.proofs.attention.attend_tokens.Statement.{statement}
 use Rattle.encoder_attention.proofs.attention.attend_tokens.Tie as tie
 
 abbrev Inv-loop : tie.InvT-loop
 Inv-loop s₀ q k v row out t heads hd scaling ok₀ i₀ s ok i =
-    (i ≤ t) × (length s ≡ length s₀) × (ok ≡ sound (rows i (λ j. tokenScores t heads hd scaling (region s₀ q (t * (heads * hd))) (keysOf t (heads * hd) (region s₀ k (t * (heads * hd)))) j)))
+    (i ≤ t) × (length s ≡ length s₀) × (ok ≡ allFinite (rows i (λ j. tokenScores t heads hd scaling (region s₀ q (t * (heads * hd))) (keysOf t (heads * hd) (region s₀ k (t * (heads * hd)))) j)))
     × (blank zero32 row t s ≡ put (blank zero32 row t s₀) out (rows i (tokenAt s₀ q k v row out t heads hd scaling)))
 
 abbrev μ-loop : tie.MeasureT-loop
 μ-loop s₀ q k v row out t heads hd scaling ok₀ i₀ s ok i = t - i
 
 loop-holds : tie.Need-loop-holds Inv-loop μ-loop
-unfolding rows put sound
+unfolding rows put allFinite
 loop-holds c = (omega arith, refl, refl, refl)
 
 attend-token-requires : tie.Need-attend-token-requires Inv-loop μ-loop
@@ -55,7 +55,7 @@ returns c =
     let a = c .before .before .before .args in
     let l = c .before .loop in
     let z : l .i ≡ a .t = omega arith in (
-      l .inv .2 ∙ ap (λ n. sound (rows n (λ j. tokenScores (a .t) (a .heads) (a .hd) (a .scaling) (region (a .s .now) (a .q) (a .t * (a .heads * a .hd))) (keysOf (a .t) (a .heads * a .hd) (region (a .s .now) (a .k) (a .t * (a .heads * a .hd)))) j))) z,
+      l .inv .2 ∙ ap (λ n. allFinite (rows n (λ j. tokenScores (a .t) (a .heads) (a .hd) (a .scaling) (region (a .s .now) (a .q) (a .t * (a .heads * a .hd))) (keysOf (a .t) (a .heads * a .hd) (region (a .s .now) (a .k) (a .t * (a .heads * a .hd)))) j))) z,
       l .inv .3 ∙ ap (λ n. put (blank zero32 (a .row) (a .t) (a .s .now)) (a .out) (rows n (tokenAt (a .s .now) (a .q) (a .k) (a .v) (a .row) (a .out) (a .t) (a .heads) (a .hd) (a .scaling)))) z,
     )
 

@@ -11,18 +11,18 @@ use Rattle.buffers.proofs.Lists.{fit, length-rows}
 use Rattle.buffers.proofs.Puts.{puts-joined}
 use Rattle.buffers.proofs.Regions.{apart-sub}
 use Rattle.number_floats.specs.Constants.{zero32}
-use Rattle.encoder_kernels.specs.Finite.{sound}
+use Rattle.encoder_kernels.specs.Finite.{allFinite}
 use Rattle.encoder_attention.specs.Attention.{tokenScores, tokenSums, scoresOf, attentionOf}
 use Rattle.encoder_attention.specs.inner.Fits.{GatherFits, HeadsFit}
 use Rattle.encoder_attention.proofs.Attends.{sumsAt, scoresAt, length-sumsAt}
-use Rattle.encoder_attention.proofs.Bands.{puts-none, sound-turned}
+use Rattle.encoder_attention.proofs.Bands.{puts-none, all-finite-turned}
 use Rattle.encoder_attention.proofs.Values.{queries-fit, heads-turn}
 use Rattle.encoder_attention.proofs.heads.attend_heads.Statement.{statement}
 use Rattle.encoder_attention.proofs.heads.attend_heads.Tie as tie
 
 abbrev Inv-loop : tie.InvT-loop
 Inv-loop s₀ q k v g out t heads hd scaling dim row ok₀ h₀ s ok h =
-    (h ≤ heads) × (length s ≡ length s₀) × (ok ≡ sound (rows h (λ j. rows t (λ i. scoresAt s₀ q k v g out t heads hd scaling i j))))
+    (h ≤ heads) × (length s ≡ length s₀) × (ok ≡ allFinite (rows h (λ j. rows t (λ i. scoresAt s₀ q k v g out t heads hd scaling i j))))
     × (blank zero32 g (t * (heads * hd)) s ≡ putRows (blank zero32 g (t * (heads * hd)) s₀) t (λ i. out + i * (heads * hd)) (λ i. rows h (sumsAt s₀ q k v g out t heads hd scaling i)))
 
 abbrev μ-loop : tie.MeasureT-loop
@@ -44,7 +44,7 @@ add-row : tie.Need-add-row Inv-loop μ-loop
 add-row c = omega (arith, c .before .pre .gIn, c .before .pre .spare)
 
 loop-holds : tie.Need-loop-holds Inv-loop μ-loop
-unfolding rows sound
+unfolding rows allFinite
 loop-holds c =
     let a = c .before .args in
     (omega arith, refl, refl, sym (puts-none (blank zero32 (a .g) (a .t * (a .heads * a .hd)) (a .s .now)) (λ i. a .out + i * (a .heads * a .hd)) (a .t)))
@@ -87,7 +87,7 @@ returns c =
     let n = a .t * (a .heads * a .hd) in
     let S = scoresAt (a .s .now) (a .q) (a .k) (a .v) (a .g) (a .out) (a .t) (a .heads) (a .hd) (a .scaling) in
     let F = sumsAt (a .s .now) (a .q) (a .k) (a .v) (a .g) (a .out) (a .t) (a .heads) (a .hd) (a .scaling) in (
-      l .inv .2 ∙ ap (λ m. sound (rows m (λ j. rows (a .t) (λ i. S i j)))) z ∙ sound-turned (a .t) (a .heads) S,
+      l .inv .2 ∙ ap (λ m. allFinite (rows m (λ j. rows (a .t) (λ i. S i j)))) z ∙ all-finite-turned (a .t) (a .heads) S,
       l .inv .3 ∙ ap (λ m. putRows (blank zero32 (a .g) n (a .s .now)) (a .t) (λ i. a .out + i * (a .heads * a .hd)) (λ i. rows m (F i))) z
           ∙ puts-joined (blank zero32 (a .g) n (a .s .now)) (λ i. a .out + i * (a .heads * a .hd)) (λ i. rows (a .heads) (F i)) (a .heads * a .hd) (a .out) (a .t)
           (λ i. length-rows (F i) (a .hd) (length-sumsAt (a .s .now) (a .q) (a .k) (a .v) (a .g) (a .out) (a .t) (a .heads) (a .hd) (a .scaling) i) (a .heads)) (λ i _. refl),

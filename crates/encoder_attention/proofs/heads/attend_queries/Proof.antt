@@ -8,21 +8,21 @@ use Rattle.buffers.specs.Region.{putRows}
 use Rattle.buffers.specs.Rows.{rows}
 use Rattle.buffers.specs.Each.{blank}
 use Rattle.number_floats.specs.Constants.{zero32}
-use Rattle.encoder_kernels.specs.Finite.{sound}
+use Rattle.encoder_kernels.specs.Finite.{allFinite}
 use Rattle.encoder_attention.proofs.Values.{scored, summed, goes, queries-turn}
 use Rattle.encoder_attention.proofs.heads.attend_queries.Statement.{statement}
 use Rattle.encoder_attention.proofs.heads.attend_queries.Tie as tie
 
 abbrev Inv-loop : tie.InvT-loop
 Inv-loop s₀ q k v row out t heads hd h scaling ok₀ i₀ s ok i =
-    (i ≤ t) × (length s ≡ length s₀) × (ok ≡ sound (rows i (scored s₀ q k v row out t heads hd h scaling)))
+    (i ≤ t) × (length s ≡ length s₀) × (ok ≡ allFinite (rows i (scored s₀ q k v row out t heads hd h scaling)))
     × (blank zero32 row t s ≡ putRows (blank zero32 row t s₀) i (goes s₀ q k v row out t heads hd h scaling) (summed s₀ q k v row out t heads hd h scaling))
 
 abbrev μ-loop : tie.MeasureT-loop
 μ-loop s₀ q k v row out t heads hd h scaling ok₀ i₀ s ok i = t - i
 
 loop-holds : tie.Need-loop-holds Inv-loop μ-loop
-unfolding rows putRows sound
+unfolding rows putRows allFinite
 loop-holds c = (omega arith, refl, refl, refl)
 
 attend-head-requires : tie.Need-attend-head-requires Inv-loop μ-loop
@@ -54,7 +54,7 @@ returns c =
     let a = c .before .before .before .args in
     let l = c .before .loop in
     let z : l .i ≡ a .t = omega arith in (
-      l .inv .2 ∙ ap (λ n. sound (rows n (scored (a .s .now) (a .q) (a .k) (a .v) (a .row) (a .out) (a .t) (a .heads) (a .hd) (a .h) (a .scaling)))) z,
+      l .inv .2 ∙ ap (λ n. allFinite (rows n (scored (a .s .now) (a .q) (a .k) (a .v) (a .row) (a .out) (a .t) (a .heads) (a .hd) (a .h) (a .scaling)))) z,
       l .inv .3 ∙ ap (λ n. putRows (blank zero32 (a .row) (a .t) (a .s .now)) n (goes (a .s .now) (a .q) (a .k) (a .v) (a .row) (a .out) (a .t) (a .heads) (a .hd) (a .h) (a .scaling)) (summed (a .s .now) (a .q) (a .k) (a .v) (a .row) (a .out) (a .t) (a .heads) (a .hd) (a .h) (a .scaling))) z,
     )
 

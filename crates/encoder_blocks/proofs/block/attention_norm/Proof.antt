@@ -12,14 +12,14 @@ use Rattle.encoder_steps.proofs.Writes.{norm-wrote}
 use Rattle.encoder_blocks.proofs.block.attention_norm.Statement.{statement}
 use Rattle.encoder_blocks.proofs.block.attention_norm.Tie as tie
 
-mul-norm-fine : tie.Need-mul-norm-fine
-mul-norm-fine c = search needs
+mul-norm-finite : tie.Need-mul-norm-finite
+mul-norm-finite c = search needs
 
 part-requires : tie.Need-part-requires
 part-requires c κs = search needs
 
-norm-fine-requires : tie.Need-norm-fine-requires
-norm-fine-requires c κs = search needs
+norm-finite-requires : tie.Need-norm-finite-requires
+norm-finite-requires c κs = search needs
 
 same-length : tie.Need-same-length
 same-length c = search needs
@@ -40,9 +40,9 @@ returns c =
       win = ap length (p .ensures) ∙ length-region (a .w .now) 0 d (omega (arith, g .weights));
       apart = before (omega arith);
     })
-    (c .before .before .norm-fine .ensures))
+    (c .before .before .norm-finite .ensures))
 
 pub attention-norm-spec : {M : Type 1} → statement M
 attention-norm-spec =
     tie.close
-    (tie.spec mul-norm-fine part-requires norm-fine-requires same-length returns)
+    (tie.spec mul-norm-finite part-requires norm-finite-requires same-length returns)

@@ -6,7 +6,7 @@ use borrow.Author.Needs.{needs}
 use Rattle.buffers.specs.inner.Apart.{before, after}
 use Rattle.encoder_blocks.specs.Block.{squareOf, mixed, scored}
 use Rattle.encoder_blocks.specs.Sizes.{nOf, partsOf}
-use Rattle.encoder_kernels.specs.Finite.{sound}
+use Rattle.encoder_kernels.specs.Finite.{allFinite}
 use Rattle.encoder_attention.proofs.Rooms.{attend-fits}
 use Rattle.encoder_settings.proofs.Weights.{stands}
 use Rattle.encoder_steps.proofs.Writes.{matrix-wrote, add-wrote}
@@ -59,11 +59,11 @@ mul-matrix-2 c = search needs
 matrix-requires : tie.Need-matrix-requires
 matrix-requires c κs = search needs
 
-mul-add-fine : tie.Need-mul-add-fine
-mul-add-fine c = search needs
+mul-add-finite : tie.Need-mul-add-finite
+mul-add-finite c = search needs
 
-add-fine-requires : tie.Need-add-fine-requires
-add-fine-requires c κs = search needs
+add-finite-requires : tie.Need-add-finite-requires
+add-finite-requires c κs = search needs
 
 same-length : tie.Need-same-length
 same-length c = search needs
@@ -79,11 +79,11 @@ returns c =
     let l = c .before .before .before .before .before .before .matrix .kept .0 ∙ c .before .before .before .before .before .before .before .before .before .before .before .before .before .attend .kept .0 in
     let w = c .before .before .before .before .before .before .before .before .before .before .before .before .before .before .before .before .before .pre .0 .whole in
     let fits = attend-fits (attend-at (a .z) (c .before .before .before .before .before .before .before .before .before .before .before .before .before .before .before .before .before .pre .0) (c .before .before .before .before .before .before .before .before .before .before .before .before .before .before .before .before .before .pre .1)) in
-    attn-mix (a .z) (a .w .now) (a .s .now) g w (a .row) (c .before .before .before .before .before .before .before .before .before .before .before .before .before .before .before .before .before .pre .1 .behind) (c .before .before .before .before .before .before .before .before .before .before .before .before .before .before .before .before .before .pre .1 .inside) (c .before .before .before .before .before .before .before .before .before .before .before .before .before .attend .last .0) (c .before .before .before .before .before .before .matrix .last .0) (c .before .before .add-fine .last .0) (a .ok) (c .before .before .before .before .before .before .before .before .before .before .before .before .before .attend .result) (c .before .before .before .before .before .before .before .before .finite .result) (c .before .before .before .before .before .before .matrix .result) (c .before .before .add-fine .result)
-    (rw (fits, w) at (c .before .before .before .before .before .before .before .before .before .before .before .before .before .attend .ensures .0)) (rw (fits, w) at (c .before .before .before .before .before .before .before .before .before .before .before .before .before .attend .ensures .1)) (c .before .before .before .before .before .before .before .before .before .before .before .before .before .attend .kept .0) (c .before .before .before .before .before .before .before .before .finite .ensures ∙ ap sound (c .before .before .before .before .before .before .before .before .before .part .ensures))
+    attn-mix (a .z) (a .w .now) (a .s .now) g w (a .row) (c .before .before .before .before .before .before .before .before .before .before .before .before .before .before .before .before .before .pre .1 .behind) (c .before .before .before .before .before .before .before .before .before .before .before .before .before .before .before .before .before .pre .1 .inside) (c .before .before .before .before .before .before .before .before .before .before .before .before .before .attend .last .0) (c .before .before .before .before .before .before .matrix .last .0) (c .before .before .add-finite .last .0) (a .ok) (c .before .before .before .before .before .before .before .before .before .before .before .before .before .attend .result) (c .before .before .before .before .before .before .before .before .finite .result) (c .before .before .before .before .before .before .matrix .result) (c .before .before .add-finite .result)
+    (rw (fits, w) at (c .before .before .before .before .before .before .before .before .before .before .before .before .before .attend .ensures .0)) (rw (fits, w) at (c .before .before .before .before .before .before .before .before .before .before .before .before .before .attend .ensures .1)) (c .before .before .before .before .before .before .before .before .before .before .before .before .before .attend .kept .0) (c .before .before .before .before .before .before .before .before .finite .ensures ∙ ap allFinite (c .before .before .before .before .before .before .before .before .before .part .ensures))
     (rw (stands (partsOf (a .z)) "o" (a .w .now) e (d * d) (omega arith) (omega arith)) at (matrix-wrote (a .w .now) (5 * n) (6 * n) (a .z .tokens) d d e
     (record { xIn = omega (arith, g, c .before .before .before .before .before .before .before .before .before .before .before .before .before .attend .kept .0); yIn = omega (arith, g, c .before .before .before .before .before .before .before .before .before .before .before .before .before .attend .kept .0); wIn = omega (arith, c .before .before .before .before .before .before .before .before .before .before .before .before .before .before .before .before .before .pre .0 .weights); apart = before (omega arith) }) (c .before .before .before .before .before .before .matrix .ensures)))
-    (add-wrote 0 (6 * n) n (record { yin = omega (arith, g, l); zin = omega (arith, g, l); apart = after (omega arith) }) (c .before .before .add-fine .ensures))
+    (add-wrote 0 (6 * n) n (record { yin = omega (arith, g, l); zin = omega (arith, g, l); apart = after (omega arith) }) (c .before .before .add-finite .ensures))
 
 pub attn-mix-spec : {M : Type 1} → statement M
 attn-mix-spec =
@@ -104,7 +104,7 @@ attn-mix-spec =
     mul-matrix
     mul-matrix-2
     matrix-requires
-    mul-add-fine
-    add-fine-requires
+    mul-add-finite
+    add-finite-requires
     same-length
     returns)

@@ -39,17 +39,17 @@ mul-down-5 c = search needs
 add-down-2 : tie.Need-add-down-2
 add-down-2 c = search needs
 
-mul-gate-fine : tie.Need-mul-gate-fine
-mul-gate-fine c = search needs
+mul-gate-finite : tie.Need-mul-gate-finite
+mul-gate-finite c = search needs
 
-mul-gate-fine-2 : tie.Need-mul-gate-fine-2
-mul-gate-fine-2 c = search needs
+mul-gate-finite-2 : tie.Need-mul-gate-finite-2
+mul-gate-finite-2 c = search needs
 
-add-gate-fine : tie.Need-add-gate-fine
-add-gate-fine c = search needs
+add-gate-finite : tie.Need-add-gate-finite
+add-gate-finite c = search needs
 
-gate-fine-requires : tie.Need-gate-fine-requires
-gate-fine-requires c κs = search needs
+gate-finite-requires : tie.Need-gate-finite-requires
+gate-finite-requires c κs = search needs
 
 mul-matrix : tie.Need-mul-matrix
 mul-matrix c = search needs
@@ -60,14 +60,14 @@ mul-matrix-2 c = search needs
 matrix-requires : tie.Need-matrix-requires
 matrix-requires c κs = search needs
 
-mul-add-fine : tie.Need-mul-add-fine
-mul-add-fine c = search needs
+mul-add-finite : tie.Need-mul-add-finite
+mul-add-finite c = search needs
 
-add-fine-requires : tie.Need-add-fine-requires
-add-fine-requires c κs = search needs
+add-finite-requires : tie.Need-add-finite-requires
+add-finite-requires c κs = search needs
 
-round-fine-requires : tie.Need-round-fine-requires
-round-fine-requires c κs = search needs
+round-finite-requires : tie.Need-round-finite-requires
+round-finite-requires c κs = search needs
 
 same-length : tie.Need-same-length
 same-length c = search needs
@@ -77,10 +77,10 @@ unfolding outerOf
 returns c =
     let a = c .before .before .before .before .before .before .before .before .before .before .before .before .before .before .before .before .before .before .args in
     let g = c .before .before .before .before .before .before .before .before .before .before .before .before .before .before .before .before .before .before .pre in
-    let v = c .before .before .before .before .before .before .before .before .before .before .before .before .before .before .gate-fine in
+    let v = c .before .before .before .before .before .before .before .before .before .before .before .before .before .before .gate-finite in
     let x = c .before .before .before .before .before .before .before .before .before .before .matrix in
-    let y = c .before .before .before .before .before .before .add-fine in
-    let z = c .before .before .round-fine in
+    let y = c .before .before .before .before .before .before .add-finite in
+    let z = c .before .before .round-finite in
     let t = a .z .tokens in
     let d = a .z .hidden in
     let i = a .z .inter in
@@ -109,15 +109,15 @@ feed-out-spec =
     mul-down-4
     mul-down-5
     add-down-2
-    mul-gate-fine
-    mul-gate-fine-2
-    add-gate-fine
-    gate-fine-requires
+    mul-gate-finite
+    mul-gate-finite-2
+    add-gate-finite
+    gate-finite-requires
     mul-matrix
     mul-matrix-2
     matrix-requires
-    mul-add-fine
-    add-fine-requires
-    round-fine-requires
+    mul-add-finite
+    add-finite-requires
+    round-finite-requires
     same-length
     returns)

@@ -22,14 +22,14 @@ mul-at-2 c = search needs
 add-at : tie.Need-add-at
 add-at c = search needs
 
-mul-norm-fine : tie.Need-mul-norm-fine
-mul-norm-fine c = search needs
+mul-norm-finite : tie.Need-mul-norm-finite
+mul-norm-finite c = search needs
 
 part-requires : tie.Need-part-requires
 part-requires c κs = search needs
 
-norm-fine-requires : tie.Need-norm-fine-requires
-norm-fine-requires c κs = search needs
+norm-finite-requires : tie.Need-norm-finite-requires
+norm-finite-requires c κs = search needs
 
 same-length : tie.Need-same-length
 same-length c = search needs
@@ -50,7 +50,7 @@ returns c =
       win = ap length (p .ensures) ∙ length-region (a .w .now) (d + 4 * (d * d)) d (omega (arith, g .weights));
       apart = before (omega arith);
     })
-    (c .before .before .norm-fine .ensures))
+    (c .before .before .norm-finite .ensures))
 
 pub ffn-norm-spec : {M : Type 1} → statement M
 ffn-norm-spec =
@@ -59,8 +59,8 @@ ffn-norm-spec =
     mul-at
     mul-at-2
     add-at
-    mul-norm-fine
+    mul-norm-finite
     part-requires
-    norm-fine-requires
+    norm-finite-requires
     same-length
     returns)

@@ -8,19 +8,19 @@ use lib.ListN.{length, take, getD}
 use lib.Seq.{take-all}
 use lib.Ieee.{nan, div, neg, ofBits}
 use Rattle.number_floats.proofs.Order.{finite-tests}
-use Rattle.encoder_kernels.specs.Finite.{sound}
-use Rattle.encoder_kernels.proofs.Finites.{sound-take}
+use Rattle.encoder_kernels.specs.Finite.{allFinite}
+use Rattle.encoder_kernels.proofs.Finites.{all-finite-take}
 use Rattle.encoder_kernels.proofs.finite.finite.Statement.{statement}
 use Rattle.encoder_kernels.proofs.finite.finite.Tie as tie
 
 abbrev Inv-loop : tie.InvT-loop
-Inv-loop x top ok₀ i₀ ok i = (i ≤ length x) × (ok ≡ sound (take i x))
+Inv-loop x top ok₀ i₀ ok i = (i ≤ length x) × (ok ≡ allFinite (take i x))
 
 abbrev μ-loop : tie.MeasureT-loop
 μ-loop x top ok₀ i₀ ok i = length x - i
 
 loop-holds : tie.Need-loop-holds Inv-loop μ-loop
-unfolding sound
+unfolding allFinite
 loop-holds c = (omega arith, refl)
 
 mul-v : tie.Need-mul-v Inv-loop μ-loop
@@ -40,11 +40,11 @@ unfolding div neg ofBits
 loop-again c =
     let l = c .before .before .loop in
     let a = c .before .before .before .args in
-    (omega arith, rw (add-one, sound-take (a .x .now) (l .i) (omega arith), ← finite-tests (getD (a .x .now) (l .i) nan), ← l .inv .1) refl)
+    (omega arith, rw (add-one, all-finite-take (a .x .now) (l .i) (omega arith), ← finite-tests (getD (a .x .now) (l .i) nan), ← l .inv .1) refl)
 
 returns : tie.Need-returns Inv-loop μ-loop
 returns c =
-    c .before .loop .inv .1 ∙ ap sound (take-all (c .before .loop .i) (c .before .before .args .x .now) (omega arith))
+    c .before .loop .inv .1 ∙ ap allFinite (take-all (c .before .loop .i) (c .before .before .args .x .now) (omega arith))
 
 pub finite-spec : {M : Type 1} → statement M
 finite-spec =

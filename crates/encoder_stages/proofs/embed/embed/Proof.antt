@@ -24,27 +24,27 @@ mul-e c = search needs
 part-requires : tie.Need-part-requires
 part-requires c κs = search needs
 
-from-fine-requires : tie.Need-from-fine-requires
-from-fine-requires c κs =
+from-finite-requires : tie.Need-from-finite-requires
+from-finite-requires c κs =
     let a = c .before .before .before .before .before .args in
     let g = c .before .before .before .before .before .pre in
     let e : length (c .part .result .now) ≡ a .z .hidden * a .f = ap length (c .part .ensures) ∙ length-region (a .w .now) 0 (a .z .hidden * a .f) (omega (arith, g .weights)) in
     record { xin = omega (arith, g .xin); yin = omega (arith, g .room); win = omega (arith, e) }
 
-round-fine-requires : tie.Need-round-fine-requires
-round-fine-requires c κs = search needs
+round-finite-requires : tie.Need-round-finite-requires
+round-finite-requires c κs = search needs
 
 part-requires-2 : tie.Need-part-requires-2
 part-requires-2 c κs = search needs
 
-norm-fine-requires : tie.Need-norm-fine-requires
-norm-fine-requires c κs = search needs
+norm-finite-requires : tie.Need-norm-finite-requires
+norm-finite-requires c κs = search needs
 
-round-fine-requires-2 : tie.Need-round-fine-requires-2
-round-fine-requires-2 c κs = search needs
+round-finite-requires-2 : tie.Need-round-finite-requires-2
+round-finite-requires-2 c κs = search needs
 
 same-length : tie.Need-same-length
-same-length c = c .before .before .round-fine2 .kept .0 ∙ c .before .before .before .before .before .before .norm-fine .kept .0 ∙ c .before .before .before .before .before .before .before .before .before .before .before .round-fine .kept .0 ∙ c .before .before .before .before .before .before .before .before .before .before .before .before .before .before .before .from-fine .kept .1 .0
+same-length c = c .before .before .round-finite2 .kept .0 ∙ c .before .before .before .before .before .before .norm-finite .kept .0 ∙ c .before .before .before .before .before .before .before .before .before .before .before .round-finite .kept .0 ∙ c .before .before .before .before .before .before .before .before .before .before .before .before .before .before .before .from-finite .kept .1 .0
 
 returns : tie.Need-returns
 unfolding patchConv lnPre
@@ -53,11 +53,11 @@ returns c =
     let g = c .before .before .before .before .before .before .before .before .before .before .before .before .before .before .before .before .before .before .before .before .before .pre in
     let n = nOf (a .z) in
     let T = embedding (a .z .hidden) (a .f) in
-    let x = c .before .before .before .before .before .before .before .before .before .before .before .before .before .before .before .from-fine in
-    let y = c .before .before .before .before .before .before .before .before .before .before .before .round-fine in
+    let x = c .before .before .before .before .before .before .before .before .before .before .before .before .before .before .before .from-finite in
+    let y = c .before .before .before .before .before .before .before .before .before .before .before .round-finite in
     let q = c .before .before .before .before .before .before .before .part2 in
-    let z = c .before .before .before .before .before .before .norm-fine in
-    let r = c .before .before .round-fine2 in
+    let z = c .before .before .before .before .before .before .norm-finite in
+    let r = c .before .before .round-finite2 in
     let l = y .kept .0 ∙ x .kept .1 .0 in
     embedded (a .z) (a .f) (a .w .now) (a .x .now) (a .s .now) (g .room) (x .last .1 .0) (y .last .0) (z .last .0) (r .last .0)
     (a .ok) (x .result) (y .result) (z .result) (r .result)
@@ -82,10 +82,10 @@ embed-spec =
     mul-n
     mul-e
     part-requires
-    from-fine-requires
-    round-fine-requires
+    from-finite-requires
+    round-finite-requires
     part-requires-2
-    norm-fine-requires
-    round-fine-requires-2
+    norm-finite-requires
+    round-finite-requires-2
     same-length
     returns)

@@ -35,8 +35,8 @@ mul-e c = search needs
 part-requires : tie.Need-part-requires
 part-requires c κs = search needs
 
-norm-fine-requires : tie.Need-norm-fine-requires
-norm-fine-requires c κs = search needs
+norm-finite-requires : tie.Need-norm-finite-requires
+norm-finite-requires c κs = search needs
 
 mul-merge-tokens : tie.Need-mul-merge-tokens
 mul-merge-tokens c = search needs
@@ -45,7 +45,7 @@ mul-merge-tokens-2 : tie.Need-mul-merge-tokens-2
 mul-merge-tokens-2 c = search needs
 
 merge-tokens-requires : tie.Need-merge-tokens-requires
-merge-tokens-requires c κs = rw (c .before .before .before .norm-fine .kept .0) (c .before .before .before .before .before .before .before .before .pre .merges)
+merge-tokens-requires c κs = rw (c .before .before .before .norm-finite .kept .0) (c .before .before .before .before .before .before .before .before .pre .merges)
 
 mul-matrix : tie.Need-mul-matrix
 mul-matrix c = search needs
@@ -62,10 +62,10 @@ mul-matrix-3 c = search needs
 matrix-requires-2 : tie.Need-matrix-requires-2
 matrix-requires-2 c κs = search needs
 
-gelu-fine-requires : tie.Need-gelu-fine-requires
-gelu-fine-requires c κs =
+gelu-finite-requires : tie.Need-gelu-finite-requires
+gelu-finite-requires c κs =
     let g = c .before .before .before .before .before .before .before .before .before .before .before .before .before .before .before .before .before .before .before .before .pre in
-    let l = c .before .before .before .matrix2 .kept .0 ∙ c .before .before .before .before .before .before .before .matrix .kept .0 ∙ c .before .before .before .before .before .before .before .before .before .before .before .merge-tokens .kept .0 ∙ c .before .before .before .before .before .before .before .before .before .before .before .before .before .before .before .norm-fine .kept .0 in
+    let l = c .before .before .before .matrix2 .kept .0 ∙ c .before .before .before .before .before .before .before .matrix .kept .0 ∙ c .before .before .before .before .before .before .before .before .before .before .before .merge-tokens .kept .0 ∙ c .before .before .before .before .before .before .before .before .before .before .before .before .before .before .before .norm-finite .kept .0 in
     omega arith
 
 add-matrix : tie.Need-add-matrix
@@ -75,7 +75,7 @@ matrix-requires-3 : tie.Need-matrix-requires-3
 matrix-requires-3 c κs = search needs
 
 same-length : tie.Need-same-length
-same-length c = c .before .before .matrix3 .kept .0 ∙ c .before .before .before .before .before .before .gelu-fine .kept .0 ∙ c .before .before .before .before .before .before .before .before .before .before .matrix2 .kept .0 ∙ c .before .before .before .before .before .before .before .before .before .before .before .before .before .before .matrix .kept .0 ∙ c .before .before .before .before .before .before .before .before .before .before .before .before .before .before .before .before .before .before .merge-tokens .kept .0 ∙ c .before .before .before .before .before .before .before .before .before .before .before .before .before .before .before .before .before .before .before .before .before .before .norm-fine .kept .0
+same-length c = c .before .before .matrix3 .kept .0 ∙ c .before .before .before .before .before .before .gelu-finite .kept .0 ∙ c .before .before .before .before .before .before .before .before .before .before .matrix2 .kept .0 ∙ c .before .before .before .before .before .before .before .before .before .before .before .before .before .before .matrix .kept .0 ∙ c .before .before .before .before .before .before .before .before .before .before .before .before .before .before .before .before .before .before .merge-tokens .kept .0 ∙ c .before .before .before .before .before .before .before .before .before .before .before .before .before .before .before .before .before .before .before .before .before .before .norm-finite .kept .0
 
 returns : tie.Need-returns
 unfolding projNorm mergingLayer linear1 linear2
@@ -87,11 +87,11 @@ returns c =
     let p = a .dim + a .dim * a .wide in
     let T = projector (a .dim) (a .wide) (a .text) in
     let q = c .before .before .before .before .before .before .before .before .before .before .before .before .before .before .before .before .before .before .before .before .before .before .before .part in
-    let x₁ = c .before .before .before .before .before .before .before .before .before .before .before .before .before .before .before .before .before .before .before .before .before .before .norm-fine in
+    let x₁ = c .before .before .before .before .before .before .before .before .before .before .before .before .before .before .before .before .before .before .before .before .before .before .norm-finite in
     let x₂ = c .before .before .before .before .before .before .before .before .before .before .before .before .before .before .before .before .before .before .merge-tokens in
     let x₃ = c .before .before .before .before .before .before .before .before .before .before .before .before .before .before .matrix in
     let x₄ = c .before .before .before .before .before .before .before .before .before .before .matrix2 in
-    let x₅ = c .before .before .before .before .before .before .gelu-fine in
+    let x₅ = c .before .before .before .before .before .before .gelu-finite in
     let x₆ = c .before .before .matrix3 in
     let l₂ = x₂ .kept .0 ∙ x₁ .kept .0 in
     let l₃ = x₃ .kept .0 ∙ l₂ in
@@ -131,7 +131,7 @@ projector-forward-spec =
     add-q
     mul-e
     part-requires
-    norm-fine-requires
+    norm-finite-requires
     mul-merge-tokens
     mul-merge-tokens-2
     merge-tokens-requires
@@ -140,7 +140,7 @@ projector-forward-spec =
     matrix-requires
     mul-matrix-3
     matrix-requires-2
-    gelu-fine-requires
+    gelu-finite-requires
     add-matrix
     matrix-requires-3
     same-length

@@ -44,8 +44,8 @@ regions-requires c κs = rw (c .before .before .sizes-of .ensures) (c .before .b
 add-at : tie.Need-add-at
 add-at c = omega (arith, cuts (c .before .before .before) .3)
 
-inputs-fine-requires : tie.Need-inputs-fine-requires
-inputs-fine-requires c κs = search needs
+inputs-finite-requires : tie.Need-inputs-finite-requires
+inputs-finite-requires c κs = search needs
 
 part-requires : tie.Need-part-requires
 part-requires c κs = search needs
@@ -86,7 +86,7 @@ returns c =
     let z = c .before .before .before .before .before .before .before .before .before .before .before .before .before .before .before .before .before .before .before .before .sizes-of .result in
     let p = c .before .before .before .before .before .before .before .before .before .before .before .before .before .before .before .before .before .before .before .counts-of .result in
     let q = c .before .before .before .before .before .before .before .before .before .before .before .before .before .before .before .before .before .regions .result in
-    let i = c .before .before .before .before .before .before .before .before .before .before .before .before .before .before .before .inputs-fine in
+    let i = c .before .before .before .before .before .before .before .before .before .before .before .before .before .before .before .inputs-finite in
     let v₁ = c .before .before .before .before .before .before .before .before .before .before .before .before .before .part in
     let m = c .before .before .before .before .before .before .before .before .before .before .before .before .embed in
     let v₂ = c .before .before .before .before .before .before .before .before .before .part2 in
@@ -112,7 +112,7 @@ encode-spec =
     mul-regions
     regions-requires
     add-at
-    inputs-fine-requires
+    inputs-finite-requires
     part-requires
     embed-requires
     part-requires-2

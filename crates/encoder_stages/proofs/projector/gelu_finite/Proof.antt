@@ -1,4 +1,4 @@
--- `encoder_stages::projector::gelu_fine` meets its contract. Assumes nothing.
+-- `encoder_stages::projector::gelu_finite` meets its contract. Assumes nothing.
 use Prim.Native.Nat.{_+_}
 use borrow.Author.Needs.{needs}
 use borrow.Author.Tests.{le-leb}
@@ -7,8 +7,8 @@ use Rattle.buffers.specs.Region.{region}
 use Rattle.encoder_elements.specs.Element.{gelued}
 use Rattle.encoder_elements.proofs.Lengths.{length-gelued}
 use Rattle.encoder_steps.proofs.Writes.{wrote}
-use Rattle.encoder_stages.proofs.projector.gelu_fine.Statement.{statement}
-use Rattle.encoder_stages.proofs.projector.gelu_fine.Tie as tie
+use Rattle.encoder_stages.proofs.projector.gelu_finite.Statement.{statement}
+use Rattle.encoder_stages.proofs.projector.gelu_finite.Tie as tie
 
 gelu-inplace-requires : tie.Need-gelu-inplace-requires
 gelu-inplace-requires c κs = search needs
@@ -28,6 +28,6 @@ returns c =
     wrote (a .s .now) (c .before .before .before .before .before .gelu-inplace .last .0) (a .y) (a .n) (gelued (a .n) (region (a .s .now) (a .y) (a .n))) (c .before .part .result .now) (a .ok) (c .finite .result)
     (rw (le-leb (a .y + a .n) (length (a .s .now)) (c .before .before .before .before .before .before .before .before .pre)) at (c .before .before .before .before .before .gelu-inplace .ensures)) (length-gelued (a .n) (region (a .s .now) (a .y) (a .n))) (c .before .before .before .before .before .before .before .before .pre) (c .before .part .ensures) (c .finite .ensures)
 
-pub gelu-fine-spec : {M : Type 1} → statement M
-gelu-fine-spec =
+pub gelu-finite-spec : {M : Type 1} → statement M
+gelu-finite-spec =
     tie.close (tie.spec gelu-inplace-requires part-requires finite-requires same-length returns)

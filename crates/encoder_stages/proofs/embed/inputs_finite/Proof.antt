@@ -1,7 +1,7 @@
--- `encoder_stages::embed::inputs_fine` meets its contract. Assumes nothing.
+-- `encoder_stages::embed::inputs_finite` meets its contract. Assumes nothing.
 use borrow.Author.Needs.{needs}
-use Rattle.encoder_stages.proofs.embed.inputs_fine.Statement.{statement}
-use Rattle.encoder_stages.proofs.embed.inputs_fine.Tie as tie
+use Rattle.encoder_stages.proofs.embed.inputs_finite.Statement.{statement}
+use Rattle.encoder_stages.proofs.embed.inputs_finite.Tie as tie
 
 finite-requires : tie.Need-finite-requires
 finite-requires c κs = search needs
@@ -18,8 +18,8 @@ finite-requires-4 c κs = search needs
 returns : tie.Need-returns
 returns c = cc (c .before .before .before .finite .ensures, c .before .before .finite2 .ensures, c .before .finite3 .ensures, c .finite4 .ensures)
 
-pub inputs-fine-spec : {M : Type 1} → statement M
-inputs-fine-spec =
+pub inputs-finite-spec : {M : Type 1} → statement M
+inputs-finite-spec =
     tie.close
     (tie.spec
     finite-requires

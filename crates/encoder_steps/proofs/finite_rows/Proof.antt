@@ -1,14 +1,14 @@
--- `encoder_steps::fine_rows` meets its contract. Assumes nothing.
+-- `encoder_steps::finite_rows` meets its contract. Assumes nothing.
 use mathlib.Core.Path.{sym, ap, _∙_}
 use Prim.Native.Nat.{_+_, _*_}
 use native.Mathlib.Omega.{arith}
 use borrow.Author.Needs.{needs}
 use borrow.Author.Tests.{leb-true}
 use lib.ListN.{length}
-use Rattle.encoder_kernels.specs.Finite.{sound}
-use Rattle.encoder_steps.specs.inner.Step.{fineAt}
-use Rattle.encoder_steps.proofs.fine_rows.Statement.{statement}
-use Rattle.encoder_steps.proofs.fine_rows.Tie as tie
+use Rattle.encoder_kernels.specs.Finite.{allFinite}
+use Rattle.encoder_steps.specs.inner.Step.{finiteAt}
+use Rattle.encoder_steps.proofs.finite_rows.Statement.{statement}
+use Rattle.encoder_steps.proofs.finite_rows.Tie as tie
 
 rows-inside-requires : tie.Need-rows-inside-requires
 rows-inside-requires c κs = search needs
@@ -25,12 +25,12 @@ finite-requires : tie.Need-finite-requires
 finite-requires c κs = search needs
 
 returns : tie.Need-returns
-unfolding fineAt
-returns c = rw (← c .before .before .before .rows-inside .ensures, c .before .before .if1 .taken) (c .finite .ensures ∙ ap sound (c .before .part .ensures))
+unfolding finiteAt
+returns c = rw (← c .before .before .before .rows-inside .ensures, c .before .before .if1 .taken) (c .finite .ensures ∙ ap allFinite (c .before .part .ensures))
 
 returns-2 : tie.Need-returns-2
-unfolding fineAt
+unfolding finiteAt
 returns-2 c = rw (← c .before .rows-inside .ensures, c .if1 .left)
 
-pub fine-rows-spec : {M : Type 1} → statement M
-fine-rows-spec = tie.close (tie.spec rows-inside-requires mul-part part-requires finite-requires returns returns-2)
+pub finite-rows-spec : {M : Type 1} → statement M
+finite-rows-spec = tie.close (tie.spec rows-inside-requires mul-part part-requires finite-requires returns returns-2)

@@ -1,4 +1,4 @@
--- `encoder_blocks::block::rotate_fine` meets its contract. Assumes nothing.
+-- `encoder_blocks::block::rotate_finite` meets its contract. Assumes nothing.
 use mathlib.Core.Path.{_≡_, sym, ap, _∙_}
 use Prim.Native.Nat.{ℕ, _+_, _*_, _/_}
 use native.Mathlib.Omega.{arith}
@@ -12,8 +12,8 @@ use Rattle.encoder_blocks.specs.inner.Fits.{RotationAt}
 use Rattle.encoder_blocks.specs.Block.{rotated}
 use Rattle.encoder_steps.proofs.Writes.{wrote}
 use Rattle.encoder_blocks.proofs.Lives.{halves-whole, length-rotated}
-use Rattle.encoder_blocks.proofs.block.rotate_fine.Statement.{statement}
-use Rattle.encoder_blocks.proofs.block.rotate_fine.Tie as tie
+use Rattle.encoder_blocks.proofs.block.rotate_finite.Statement.{statement}
+use Rattle.encoder_blocks.proofs.block.rotate_finite.Tie as tie
 
 rotates : (z : Sizes) {lens lenc lenn x : ℕ} → RotationAt z lens lenc lenn x → RotateFits lens lenc lenn x (z .tokens) (z .heads) (z .«head_dim» / 2) (z .«grid_w») (z .side)
 rotates z g =
@@ -61,8 +61,8 @@ returns c =
     wrote (a .s .now) (r .last .0) (a .x) (nOf (a .z)) (rotated (a .z) (a .cos .now) (a .sin .now) x) (c .before .part .result .now) (a .ok) (c .finite .result)
     (rw (rotate-fits (rotates (a .z) g), e) at (r .ensures)) (length-rotated (a .z) e (a .cos .now) (a .sin .now) x) (g .xIn) (c .before .part .ensures) (c .finite .ensures)
 
-pub rotate-fine-spec : {M : Type 1} → statement M
-rotate-fine-spec =
+pub rotate-finite-spec : {M : Type 1} → statement M
+rotate-finite-spec =
     tie.close
     (tie.spec
     rotate-requires
