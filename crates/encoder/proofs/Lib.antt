@@ -1,4 +1,8 @@
-pub mod Leaves
+pub mod Merges
+pub mod Projects
+pub mod Embeds
+pub mod Runs
+pub mod Ready
 pub mod Unique
 pub mod Numbers
 pub mod Unread

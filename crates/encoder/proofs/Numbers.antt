@@ -18,7 +18,7 @@ use Rattle.encoder_settings.specs.declared.Checked.the-variants as C
 use Rattle.encoder_settings.specs.Settings.{allowed, mergeArea, weightFloats, tableFloats, scratchFloats, lengths, onward, checkedOf}
 use Rattle.encoder_settings.proofs.Bounds.{picture-allowed}
 use Rattle.encoder_steps.specs.Run.{Run, stopped, went, ran}
-use Rattle.encoder_stages.specs.Forward.{forwardRun}
+use Rattle.encoder.specs.Stages.{forwardRun}
 use Rattle.encoder.specs.declared.Encoded.{Encoded}
 use Rattle.encoder.specs.Forward.{encodedBy, encodedOf, forwardNumber, number, tokens, Numbered}
 

@@ -13,7 +13,7 @@ use Rattle.encoder.specs.declared.Encoded.{Encoded}
 use Rattle.encoder.specs.declared.Encoded.the-variants.{Tokens}
 use Rattle.encoder_settings.specs.Settings.{mergeArea, checkedOf}
 use Rattle.encoder_steps.specs.Run.{Run, stopped, went}
-use Rattle.encoder_stages.specs.Forward.{forwardRun}
+use Rattle.encoder.specs.Stages.{forwardRun}
 use Rattle.encoder.specs.Forward.{encodedBy, encodedOf, outOf, scratchOf}
 use Rattle.encoder_settings.proofs.Accepted.{accepted-says}
 

@@ -9,7 +9,7 @@ use Rattle.picture_limits.specs.Shape.{shaped}
 use Rattle.encoder_settings.specs.declared.EncoderSettings.{EncoderSettings}
 use Rattle.encoder_settings.specs.Settings.{scalingAllowed, allowed, lengths, checkedOf}
 use Rattle.encoder_settings.specs.Lengths.{neededOf}
-use Rattle.encoder_stages.specs.Forward.{runOf}
+use Rattle.encoder.specs.Stages.{runOf}
 use Rattle.encoder.specs.Forward.{encodedOf, outOf, scratchOf}
 
 -- the same settings, but for their means and deviations

@@ -17,25 +17,21 @@ use Rattle.encoder_settings.specs.declared.Checked.{Checked}
 use Rattle.encoder_settings.specs.declared.Checked.the-variants as C
 use Rattle.encoder_settings.specs.Settings.{allowed, mergeArea, weightFloats, tableFloats, scratchFloats, checkedOf}
 use Rattle.encoder_steps.specs.Run.{Run, stopped, went, ran}
-use Rattle.encoder_stages.specs.Forward.{forwardRun}
+use Rattle.encoder.specs.Stages.{forwardRun}
 use Rattle.encoder.specs.declared.Encoded.{Encoded}
 use Rattle.encoder.specs.declared.Encoded.the-variants.{Tokens, Refused}
 
-abbrev pub answered : ℕ → Run → Encoded
-answered o stopped = Refused NotFinite
-answered o (went l) = Tokens o
-
-abbrev pub outLeft : Run → List Float → List Float
-outLeft stopped old = old
-outLeft (went l) old = over l old
-
+-- what settings and lengths say, and 12 where the run stopped
 abbrev pub encodedBy : Checked → Run → Encoded
 encodedBy (C.Refused r) run = Refused r
-encodedBy (C.Accepted t o) run = answered o run
+encodedBy (C.Accepted t o) stopped = Refused NotFinite
+encodedBy (C.Accepted t o) (went l) = Tokens o
 
+-- the token vectors over the front of what was there; after a refusal as it was
 abbrev pub outBy : Checked → Run → List Float → List Float
 outBy (C.Refused r) run old = old
-outBy (C.Accepted t o) run old = outLeft run old
+outBy (C.Accepted t o) stopped old = old
+outBy (C.Accepted t o) (went l) old = over l old
 
 -- after 1 to 11 as it was; after 0 and 12 all of it is +0
 abbrev pub scratchBy : Checked → List Float → List Float

@@ -3,12 +3,10 @@ ghost use mathlib.Core.Path.{_≡_};
 ghost use lib.ListN.{length};
 ghost use Rattle.encoder.specs.Forward.{encodedOf, outOf, scratchOf, Numbered};
 use crate::Encoded;
-use buffers::clear_at;
-use buffers::copy;
-use buffers::part;
+use crate::run::run;
 use encoder_settings::Checked;
 use encoder_settings::EncoderSettings;
-use encoder_stages::run::token_vectors;
+use encoder_settings::settings::checked;
 
 // The token vectors of patches: the count of them, or a refusal.
 pub fn forward(
@@ -27,24 +25,32 @@ pub fn forward(
     ensures work { λ _. ⌜ now (scratch .exit) ≡ scratchOf s «grid_h» «grid_w» (now (weights .entry)) (now («rope_cos» .entry)) (now («rope_sin» .entry)) (now (patches .entry)) (length (now (out .entry))) (now (scratch .entry)) ⌝ }
     ensures numbers { λ r. ⌜ Numbered s «grid_h» «grid_w» (now (weights .entry)) (now («rope_cos» .entry)) (now («rope_sin» .entry)) (now (patches .entry)) (length (now (out .entry))) (length (now (scratch .entry))) r ⌝ }
 {
-    let room = out.len();
-    let ran = token_vectors(
+    let lengths = checked(
         s,
-        patches,
         grid_h,
         grid_w,
-        weights,
-        rope_cos,
-        rope_sin,
-        room,
-        scratch,
+        patches.len(),
+        weights.len(),
+        rope_cos.len(),
+        rope_sin.len(),
+        out.len(),
+        scratch.len(),
     );
-    match ran {
+    match lengths {
         Checked::Accepted { tokens, count } => {
-            let e = count * s.text_hidden_size;
-            copy(part(scratch, 0, e), out);
-            clear_at(scratch, 0, e);
-            Encoded::Tokens { count: count }
+            run(
+                s,
+                patches,
+                grid_h,
+                grid_w,
+                tokens,
+                count,
+                weights,
+                rope_cos,
+                rope_sin,
+                scratch,
+                out,
+            )
         }
         Checked::Refused(r) => Encoded::Refused(r),
     }

@@ -52,7 +52,7 @@ unfolding matrixFits
 returns-2 c =
     let a = c .before .before .before .before .before .before .args in
     let f = sym (c .before .before .before .rows-inside .ensures) ∙ c .before .before .if1 .left in
-    record { all = rw f refl; finite-is = ap (λ b. a .ok && b) (c .stagesFinite-rows2 .ensures) }
+    record { all = rw f refl; finite-is = ap (λ b. a .ok && b) (c .finite-rows2 .ensures) }
 
 pub matrix-spec : {M : Type 1} → statement M
 matrix-spec =

@@ -1,0 +1,38 @@
+-- What stands behind a block's regions in the scratch, how the weights are cut, and what the embedding leaves.
+-- Assumes nothing.
+use mathlib.Core.Bool.{Bool}
+use mathlib.Core.Path.{_≡_}
+use mathlib.Core.List.{List, [], _∷_}
+use Prim.Native.Nat.{ℕ, _+_, _*_}
+use lib.Ieee.{Float}
+use Rattle.picture_limits.specs.Places.{patchFloats}
+use Rattle.encoder_settings.specs.declared.EncoderSettings.{EncoderSettings}
+use Rattle.encoder_settings.specs.Settings.{mergeArea}
+use Rattle.encoder_settings.specs.inner.Bounds.{layerSum}
+use Rattle.encoder_elements.specs.Element.{rounded}
+use Rattle.encoder_steps.specs.Run.{stagesFinite}
+use Rattle.encoder_blocks.specs.declared.Sizes.{Sizes}
+use Rattle.encoder_blocks.specs.Sizes.{nOf, mOf}
+use Rattle.encoder_blocks.specs.inner.Live.{hAt}
+use Rattle.encoder.specs.declared.Counts.{Counts}
+use Rattle.encoder.specs.declared.Regions.{Regions}
+use Rattle.encoder.specs.Embed.{patchConv, lnPre}
+
+-- linear_1's result, linear_2's, of e floats each, and the score row
+abbrev pub regionsOf : Sizes → ℕ → Regions
+regionsOf z e = record { linear = 7 * nOf z + 2 * mOf z; row = 7 * nOf z + 2 * mOf z + 2 * e }
+
+-- the floats of a patch, of the embedding's weights, of the layers' and of a merged row
+abbrev pub countsOf : EncoderSettings → Sizes → Counts
+countsOf s z =
+    record {
+      patch = patchFloats (s .picture .«patch_size»);
+      embedding = z .hidden * patchFloats (s .picture .«patch_size») + z .hidden;
+      layers = s .«num_layers» * layerSum (z .hidden) (z .inter);
+      merged = z .hidden * mergeArea (s .picture);
+    }
+
+-- patch projection, its bf16, ln_pre, its bf16
+pub record Embedded (z : Sizes) (f : ℕ) (w x t : List Float) (ok r : Bool) : Type 0 where
+  pub h-is : hAt z t ≡ rounded (nOf z) (lnPre z f w (rounded (nOf z) (patchConv z f w x)))
+  pub finite-is : r ≡ (let a = patchConv z f w x in let b = rounded (nOf z) a in let c = lnPre z f w b in stagesFinite ok (a ∷ b ∷ c ∷ rounded (nOf z) c ∷ []))

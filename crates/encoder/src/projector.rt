@@ -1,0 +1,93 @@
+// The projector: norm, spatial merge, merging layer, linear_1, gelu, linear_2.
+ghost use mathlib.Core.Path.{_≡_};
+ghost use Prim.Native.Nat.{_+_, _*_, _≤_};
+ghost use lib.ListN.{length};
+ghost use Rattle.buffers.specs.Region.{region, put};
+ghost use Rattle.encoder_elements.specs.Element.{gelued};
+ghost use Rattle.encoder_steps.specs.Run.{answer};
+ghost use Rattle.encoder_steps.specs.inner.Step.{Wrote};
+ghost use Rattle.encoder.specs.Merge.{mergeOf};
+ghost use Rattle.encoder.specs.inner.Source.{sourceOf};
+ghost use Rattle.encoder.specs.Project.{projectRun};
+ghost use Rattle.encoder.specs.inner.Fits.{SourceFits, MergeFits, ProjFits};
+use buffers::part;
+use encoder_elements::element::gelu_inplace;
+use encoder_kernels::finite::finite;
+use encoder_steps::matrix;
+use encoder_steps::norm_finite;
+
+// Where place p of the merged rows takes its value from.
+pub(crate) fn source(p: usize, merge: usize, gh: usize, gw: usize, dim: usize) -> usize
+    requires { ⌜ SourceFits p merge gh gw dim ⌝ }
+    ensures { λ r. ⌜ r ≡ sourceOf merge gw dim p ⌝ }
+{
+    let mm = merge * merge;
+    let row = dim * mm;
+    let b = gw / merge;
+    let o = p / row;
+    let r = p % row;
+    let k = r % mm;
+    let th = o / b * merge + k / merge;
+    let tw = o % b * merge + k % merge;
+    (th * gw + tw) * dim + r / mm
+}
+
+// The merged rows of the tokens at x, at y.
+pub(crate) fn merge_tokens(
+    s: &mut [f32],
+    x: usize,
+    y: usize,
+    total: usize,
+    merge: usize,
+    gh: usize,
+    gw: usize,
+    dim: usize,
+)
+    requires { ⌜ MergeFits (length (now s)) x y total merge gh gw dim ⌝ }
+    ensures { λ _. ⌜ now (s .exit) ≡ put (now (s .entry)) y (mergeOf merge gh gw dim (region (now (s .entry)) x (gh * gw * dim))) ⌝ }
+{
+    let mut p = 0usize;
+    while p < total {
+        let i = source(p, merge, gh, gw, dim);
+        s[y + p] = s[x + i];
+        p += 1;
+    }
+}
+
+// gelu of the n floats at y, and whether all is finite up to here.
+pub(crate) fn gelu_finite(s: &mut [f32], y: usize, n: usize, ok: bool) -> bool
+    requires { ⌜ y + n ≤ length (now s) ⌝ }
+    ensures { λ r. ⌜ Wrote (now (s .entry)) (now (s .exit)) y (gelued n (region (now (s .entry)) y n)) ok r ⌝ }
+{
+    gelu_inplace(s, y, n);
+    ok & finite(part(s, y, n))
+}
+
+// The projector, on h at 0; its result at at + o * text. w is the projector's part of the weights.
+pub(crate) fn projector_forward(
+    s: &mut [f32],
+    w: &[f32],
+    t: usize,
+    dim: usize,
+    o: usize,
+    wide: usize,
+    text: usize,
+    merge: usize,
+    gh: usize,
+    gw: usize,
+    at: usize,
+) -> bool
+    requires { ⌜ ProjFits t dim o wide text (length (now s)) (length (now w)) merge gh gw at ⌝ }
+    ensures { λ r. ⌜ answer r (region (now (s .exit)) (at + o * text) (o * text)) ≡ projectRun t dim o wide text merge gh gw (now (w .entry)) (region (now (s .entry)) 0 (t * dim)) ⌝ }
+{
+    let n = t * dim;
+    let p = dim + dim * wide;
+    let q = p + text * dim;
+    let e = o * text;
+    let a = norm_finite(s, 0, n, t, dim, part(w, 0, dim), true);
+    merge_tokens(s, n, 2 * n, o * wide, merge, gh, gw, dim);
+    let b = matrix(s, 2 * n, 3 * n, o, wide, dim, w, dim, a);
+    let c = matrix(s, 3 * n, at, o, dim, text, w, p, b);
+    let d = gelu_finite(s, at, e, c);
+    matrix(s, at, at + e, o, text, text, w, q, d)
+}

@@ -1,6 +1,0 @@
-pub mod Merges
-pub mod Projects
-pub mod Embeds
-pub mod Runs
-pub mod Ready
-pub mod Unique
