@@ -19,16 +19,14 @@ use Rattle.encoder.specs.declared.Regions.{Regions}
 use Rattle.encoder_linear.proofs.Sums.{length-linear}
 use Rattle.encoder_elements.specs.Element.{gelued}
 use Rattle.encoder_steps.specs.Run.{Run, went, stagesFinite, answer, examined, thenRun}
-use Rattle.encoder_steps.proofs.Writes.{answer-went, then-went}
+use Rattle.encoder_steps.proofs.Writes.{answer-then, answer-went, then-went}
 use Rattle.encoder.specs.Embed.{embedRun}
-use Rattle.encoder.specs.inner.Inputs.{inputsFinite}
 use Rattle.encoder_blocks.specs.Layers.{layersRun}
 use Rattle.encoder.specs.Merge.{mergeOf}
 use Rattle.encoder.specs.Project.{projNorm, mergingLayer, linear1, linear2, projectRun}
 use Rattle.encoder_blocks.specs.inner.Live.{hAt}
-use Rattle.encoder.specs.inner.Live.{regionsOf, countsOf, Embedded}
+use Rattle.encoder.specs.inner.Live.{regionsOf, countsOf}
 use Rattle.encoder.specs.Stages.{sizesOf, runOf}
-use Rattle.encoder.proofs.Embeds.{embed-run, three}
 
 module _ (s : EncoderSettings) (gh gw t o : ℕ) (w cos sin x : List Float) where
   abbrev z : Sizes
@@ -48,23 +46,26 @@ module _ (s : EncoderSettings) (gh gw t o : ℕ) (w cos sin x : List Float) wher
       → length w ≡ weightFloats s
       → v₁ ≡ region w 0 (p .embedding) → v₂ ≡ region w (p .embedding) (p .layers)
       → v₃ ≡ region w (p .embedding + p .layers) (length w - (p .embedding + p .layers))
-      → ok ≡ inputsFinite x w cos sin
-      → Embedded z (p .patch) v₁ x s₁ ok a
+      → ok ≡ stagesFinite true (x ∷ w ∷ cos ∷ sin ∷ [])
+      → answer a (hAt z s₁) ≡ embedRun z (p .patch) v₁ x
       → answer b (hAt z s₂) ≡ layersRun z v₂ cos sin (s .«num_layers») (hAt z s₁)
       → answer c (region s₃ (q .linear + e) e) ≡ projectRun t (z .hidden) o (p .merged) (s .«text_hidden_size») (s .picture .«spatial_merge_size») gh gw v₃ (region s₂ 0 (t * z .hidden))
-      → answer ((a && b) && c) (region s₃ (q .linear + e) e) ≡ runOf s gh gw t o w cos sin x
+      → answer (((ok && a) && b) && c) (region s₃ (q .linear + e) e) ≡ runOf s gh gw t o w cos sin x
   unfolding runOf
   run-of v₁ v₂ v₃ s₁ s₂ s₃ ok a b c f₁ f₂ f₃ d₁ d₂ d₃ i g l k =
       let T = weights s in
       let P : List Float → List Float → Run = λ u m. projectRun t (z .hidden) o (p .merged) (s .«text_hidden_size») (s .picture .«spatial_merge_size») gh gw u m in
-      let I = examined (x ∷ w ∷ cos ∷ sin ∷ []) x in
+      let E : List Float → List Float → Run = λ u m. embedRun z (p .patch) u m in
+      let L : List Float → List Float → Run = λ u m. layersRun z u cos sin (s .«num_layers») m in
       let g₁ = d₁ ∙ stands T "embedding" w 0 (p .embedding) (omega arith) (omega (arith, f₁)) in
       let g₂ = d₂ ∙ stands T "layers" w (p .embedding) (p .layers) (omega (arith, f₁)) (omega (arith, f₂)) in
       let g₃ = d₃ ∙ stands T "projector" w (p .embedding + p .layers) (length w - (p .embedding + p .layers)) (omega (arith, f₁, f₂)) (omega (arith, f₁, f₂, f₃)) in
-      three a b c (hAt z s₁) (hAt z s₂) (region s₃ (q .linear + e) e) (thenRun I (embedRun z (p .patch) (part T "embedding" w)))
-      (layersRun z (part T "layers" w) cos sin (s .«num_layers»)) (P (part T "projector" w))
-      (embed-run z (p .patch) w v₁ cos sin x s₁ ok a i g ∙ ap (λ u. thenRun I (embedRun z (p .patch) u)) g₁)
-      (ap (λ u. layersRun z u cos sin (s .«num_layers») (hAt z s₁)) (sym g₂) ∙ sym l) (ap (λ u. P u (hAt z s₂)) (sym g₃) ∙ sym k)
+      let e₁ = ap (λ u. E u x) (sym g₁) ∙ sym g in
+      let e₂ = ap (λ u. L u (hAt z s₁)) (sym g₂) ∙ sym l in
+      let e₃ = ap (λ u. P u (hAt z s₂)) (sym g₃) ∙ sym k in
+      answer-then ((ok && a) && b) c (hAt z s₂) (region s₃ (q .linear + e) e) (P (part T "projector" w)) e₃
+      ∙ ap (λ u. thenRun u (P (part T "projector" w))) (answer-then (ok && a) b (hAt z s₁) (hAt z s₂) (L (part T "layers" w)) e₂
+      ∙ ap (λ u. thenRun u (L (part T "layers" w))) (answer-then ok a x (hAt z s₁) (E (part T "embedding" w)) e₁ ∙ ap (λ u. thenRun (answer u x) (E (part T "embedding" w))) i))
 
 -- ---- what a run that went hands on
 

@@ -1,4 +1,3 @@
 pub mod Fits
 pub mod Live
 pub mod Source
-pub mod Inputs

@@ -1,11 +1,14 @@
 // The embedding: inputs examined, patch projection, ln_pre.
 ghost use mathlib.Core.Path.{_≡_};
+ghost use mathlib.Core.Bool.{true};
+ghost use mathlib.Core.List.{[], _∷_};
 ghost use lib.ListN.{length};
 ghost use Rattle.encoder_linear.specs.Linear.{linearOf};
 ghost use Rattle.encoder_linear.specs.inner.Fits.{FromFits};
+ghost use Rattle.encoder_steps.specs.Run.{stagesFinite, answer};
 ghost use Rattle.encoder_steps.specs.inner.Step.{Wrote};
-ghost use Rattle.encoder.specs.inner.Live.{Embedded};
-ghost use Rattle.encoder.specs.inner.Inputs.{inputsFinite};
+ghost use Rattle.encoder_blocks.specs.inner.Live.{hAt};
+ghost use Rattle.encoder.specs.Embed.{embedRun};
 ghost use Rattle.encoder.specs.inner.Fits.{EmbedFits};
 use buffers::part;
 use encoder_blocks::Sizes;
@@ -16,7 +19,7 @@ use encoder_steps::round_finite;
 
 // Whether patches, weights and tables are finite.
 pub(crate) fn inputs_finite(x: &[f32], w: &[f32], cos: &[f32], sin: &[f32]) -> bool
-    ensures { λ r. ⌜ r ≡ inputsFinite (now (x .entry)) (now (w .entry)) (now (cos .entry)) (now (sin .entry)) ⌝ }
+    ensures { λ r. ⌜ r ≡ stagesFinite true (now (x .entry) ∷ now (w .entry) ∷ now (cos .entry) ∷ now (sin .entry) ∷ []) ⌝ }
 {
     let a = finite(x);
     let b = finite(w);
@@ -44,16 +47,16 @@ pub(crate) fn from_finite(
     ok & finite(part(s, y, e))
 }
 
-// Patch projection and ln_pre, each rounded to bf16: h at 0. w is the embedding's part of the weights.
-pub(crate) fn embed(x: &[f32], s: &mut [f32], z: Sizes, f: usize, w: &[f32], ok: bool) -> bool
+// Patch projection and ln_pre, each rounded to bf16: h, where every stage is finite. w is the embedding's part of the weights.
+pub(crate) fn embed(x: &[f32], s: &mut [f32], z: Sizes, f: usize, w: &[f32]) -> bool
     requires { ⌜ EmbedFits z (length (now x)) (length (now s)) (length (now w)) f ⌝ }
-    ensures { λ r. ⌜ Embedded z f (now (w .entry)) (now (x .entry)) (now (s .exit)) ok r ⌝ }
+    ensures { λ r. ⌜ answer r (hAt z (now (s .exit))) ≡ embedRun z f (now (w .entry)) (now (x .entry)) ⌝ }
 {
     let t = z.tokens;
     let dim = z.hidden;
     let n = t * dim;
     let e = dim * f;
-    let a = from_finite(x, s, n, t, f, dim, part(w, 0, e), ok);
+    let a = from_finite(x, s, n, t, f, dim, part(w, 0, e), true);
     let b = round_finite(s, n, n, a);
     let c = norm_finite(s, n, 0, t, dim, part(w, e, dim), b);
     round_finite(s, 0, n, c)

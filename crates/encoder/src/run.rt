@@ -47,7 +47,7 @@ pub(crate) fn encode(
     let r = regions(z, o * s.text_hidden_size);
     let at = p.embedding + p.layers;
     let ok = inputs_finite(patches, w, cos, sin);
-    let a = embed(patches, scratch, z, p.patch, part(w, 0, p.embedding), ok);
+    let a = embed(patches, scratch, z, p.patch, part(w, 0, p.embedding));
     let v = part(w, p.embedding, p.layers);
     let b = layers(scratch, z, r.row, v, s.num_layers, cos, sin);
     let u = part(w, at, w.len() - at);
@@ -64,7 +64,7 @@ pub(crate) fn encode(
         gw,
         r.linear,
     );
-    (a & b) & c
+    ((ok & a) & b) & c
 }
 
 // The run, and its token vectors in the output where every stage was finite. The scratch is then +0.

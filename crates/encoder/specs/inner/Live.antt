@@ -1,4 +1,4 @@
--- What stands behind a block's regions in the scratch, how the weights are cut, and what the embedding leaves.
+-- What stands behind a block's regions in the scratch, and how the weights are cut.
 -- Assumes nothing.
 use mathlib.Core.Bool.{Bool}
 use mathlib.Core.Path.{_≡_}
@@ -31,8 +31,3 @@ countsOf s z =
       layers = s .«num_layers» * layerSum (z .hidden) (z .inter);
       merged = z .hidden * mergeArea (s .picture);
     }
-
--- patch projection, its bf16, ln_pre, its bf16
-pub record Embedded (z : Sizes) (f : ℕ) (w x t : List Float) (ok r : Bool) : Type 0 where
-  pub h-is : hAt z t ≡ rounded (nOf z) (lnPre z f w (rounded (nOf z) (patchConv z f w x)))
-  pub finite-is : r ≡ (let a = patchConv z f w x in let b = rounded (nOf z) a in let c = lnPre z f w b in stagesFinite ok (a ∷ b ∷ c ∷ rounded (nOf z) c ∷ []))

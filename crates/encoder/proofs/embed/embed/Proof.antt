@@ -60,7 +60,7 @@ returns c =
     let r = c .before .before .round-finite2 in
     let l = y .kept .0 ∙ x .kept .1 .0 in
     embedded (a .z) (a .f) (a .w .now) (a .x .now) (a .s .now) (g .room) (x .last .1 .0) (y .last .0) (z .last .0) (r .last .0)
-    (a .ok) (x .result) (y .result) (z .result) (r .result)
+    (x .result) (y .result) (z .result) (r .result)
     (rw (c .before .before .before .before .before .before .before .before .before .before .before .before .before .before .before .before .part .ensures ∙ stands T "patch_conv" (a .w .now) 0 (a .z .hidden * a .f) (omega arith) (omega arith)) at (x .ensures))
     (round-wrote n n (omega (arith, g .room, x .kept .1 .0)) (y .ensures))
     (rw (q .ensures ∙ stands T "ln_pre" (a .w .now) (a .z .hidden * a .f) (a .z .hidden) (omega arith) (omega arith)) at
