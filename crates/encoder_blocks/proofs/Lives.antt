@@ -19,11 +19,14 @@ use Rattle.buffers.specs.Each.{blank}
 use Rattle.encoder_kernels.specs.Finite.{allFinite}
 use Rattle.encoder_elements.specs.Element.{added, gated, rounded}
 use Rattle.encoder_steps.specs.Run.{stagesFinite, answer, thenRun}
-use Rattle.encoder_steps.specs.inner.Step.{Wrote}
-use Rattle.encoder_steps.proofs.Writes.{answer-then, got, long, left}
+use Rattle.encoder_steps.specs.inner.Step.{Tried, Wrote}
+use Rattle.encoder_steps.proofs.Writes.{answer-then, got, long, left, rotate-wrote}
 use Rattle.encoder_blocks.specs.Block.{normed, squareOf, innerOf, outerOf, rotated, mixed, scored, attnRun, feedRun, blockRun}
 use Rattle.encoder_blocks.specs.inner.Live.{hAt, qAt, kAt, vAt, gAt, uAt, AttnIn, AttnRotate, AttnMix, FeedIn, FeedOut}
-use Rattle.encoder_blocks.specs.inner.Fits.{BlockFits, ScoreRow}
+use Rattle.encoder_blocks.specs.inner.Fits.{BlockFits, RotationFits, ScoreRow}
+use Rattle.encoder_kernels.specs.Rotate.{rotateOf}
+use Rattle.encoder_kernels.specs.inner.Fits.{RotateFits}
+use Rattle.encoder_kernels.specs.inner.Room.{rotateFits}
 use Rattle.encoder_attention.specs.inner.Fits.{KeysFit}
 use Rattle.encoder_attention.specs.inner.Keys.{turnedKeys}
 use Rattle.encoder_attention.proofs.Keys.{length-turned}
@@ -228,3 +231,33 @@ attend-at z f r =
       qkt = after (omega arith);
       vkt = after (omega arith);
     }
+
+rotate-at : (z : Sizes) {len lenc lenn : ℕ} (x : ℕ) → RotationFits z len lenc lenn → x + nOf z ≤ len
+    → RotateFits len lenc lenn x (z .tokens) (z .heads) (z .«head_dim» / 2) (z .«grid_w») (z .side)
+rotate-at z x f xIn =
+    let half = z .«head_dim» / 2 in
+    let h : half + half ≡ z .«head_dim» = omega (arith, f .even) in
+    let e = halves-whole z (f .whole) (f .even) in
+    let n : z .tokens * (z .heads * (half + half)) ≡ nOf z = ap (λ (k : ℕ). z .tokens * k) e in
+    let t : z .side * z .side * z .«head_dim» ≡ z .side * z .side * (half + half) = ap (λ (k : ℕ). z .side * z .side * k) (sym h) in
+    record {
+      narrow = omega (arith, f .narrow, h);
+      tables = f .tables;
+      dimin = omega (arith, f .dimIn, e);
+      xin = omega (arith, xIn, n);
+      some = f .some;
+      wide = f .wide;
+      high = f .high;
+      cin = f .cosines ∙ t;
+      sin′ = f .sines ∙ t;
+    }
+
+-- the rotation of what stands at x
+pub rotated-wrote : (z : Sizes) (cos sin : List Float) {s t : List Float} {ok r : Bool} (x : ℕ) → RotationFits z (length s) (length cos) (length sin) → x + nOf z ≤ length s
+    → (let half = z .«head_dim» / 2 in let n = z .tokens * (z .heads * (half + half)) in
+    Tried (rotateFits (length s) (length cos) (length sin) x (z .tokens) (z .heads) half (z .«grid_w») (z .side)) s t x n
+    (rotateOf (z .tokens) (z .heads) half (z .«grid_w») (z .side) cos sin (region s x n)) ok r)
+    → Wrote s t x (rotated z cos sin (region s x (nOf z))) ok r
+unfolding rotated
+rotated-wrote z cos sin x f xIn w =
+    rw (halves-whole z (f .whole) (f .even)) at (rotate-wrote cos sin x (z .tokens) (z .heads) (z .«head_dim» / 2) (z .«grid_w») (z .side) (rotate-at z x f xIn) w)

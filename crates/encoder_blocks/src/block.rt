@@ -1,22 +1,21 @@
 // One encoder block. Where a part of the layer's weights starts goes by the part's name.
 ghost use mathlib.Core.Path.{_≡_};
 ghost use lib.ListN.{length};
-ghost use Rattle.buffers.specs.Region.{region};
 ghost use Rattle.encoder_blocks.specs.Sizes.{nOf};
 ghost use Rattle.encoder_steps.specs.Run.{answer};
 ghost use Rattle.encoder_steps.specs.inner.Step.{Wrote};
-ghost use Rattle.encoder_blocks.specs.Block.{blockRun, normed, rotated};
+ghost use Rattle.encoder_blocks.specs.Block.{blockRun, normed};
 ghost use Rattle.encoder_blocks.specs.inner.Live.{hAt, AttnIn, AttnRotate, AttnMix, FeedIn, FeedOut};
-ghost use Rattle.encoder_blocks.specs.inner.Fits.{BlockFits, RotationFits, RotationAt, ScoreRow};
+ghost use Rattle.encoder_blocks.specs.inner.Fits.{BlockFits, RotationFits, ScoreRow};
 use crate::Sizes;
 use buffers::part;
 use encoder_attention::attention::attend;
 use encoder_kernels::finite::finite;
-use encoder_kernels::rotate::rotate;
 use encoder_steps::add_finite;
 use encoder_steps::gate_finite;
-use encoder_steps::matrix;
+use encoder_steps::linear_finite;
 use encoder_steps::norm_finite;
+use encoder_steps::rotate_finite;
 use encoder_steps::round_finite;
 
 // The norm before the attention, of h.
@@ -41,28 +40,9 @@ pub(crate) fn attn_in(s: &mut [f32], z: Sizes, w: &[f32], ok: bool) -> bool
     let k = q + dim * dim;
     let v = k + dim * dim;
     let a = attention_norm(s, z, w, ok);
-    let b = matrix(s, n, 2 * n, t, dim, dim, w, q, a);
-    let c = matrix(s, n, 3 * n, t, dim, dim, w, k, b);
-    matrix(s, n, 4 * n, t, dim, dim, w, v, c)
-}
-
-// Rotation of what stands at x.
-pub(crate) fn rotate_finite(
-    s: &mut [f32],
-    x: usize,
-    z: Sizes,
-    cos: &[f32],
-    sin: &[f32],
-    ok: bool,
-) -> bool
-    requires { ⌜ RotationAt z (length (now s)) (length (now cos)) (length (now sin)) x ⌝ }
-    ensures { λ r. ⌜ Wrote (now (s .entry)) (now (s .exit)) x (rotated z (now (cos .entry)) (now (sin .entry)) (region (now (s .entry)) x (nOf z))) ok r ⌝ }
-{
-    let t = z.tokens;
-    let half = z.head_dim / 2;
-    rotate(s, x, t, z.heads, half, z.grid_w, z.side, cos, sin);
-    let n = t * z.hidden;
-    ok & finite(part(s, x, n))
+    let b = linear_finite(s, n, 2 * n, t, dim, dim, w, q, a);
+    let c = linear_finite(s, n, 3 * n, t, dim, dim, w, k, b);
+    linear_finite(s, n, 4 * n, t, dim, dim, w, v, c)
 }
 
 // Rotated q and k.
@@ -70,9 +50,11 @@ pub(crate) fn attn_rotate(s: &mut [f32], z: Sizes, cos: &[f32], sin: &[f32], ok:
     requires { ⌜ RotationFits z (length (now s)) (length (now cos)) (length (now sin)) ⌝ }
     ensures { λ r. ⌜ AttnRotate z (now (cos .entry)) (now (sin .entry)) (now (s .entry)) (now (s .exit)) ok r ⌝ }
 {
-    let n = z.tokens * z.hidden;
-    let a = rotate_finite(s, 2 * n, z, cos, sin, ok);
-    rotate_finite(s, 3 * n, z, cos, sin, a)
+    let t = z.tokens;
+    let half = z.head_dim / 2;
+    let n = t * z.hidden;
+    let a = rotate_finite(s, 2 * n, t, z.heads, half, z.grid_w, z.side, cos, sin, ok);
+    rotate_finite(s, 3 * n, t, z.heads, half, z.grid_w, z.side, cos, sin, a)
 }
 
 // Scores, sums, o, residual. The keys are turned where the norm stood, which nothing reads any more.
@@ -99,7 +81,7 @@ pub(crate) fn attn_mix(s: &mut [f32], z: Sizes, row: usize, w: &[f32], ok: bool)
         z.scaling,
     );
     let g = finite(part(s, 5 * n, n));
-    let a = matrix(s, 5 * n, 6 * n, t, dim, dim, w, o, (ok & f) & g);
+    let a = linear_finite(s, 5 * n, 6 * n, t, dim, dim, w, o, (ok & f) & g);
     add_finite(s, 0, 6 * n, n, a)
 }
 
@@ -127,8 +109,8 @@ pub(crate) fn feed_in(s: &mut [f32], z: Sizes, w: &[f32], ok: bool) -> bool
     let gate = 2 * dim + 4 * (dim * dim);
     let up = gate + inter * dim;
     let a = ffn_norm(s, z, w, ok);
-    let b = matrix(s, n, 7 * n, t, dim, inter, w, gate, a);
-    matrix(s, n, 7 * n + m, t, dim, inter, w, up, b)
+    let b = linear_finite(s, n, 7 * n, t, dim, inter, w, gate, a);
+    linear_finite(s, n, 7 * n + m, t, dim, inter, w, up, b)
 }
 
 // silu * up, down, residual, bf16.
@@ -143,7 +125,7 @@ pub(crate) fn feed_out(s: &mut [f32], z: Sizes, w: &[f32], ok: bool) -> bool
     let m = t * inter;
     let down = 2 * dim + 4 * (dim * dim) + 2 * (inter * dim);
     let a = gate_finite(s, 7 * n, 7 * n + m, m, ok);
-    let b = matrix(s, 7 * n, 6 * n, t, inter, dim, w, down, a);
+    let b = linear_finite(s, 7 * n, 6 * n, t, inter, dim, w, down, a);
     let c = add_finite(s, 0, 6 * n, n, b);
     round_finite(s, 0, n, c)
 }

@@ -2,9 +2,11 @@
 use mathlib.Core.Bool.{Bool, true, false, _&&_, true≢false}
 use mathlib.Core.Path.{_≡_, refl, sym, ap, _∙_}
 use mathlib.Core.List.{List}
-use Prim.Native.Nat.{ℕ, _+_, _*_, _≤_}
-use native.Mathlib.Nat.{le-refl}
-use borrow.Author.Tests.{le-leb}
+use Prim.Native.Nat.{ℕ, zero, suc, _+_, _*_, _≤_, _<_}
+use native.Mathlib.Nat.{le-refl, zero-mul, suc-mul}
+use native.Mathlib.Omega.{arith}
+use borrow.Author.Tests.{le-leb, lt-leb, ne-eqb}
+use lib.Dec.{eqb}
 use lib.ListN.{length}
 use lib.Ieee.{Float}
 use Rattle.buffers.specs.Region.{region, put}
@@ -14,31 +16,34 @@ use Rattle.buffers.proofs.Regions.{length-put, region-put, region-put-same}
 use Rattle.buffers.proofs.Rooms.{two}
 use Rattle.encoder_linear.specs.Linear.{linearOf}
 use Rattle.encoder_linear.proofs.Sums.{length-linear}
-use Rattle.encoder_linear.proofs.Rooms.{linear-fits}
-use Rattle.encoder_elements.specs.Element.{added, gated, rounded}
-use Rattle.encoder_kernels.specs.Finite.{allFinite}
-use Rattle.encoder_kernels.specs.inner.Fits.{NormFits}
+use Rattle.encoder_linear.specs.inner.Fits.{FromFits}
+use Rattle.encoder_linear.specs.inner.Room.{fromFits}
+use Rattle.encoder_linear.proofs.Rooms.{linear-fits, from-fits}
+use Rattle.encoder_elements.specs.Element.{added, gated, gelued, rounded}
 use Rattle.encoder_elements.specs.inner.Fits.{PairFits}
-use Rattle.encoder_kernels.specs.Norm.{normOf}
-use Rattle.encoder_kernels.specs.inner.Room.{normFits}
 use Rattle.encoder_elements.specs.inner.Room.{pairFits}
-use Rattle.encoder_kernels.proofs.Lengths.{length-norm}
-use Rattle.encoder_elements.proofs.Lengths.{length-added, length-gated, length-rounded}
-use Rattle.encoder_kernels.proofs.Rooms.{norm-fits}
+use Rattle.encoder_elements.proofs.Lengths.{length-added, length-gated, length-gelued, length-rounded}
 use Rattle.encoder_elements.proofs.Rooms.{pair-fits}
+use Rattle.encoder_kernels.specs.Finite.{allFinite}
+use Rattle.encoder_kernels.specs.Norm.{normOf}
+use Rattle.encoder_kernels.specs.Rotate.{rotateOf}
+use Rattle.encoder_kernels.specs.inner.Fits.{NormFits, RotateFits}
+use Rattle.encoder_kernels.specs.inner.Room.{normFits, rotateFits}
+use Rattle.encoder_kernels.proofs.Lengths.{length-norm}
+use Rattle.encoder_kernels.proofs.Rooms.{norm-fits, rotate-fits}
+use Rattle.encoder_kernels.proofs.Rotated.{length-rotate}
 use Rattle.encoder_steps.specs.Run.{Run, stopped, went, answer, thenRun}
-use Rattle.encoder_steps.specs.inner.Step.{finiteAt, matrixFits, MatrixAt, Tried, Wrote}
+use Rattle.encoder_steps.specs.inner.Step.{finiteAt, linearAtFits, LinearAt, Tried, Wrote}
 
 pub answer-then : (a b : Bool) (l m : List Float) (f : List Float → Run) → f l ≡ answer b m → answer (a && b) m ≡ thenRun (answer a l) f
 answer-then true b l m f e = sym e
 answer-then false b l m f e = refl
 
--- from the write, and the test of what it wrote
-pub wrote : (s t : List Float) (y n : ℕ) (l p : List Float) (ok f : Bool) → t ≡ put s y l → length l ≡ n → y + n ≤ length s → p ≡ region t y n → f ≡ allFinite p
-    → Wrote s t y l ok (ok && f)
-wrote s t y n l p ok f e h k g i =
-    let q : region t y n ≡ l = ap (λ u. region u y n) e ∙ region-put-same s y l n (sym h) (rw h k) in
-    record { all = e; finite-is = ap (λ b. ok && b) (i ∙ ap allFinite (g ∙ q)) }
+-- where one row does not lie inside, none do but no row at all
+pub no-row : (s : List Float) (y n d : ℕ) → length s < y + d → eqb n 0 && finiteAt s y 0 ≡ finiteAt s y (n * d)
+unfolding finiteAt
+no-row s y zero d h = ap (finiteAt s y) (sym (zero-mul d))
+no-row s y (suc n) d h = let e = suc-mul n d in rw (ne-eqb (suc n) 0 (λ z. omega arith), lt-leb (y + suc n * d) (length s) (omega arith))
 
 module _ {s t l : List Float} {y : ℕ} {ok r : Bool} (w : Wrote s t y l ok r) (n : ℕ) (h : length l ≡ n) where
   -- what was written
@@ -64,16 +69,22 @@ module _ {s t : List Float} {ok r : Bool} where
       let f : inside (length t) y n ≡ true = le-leb (y + n) (length t) (rw j i) in
       record { all = e; finite-is = w .finite-is ∙ ap (λ b. ok && (b && allFinite (region t y n))) f ∙ ap (λ u. ok && allFinite u) q }
 
-  pub matrix-wrote : (w : List Float) (x y n nin nout at : ℕ) → MatrixAt (length s) (length w) x y n nin nout at
-      → Tried (matrixFits (length s) (length w) x y n nin nout at) s t y (n * nout) (linearOf n nin nout (region w at (nout * nin)) (region s x (n * nin))) ok r
+  pub linear-wrote : (w : List Float) (x y n nin nout at : ℕ) → LinearAt (length s) (length w) x y n nin nout at
+      → Tried (linearAtFits (length s) (length w) x y n nin nout at) s t y (n * nout) (linearOf n nin nout (region w at (nout * nin)) (region s x (n * nin))) ok r
       → Wrote s t y (linearOf n nin nout (region w at (nout * nin)) (region s x (n * nin))) ok r
-  unfolding matrixFits
-  matrix-wrote w x y n nin nout at f =
+  unfolding linearAtFits
+  linear-wrote w x y n nin nout at f =
       let m = region w at (nout * nin) in
       let l = region s x (n * nin) in
-      tried (matrixFits (length s) (length w) x y n nin nout at) (linearOf n nin nout m l) y (n * nout)
+      tried (linearAtFits (length s) (length w) x y n nin nout at) (linearOf n nin nout m l) y (n * nout)
       (two (le-leb (at + nout * nin) (length w) (f .wIn)) (linear-fits (record { xin = f .xIn; yin = f .yIn; win = le-refl (nout * nin); apart = f .apart })))
       (length-linear n nin nout m l) (f .yIn)
+
+  pub linear-from-wrote : (x w : List Float) (y n nin nout : ℕ) → FromFits (length x) (length s) (length w) y n nin nout
+      → Tried (fromFits (length x) (length s) (length w) y n nin nout) s t y (n * nout) (linearOf n nin nout w x) ok r
+      → Wrote s t y (linearOf n nin nout w x) ok r
+  linear-from-wrote x w y n nin nout f =
+      tried (fromFits (length x) (length s) (length w) y n nin nout) (linearOf n nin nout w x) y (n * nout) (from-fits f) (length-linear n nin nout w x) (f .yin)
 
   pub norm-wrote : (w : List Float) (x y n dim : ℕ) → NormFits (length s) (length w) x y n dim
       → Tried (normFits (length s) (length w) x y n dim) s t y (n * dim) (normOf n dim w (region s x (n * dim))) ok r
@@ -81,6 +92,16 @@ module _ {s t : List Float} {ok r : Bool} where
   norm-wrote w x y n dim f =
       let l = region s x (n * dim) in
       tried (normFits (length s) (length w) x y n dim) (normOf n dim w l) y (n * dim) (norm-fits f) (length-norm n dim w l) (f .yin)
+
+  pub rotate-wrote : (cos sin : List Float) (x tokens heads half gw side : ℕ) → RotateFits (length s) (length cos) (length sin) x tokens heads half gw side
+      → Tried (rotateFits (length s) (length cos) (length sin) x tokens heads half gw side) s t x (tokens * (heads * (half + half)))
+      (rotateOf tokens heads half gw side cos sin (region s x (tokens * (heads * (half + half))))) ok r
+      → Wrote s t x (rotateOf tokens heads half gw side cos sin (region s x (tokens * (heads * (half + half))))) ok r
+  rotate-wrote cos sin x tokens heads half gw side f =
+      let n = tokens * (heads * (half + half)) in
+      let l = region s x n in
+      tried (rotateFits (length s) (length cos) (length sin) x tokens heads half gw side) (rotateOf tokens heads half gw side cos sin l) x n
+      (rotate-fits f) (length-rotate tokens heads half gw side cos sin l) (f .xin)
 
   pub add-wrote : (y z n : ℕ) → PairFits (length s) y z n
       → Tried (pairFits (length s) y z n) s t y n (added n (region s y n) (region s z n)) ok r
@@ -93,6 +114,11 @@ module _ {s t : List Float} {ok r : Bool} where
       → Wrote s t y (gated n (region s y n) (region s z n)) ok r
   gate-wrote y z n f =
       tried (pairFits (length s) y z n) (gated n (region s y n) (region s z n)) y n (pair-fits f) (length-gated n (region s y n) (region s z n)) (f .yin)
+
+  pub gelu-wrote : (y n : ℕ) → y + n ≤ length s
+      → Tried (inside (length s) y n) s t y n (gelued n (region s y n)) ok r
+      → Wrote s t y (gelued n (region s y n)) ok r
+  gelu-wrote y n f = tried (inside (length s) y n) (gelued n (region s y n)) y n (le-leb (y + n) (length s) f) (length-gelued n (region s y n)) f
 
   pub round-wrote : (y n : ℕ) → y + n ≤ length s
       → Tried (inside (length s) y n) s t y n (rounded n (region s y n)) ok r

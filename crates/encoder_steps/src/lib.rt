@@ -1,24 +1,29 @@
 // The steps that are examined: each writes its result in the scratch where all fits, and says whether what then stands
 // there is finite, and all up to here.
 ghost use mathlib.Core.Path.{_≡_};
-ghost use Prim.Native.Nat.{_*_};
+ghost use Prim.Native.Nat.{_+_, _*_};
 ghost use lib.ListN.{length};
 ghost use Rattle.buffers.specs.Region.{region};
 ghost use Rattle.buffers.specs.inner.Room as R;
 ghost use Rattle.encoder_linear.specs.Linear.{linearOf};
-ghost use Rattle.encoder_elements.specs.Element.{added, gated, rounded};
-ghost use Rattle.encoder_kernels.specs.Norm.{normOf};
-ghost use Rattle.encoder_kernels.specs.inner.Room.{normFits};
+ghost use Rattle.encoder_linear.specs.inner.Room.{fromFits};
+ghost use Rattle.encoder_elements.specs.Element.{added, gated, gelued, rounded};
 ghost use Rattle.encoder_elements.specs.inner.Room.{pairFits};
-ghost use Rattle.encoder_steps.specs.inner.Step.{finiteAt, matrixFits, Tried};
+ghost use Rattle.encoder_kernels.specs.Norm.{normOf};
+ghost use Rattle.encoder_kernels.specs.Rotate.{rotateOf};
+ghost use Rattle.encoder_kernels.specs.inner.Room.{normFits, rotateFits};
+ghost use Rattle.encoder_steps.specs.inner.Step.{finiteAt, linearAtFits, Tried};
 use buffers::part;
 use buffers::room::inside;
 use buffers::room::rows_inside;
 use encoder_elements::element::add_into;
 use encoder_elements::element::gate;
+use encoder_elements::element::gelu_inplace;
 use encoder_elements::element::truncate_to_bf16_inplace;
 use encoder_kernels::finite::finite;
 use encoder_kernels::norm::rms_norm;
+use encoder_kernels::rotate::rotate;
+use encoder_linear::linear::linear_from;
 use encoder_linear::linear::linear_no_bias_forward;
 
 // Whether the n floats at y lie inside, and are finite.
@@ -38,8 +43,21 @@ pub(crate) fn finite_rows(s: &[f32], y: usize, n: usize, d: usize) -> bool
     false
 }
 
+// The same of n rows of heads, each of two halves. Where not even one row lies inside, none do but no row at all.
+pub(crate) fn finite_heads(s: &[f32], y: usize, n: usize, heads: usize, half: usize) -> bool
+    ensures { λ r. ⌜ r ≡ finiteAt (now (s .entry)) y (n * (heads * (half + half))) ⌝ }
+{
+    if rows_inside(s.len(), y, heads, half) {
+        let d = heads * half;
+        if rows_inside(s.len(), y, 2, d) {
+            return finite_rows(s, y, n, 2 * d);
+        }
+    }
+    (n == 0) & finite_at(s, y, 0)
+}
+
 // A linear layer by the matrix at a place of the weights.
-pub fn matrix(
+pub fn linear_finite(
     s: &mut [f32],
     x: usize,
     y: usize,
@@ -50,13 +68,31 @@ pub fn matrix(
     at: usize,
     ok: bool,
 ) -> bool
-    ensures { λ r. ⌜ Tried (matrixFits (length (now (s .entry))) (length (now (w .entry))) x y n nin nout at) (now (s .entry)) (now (s .exit)) y (n * nout)
+    ensures { λ r. ⌜ Tried (linearAtFits (length (now (s .entry))) (length (now (w .entry))) x y n nin nout at) (now (s .entry)) (now (s .exit)) y (n * nout)
         (linearOf n nin nout (region (now (w .entry)) at (nout * nin)) (region (now (s .entry)) x (n * nin))) ok r ⌝ }
 {
     if rows_inside(w.len(), at, nout, nin) {
         linear_no_bias_forward(s, x, y, n, nin, nout, part(w, at, nout * nin));
         return ok & finite_rows(s, y, n, nout);
     }
+    ok & finite_rows(s, y, n, nout)
+}
+
+// A linear layer of another slice.
+pub fn linear_from_finite(
+    x: &[f32],
+    s: &mut [f32],
+    y: usize,
+    n: usize,
+    nin: usize,
+    nout: usize,
+    w: &[f32],
+    ok: bool,
+) -> bool
+    ensures { λ r. ⌜ Tried (fromFits (length (now (x .entry))) (length (now (s .entry))) (length (now (w .entry))) y n nin nout) (now (s .entry)) (now (s .exit)) y (n * nout)
+        (linearOf n nin nout (now (w .entry)) (now (x .entry))) ok r ⌝ }
+{
+    linear_from(x, s, y, n, nin, nout, w);
     ok & finite_rows(s, y, n, nout)
 }
 
@@ -76,6 +112,27 @@ pub fn norm_finite(
     ok & finite_rows(s, y, n, dim)
 }
 
+// Rotation of the heads of each token, in place.
+pub fn rotate_finite(
+    s: &mut [f32],
+    x: usize,
+    tokens: usize,
+    heads: usize,
+    half: usize,
+    gw: usize,
+    side: usize,
+    cos: &[f32],
+    sin: &[f32],
+    ok: bool,
+) -> bool
+    ensures { λ r. ⌜ Tried (rotateFits (length (now (s .entry))) (length (now (cos .entry))) (length (now (sin .entry))) x tokens heads half gw side)
+        (now (s .entry)) (now (s .exit)) x (tokens * (heads * (half + half)))
+        (rotateOf tokens heads half gw side (now (cos .entry)) (now (sin .entry)) (region (now (s .entry)) x (tokens * (heads * (half + half))))) ok r ⌝ }
+{
+    rotate(s, x, tokens, heads, half, gw, side, cos, sin);
+    ok & finite_heads(s, x, tokens, heads, half)
+}
+
 pub fn add_finite(s: &mut [f32], y: usize, z: usize, n: usize, ok: bool) -> bool
     ensures { λ r. ⌜ Tried (pairFits (length (now (s .entry))) y z n) (now (s .entry)) (now (s .exit)) y n
         (added n (region (now (s .entry)) y n) (region (now (s .entry)) z n)) ok r ⌝ }
@@ -90,6 +147,13 @@ pub fn gate_finite(s: &mut [f32], y: usize, z: usize, n: usize, ok: bool) -> boo
         (gated n (region (now (s .entry)) y n) (region (now (s .entry)) z n)) ok r ⌝ }
 {
     gate(s, y, z, n);
+    ok & finite_at(s, y, n)
+}
+
+pub fn gelu_finite(s: &mut [f32], y: usize, n: usize, ok: bool) -> bool
+    ensures { λ r. ⌜ Tried (R.inside (length (now (s .entry))) y n) (now (s .entry)) (now (s .exit)) y n (gelued n (region (now (s .entry)) y n)) ok r ⌝ }
+{
+    gelu_inplace(s, y, n);
     ok & finite_at(s, y, n)
 }
 

@@ -33,11 +33,6 @@ pub record RotationFits (z : Sizes) (lens lenc lenn : ℕ) : Type 0 where
   pub cosines : lenc ≡ z .side * z .side * z .«head_dim»
   pub sines : lenn ≡ z .side * z .side * z .«head_dim»
 
--- rotation at x
-pub record RotationAt (z : Sizes) (lens lenc lenn x : ℕ) : Type 0 where
-  pub fits : RotationFits z lens lenc lenn
-  pub xIn : x + nOf z ≤ lens
-
 -- count layers
 pub record LayersFits (z : Sizes) (lens lenw lenc lenn row count : ℕ) : Type 0 where
   pub weights : count * floats (partsOf z) ≤ lenw

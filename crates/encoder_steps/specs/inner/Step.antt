@@ -16,11 +16,11 @@ unfoldable pub finiteAt : List Float → ℕ → ℕ → Bool
 finiteAt s y n = inside (length s) y n && allFinite (region s y n)
 
 -- a linear layer by the matrix at place at of the weights, from x to y
-unfoldable pub matrixFits : ℕ → ℕ → ℕ → ℕ → ℕ → ℕ → ℕ → ℕ → Bool
-matrixFits lens lenw x y n nin nout at = inside lenw at (nout * nin) && linearFits lens (nout * nin) x y n nin nout
+unfoldable pub linearAtFits : ℕ → ℕ → ℕ → ℕ → ℕ → ℕ → ℕ → ℕ → Bool
+linearAtFits lens lenw x y n nin nout at = inside lenw at (nout * nin) && linearFits lens (nout * nin) x y n nin nout
 
 -- what that asks
-pub record MatrixAt (lens lenw x y rows nin nout at : ℕ) : Type 0 where
+pub record LinearAt (lens lenw x y rows nin nout at : ℕ) : Type 0 where
   pub xIn : x + rows * nin ≤ lens
   pub yIn : y + rows * nout ≤ lens
   pub wIn : at + nout * nin ≤ lenw

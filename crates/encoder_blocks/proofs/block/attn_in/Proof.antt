@@ -5,7 +5,7 @@ use native.Mathlib.Omega.{arith}
 use borrow.Author.Needs.{needs}
 use Rattle.buffers.specs.inner.Apart.{before}
 use Rattle.encoder_settings.proofs.Weights.{stands}
-use Rattle.encoder_steps.proofs.Writes.{matrix-wrote}
+use Rattle.encoder_steps.proofs.Writes.{linear-wrote}
 use Rattle.encoder_blocks.specs.Block.{squareOf}
 use Rattle.encoder_blocks.specs.Sizes.{nOf, partsOf}
 use Rattle.encoder_blocks.proofs.Lives.{attn-in}
@@ -30,23 +30,23 @@ add-v c = search needs
 attention-norm-requires : tie.Need-attention-norm-requires
 attention-norm-requires c κs = search needs
 
-mul-matrix : tie.Need-mul-matrix
-mul-matrix c = search needs
+mul-linear-finite : tie.Need-mul-linear-finite
+mul-linear-finite c = search needs
 
-matrix-requires : tie.Need-matrix-requires
-matrix-requires c κs = search needs
+linear-finite-requires : tie.Need-linear-finite-requires
+linear-finite-requires c κs = search needs
 
-mul-matrix-2 : tie.Need-mul-matrix-2
-mul-matrix-2 c = search needs
+mul-linear-finite-2 : tie.Need-mul-linear-finite-2
+mul-linear-finite-2 c = search needs
 
-matrix-requires-2 : tie.Need-matrix-requires-2
-matrix-requires-2 c κs = search needs
+linear-finite-requires-2 : tie.Need-linear-finite-requires-2
+linear-finite-requires-2 c κs = search needs
 
-mul-matrix-3 : tie.Need-mul-matrix-3
-mul-matrix-3 c = search needs
+mul-linear-finite-3 : tie.Need-mul-linear-finite-3
+mul-linear-finite-3 c = search needs
 
-matrix-requires-3 : tie.Need-matrix-requires-3
-matrix-requires-3 c κs = search needs
+linear-finite-requires-3 : tie.Need-linear-finite-requires-3
+linear-finite-requires-3 c κs = search needs
 
 same-length : tie.Need-same-length
 same-length c = search needs
@@ -57,9 +57,9 @@ returns c =
     let a = c .before .before .before .before .before .before .before .before .before .before .before .before .before .before .before .before .before .before .args in
     let g = c .before .before .before .before .before .before .before .before .before .before .before .before .before .before .before .before .before .before .pre in
     let x = c .before .before .before .before .before .before .before .before .before .before .before .before .before .before .attention-norm in
-    let q = c .before .before .before .before .before .before .before .before .before .before .matrix in
-    let k = c .before .before .before .before .before .before .matrix2 in
-    let v = c .before .before .matrix3 in
+    let q = c .before .before .before .before .before .before .before .before .before .before .linear-finite in
+    let k = c .before .before .before .before .before .before .linear-finite2 in
+    let v = c .before .before .linear-finite3 in
     let t = a .z .tokens in
     let d = a .z .hidden in
     let n = nOf (a .z) in
@@ -67,11 +67,11 @@ returns c =
     let l = q .kept .0 ∙ x .kept .0 in
     let m = k .kept .0 ∙ l in
     attn-in (a .z) (a .w .now) (a .s .now) (g .scratch) (x .last .0) (q .last .0) (k .last .0) (v .last .0) (a .ok) (x .result) (q .result) (k .result) (v .result) (x .ensures)
-    (rw (stands (partsOf (a .z)) "q" (a .w .now) d (d * d) (omega arith) (omega arith)) at (matrix-wrote (a .w .now) n (2 * n) t d d d
+    (rw (stands (partsOf (a .z)) "q" (a .w .now) d (d * d) (omega arith) (omega arith)) at (linear-wrote (a .w .now) n (2 * n) t d d d
     (record { xIn = omega (arith, g .scratch, x .kept .0); yIn = omega (arith, g .scratch, x .kept .0); wIn = omega (arith, g .weights); apart = before (omega arith) }) (q .ensures)))
-    (rw (stands (partsOf (a .z)) "k" (a .w .now) e (d * d) (omega arith) (omega arith)) at (matrix-wrote (a .w .now) n (3 * n) t d d e
+    (rw (stands (partsOf (a .z)) "k" (a .w .now) e (d * d) (omega arith) (omega arith)) at (linear-wrote (a .w .now) n (3 * n) t d d e
     (record { xIn = omega (arith, g .scratch, l); yIn = omega (arith, g .scratch, l); wIn = omega (arith, g .weights); apart = before (omega arith) }) (k .ensures)))
-    (rw (stands (partsOf (a .z)) "v" (a .w .now) (e + d * d) (d * d) (omega arith) (omega arith)) at (matrix-wrote (a .w .now) n (4 * n) t d d (e + d * d)
+    (rw (stands (partsOf (a .z)) "v" (a .w .now) (e + d * d) (d * d) (omega arith) (omega arith)) at (linear-wrote (a .w .now) n (4 * n) t d d (e + d * d)
     (record { xIn = omega (arith, g .scratch, m); yIn = omega (arith, g .scratch, m); wIn = omega (arith, g .weights); apart = before (omega arith) }) (v .ensures)))
 
 pub attn-in-spec : {M : Type 1} → statement M
@@ -84,11 +84,11 @@ attn-in-spec =
     mul-v
     add-v
     attention-norm-requires
-    mul-matrix
-    matrix-requires
-    mul-matrix-2
-    matrix-requires-2
-    mul-matrix-3
-    matrix-requires-3
+    mul-linear-finite
+    linear-finite-requires
+    mul-linear-finite-2
+    linear-finite-requires-2
+    mul-linear-finite-3
+    linear-finite-requires-3
     same-length
     returns)

@@ -5,7 +5,7 @@ use native.Mathlib.Omega.{arith}
 use borrow.Author.Needs.{needs}
 use Rattle.buffers.specs.inner.Apart.{before}
 use Rattle.encoder_settings.proofs.Weights.{stands}
-use Rattle.encoder_steps.proofs.Writes.{matrix-wrote}
+use Rattle.encoder_steps.proofs.Writes.{linear-wrote}
 use Rattle.encoder_blocks.specs.Block.{innerOf}
 use Rattle.encoder_blocks.specs.Sizes.{nOf, mOf, partsOf}
 use Rattle.encoder_blocks.proofs.Lives.{feed-in}
@@ -39,20 +39,20 @@ add-up c = search needs
 ffn-norm-requires : tie.Need-ffn-norm-requires
 ffn-norm-requires c κs = search needs
 
-mul-matrix : tie.Need-mul-matrix
-mul-matrix c = search needs
+mul-linear-finite : tie.Need-mul-linear-finite
+mul-linear-finite c = search needs
 
-matrix-requires : tie.Need-matrix-requires
-matrix-requires c κs = search needs
+linear-finite-requires : tie.Need-linear-finite-requires
+linear-finite-requires c κs = search needs
 
-mul-matrix-2 : tie.Need-mul-matrix-2
-mul-matrix-2 c = search needs
+mul-linear-finite-2 : tie.Need-mul-linear-finite-2
+mul-linear-finite-2 c = search needs
 
-add-matrix : tie.Need-add-matrix
-add-matrix c = search needs
+add-linear-finite : tie.Need-add-linear-finite
+add-linear-finite c = search needs
 
-matrix-requires-2 : tie.Need-matrix-requires-2
-matrix-requires-2 c κs = search needs
+linear-finite-requires-2 : tie.Need-linear-finite-requires-2
+linear-finite-requires-2 c κs = search needs
 
 same-length : tie.Need-same-length
 same-length c = search needs
@@ -63,8 +63,8 @@ returns c =
     let a = c .before .before .before .before .before .before .before .before .before .before .before .before .before .before .args in
     let g = c .before .before .before .before .before .before .before .before .before .before .before .before .before .before .pre in
     let x = c .before .before .before .before .before .before .before .before .before .before .ffn-norm in
-    let y = c .before .before .before .before .before .before .matrix in
-    let z = c .before .before .matrix2 in
+    let y = c .before .before .before .before .before .before .linear-finite in
+    let z = c .before .before .linear-finite2 in
     let t = a .z .tokens in
     let d = a .z .hidden in
     let i = a .z .inter in
@@ -73,9 +73,9 @@ returns c =
     let k = 2 * d + 4 * (d * d) in
     let l = y .kept .0 ∙ x .kept .0 in
     feed-in (a .z) (a .w .now) (a .s .now) (g .scratch) (x .last .0) (y .last .0) (z .last .0) (a .ok) (x .result) (y .result) (z .result) (x .ensures)
-    (rw (stands (partsOf (a .z)) "gate" (a .w .now) k (i * d) (omega arith) (omega arith)) at (matrix-wrote (a .w .now) n (7 * n) t d i k
+    (rw (stands (partsOf (a .z)) "gate" (a .w .now) k (i * d) (omega arith) (omega arith)) at (linear-wrote (a .w .now) n (7 * n) t d i k
     (record { xIn = omega (arith, g .scratch, x .kept .0); yIn = omega (arith, g .scratch, x .kept .0); wIn = omega (arith, g .weights); apart = before (omega arith) }) (y .ensures)))
-    (rw (stands (partsOf (a .z)) "up" (a .w .now) (k + i * d) (i * d) (omega arith) (omega arith)) at (matrix-wrote (a .w .now) n (7 * n + m) t d i (k + i * d)
+    (rw (stands (partsOf (a .z)) "up" (a .w .now) (k + i * d) (i * d) (omega arith) (omega arith)) at (linear-wrote (a .w .now) n (7 * n + m) t d i (k + i * d)
     (record { xIn = omega (arith, g .scratch, l); yIn = omega (arith, g .scratch, l); wIn = omega (arith, g .weights); apart = before (omega arith) }) (z .ensures)))
 
 pub feed-in-spec : {M : Type 1} → statement M
@@ -91,10 +91,10 @@ feed-in-spec =
     mul-up
     add-up
     ffn-norm-requires
-    mul-matrix
-    matrix-requires
-    mul-matrix-2
-    add-matrix
-    matrix-requires-2
+    mul-linear-finite
+    linear-finite-requires
+    mul-linear-finite-2
+    add-linear-finite
+    linear-finite-requires-2
     same-length
     returns)

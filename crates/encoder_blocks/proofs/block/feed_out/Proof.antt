@@ -5,7 +5,7 @@ use native.Mathlib.Omega.{arith}
 use borrow.Author.Needs.{needs}
 use Rattle.buffers.specs.inner.Apart.{after}
 use Rattle.encoder_settings.proofs.Weights.{stands}
-use Rattle.encoder_steps.proofs.Writes.{matrix-wrote, gate-wrote, add-wrote, round-wrote}
+use Rattle.encoder_steps.proofs.Writes.{linear-wrote, gate-wrote, add-wrote, round-wrote}
 use Rattle.encoder_blocks.specs.Block.{outerOf}
 use Rattle.encoder_blocks.specs.Sizes.{nOf, mOf, partsOf}
 use Rattle.encoder_blocks.proofs.Lives.{feed-out}
@@ -51,14 +51,14 @@ add-gate-finite c = search needs
 gate-finite-requires : tie.Need-gate-finite-requires
 gate-finite-requires c κs = search needs
 
-mul-matrix : tie.Need-mul-matrix
-mul-matrix c = search needs
+mul-linear-finite : tie.Need-mul-linear-finite
+mul-linear-finite c = search needs
 
-mul-matrix-2 : tie.Need-mul-matrix-2
-mul-matrix-2 c = search needs
+mul-linear-finite-2 : tie.Need-mul-linear-finite-2
+mul-linear-finite-2 c = search needs
 
-matrix-requires : tie.Need-matrix-requires
-matrix-requires c κs = search needs
+linear-finite-requires : tie.Need-linear-finite-requires
+linear-finite-requires c κs = search needs
 
 mul-add-finite : tie.Need-mul-add-finite
 mul-add-finite c = search needs
@@ -78,7 +78,7 @@ returns c =
     let a = c .before .before .before .before .before .before .before .before .before .before .before .before .before .before .before .before .before .before .args in
     let g = c .before .before .before .before .before .before .before .before .before .before .before .before .before .before .before .before .before .before .pre in
     let v = c .before .before .before .before .before .before .before .before .before .before .before .before .before .before .gate-finite in
-    let x = c .before .before .before .before .before .before .before .before .before .before .matrix in
+    let x = c .before .before .before .before .before .before .before .before .before .before .linear-finite in
     let y = c .before .before .before .before .before .before .add-finite in
     let z = c .before .before .round-finite in
     let t = a .z .tokens in
@@ -91,7 +91,7 @@ returns c =
     let k = y .kept .0 ∙ l in
     feed-out (a .z) (a .w .now) (a .s .now) (g .scratch) (v .last .0) (x .last .0) (y .last .0) (z .last .0) (a .ok) (v .result) (x .result) (y .result) (z .result)
     (gate-wrote (7 * n) (7 * n + m) m (record { yin = omega (arith, g .scratch); zin = omega (arith, g .scratch); apart = after (omega arith) }) (v .ensures))
-    (rw (stands (partsOf (a .z)) "down" (a .w .now) e (d * i) (omega arith) (omega arith)) at (matrix-wrote (a .w .now) (7 * n) (6 * n) t i d e
+    (rw (stands (partsOf (a .z)) "down" (a .w .now) e (d * i) (omega arith) (omega arith)) at (linear-wrote (a .w .now) (7 * n) (6 * n) t i d e
     (record { xIn = omega (arith, g .scratch, v .kept .0); yIn = omega (arith, g .scratch, v .kept .0); wIn = omega (arith, g .weights); apart = after (omega arith) }) (x .ensures)))
     (add-wrote 0 (6 * n) n (record { yin = omega (arith, g .scratch, l); zin = omega (arith, g .scratch, l); apart = after (omega arith) }) (y .ensures))
     (round-wrote 0 n (omega (arith, g .scratch, k)) (z .ensures))
@@ -113,9 +113,9 @@ feed-out-spec =
     mul-gate-finite-2
     add-gate-finite
     gate-finite-requires
-    mul-matrix
-    mul-matrix-2
-    matrix-requires
+    mul-linear-finite
+    mul-linear-finite-2
+    linear-finite-requires
     mul-add-finite
     add-finite-requires
     round-finite-requires

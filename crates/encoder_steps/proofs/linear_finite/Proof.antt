@@ -1,4 +1,4 @@
--- `encoder_steps::matrix` meets its contract. Assumes nothing.
+-- `encoder_steps::linear_finite` meets its contract. Assumes nothing.
 use mathlib.Core.Bool.{_&&_}
 use mathlib.Core.Path.{_≡_, refl, sym, ap, _∙_}
 use Prim.Native.Nat.{_+_, _*_}
@@ -7,9 +7,9 @@ use borrow.Author.Needs.{needs}
 use borrow.Author.Tests.{leb-true}
 use lib.ListN.{length}
 use Rattle.buffers.proofs.Regions.{length-region}
-use Rattle.encoder_steps.specs.inner.Step.{matrixFits}
-use Rattle.encoder_steps.proofs.matrix.Statement.{statement}
-use Rattle.encoder_steps.proofs.matrix.Tie as tie
+use Rattle.encoder_steps.specs.inner.Step.{linearAtFits}
+use Rattle.encoder_steps.proofs.linear_finite.Statement.{statement}
+use Rattle.encoder_steps.proofs.linear_finite.Tie as tie
 
 rows-inside-requires : tie.Need-rows-inside-requires
 rows-inside-requires c κs = search needs
@@ -32,7 +32,7 @@ same-length : tie.Need-same-length
 same-length c = c .before .before .before .before .linear-no-bias-forward .kept .0
 
 returns : tie.Need-returns
-unfolding matrixFits
+unfolding linearAtFits
 returns c =
     let a = c .before .before .before .before .before .before .before .before .before .before .before .args in
     let p = c .before .before .before .before .before .part in
@@ -48,14 +48,14 @@ same-length-2 : tie.Need-same-length-2
 same-length-2 c = search needs
 
 returns-2 : tie.Need-returns-2
-unfolding matrixFits
+unfolding linearAtFits
 returns-2 c =
     let a = c .before .before .before .before .before .before .args in
     let f = sym (c .before .before .before .rows-inside .ensures) ∙ c .before .before .if1 .left in
     record { all = rw f refl; finite-is = ap (λ b. a .ok && b) (c .finite-rows2 .ensures) }
 
-pub matrix-spec : {M : Type 1} → statement M
-matrix-spec =
+pub linear-finite-spec : {M : Type 1} → statement M
+linear-finite-spec =
     tie.close
     (tie.spec
     rows-inside-requires
