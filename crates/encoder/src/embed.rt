@@ -3,17 +3,14 @@ ghost use mathlib.Core.Path.{_≡_};
 ghost use mathlib.Core.Bool.{true};
 ghost use mathlib.Core.List.{[], _∷_};
 ghost use lib.ListN.{length};
-ghost use Rattle.encoder_linear.specs.Linear.{linearOf};
-ghost use Rattle.encoder_linear.specs.inner.Fits.{FromFits};
 ghost use Rattle.encoder_steps.specs.Run.{stagesFinite, answer};
-ghost use Rattle.encoder_steps.specs.inner.Step.{Wrote};
 ghost use Rattle.encoder_blocks.specs.inner.Live.{hAt};
 ghost use Rattle.encoder.specs.Embed.{embedRun};
 ghost use Rattle.encoder.specs.inner.Fits.{EmbedFits};
 use buffers::part;
 use encoder_blocks::Sizes;
 use encoder_kernels::finite::finite;
-use encoder_linear::linear::linear_from;
+use encoder_steps::linear_from_finite;
 use encoder_steps::norm_finite;
 use encoder_steps::round_finite;
 
@@ -28,25 +25,6 @@ pub(crate) fn inputs_finite(x: &[f32], w: &[f32], cos: &[f32], sin: &[f32]) -> b
     ((a & b) & c) & d
 }
 
-// A linear layer of another slice, and whether all is finite up to here.
-pub(crate) fn from_finite(
-    x: &[f32],
-    s: &mut [f32],
-    y: usize,
-    n: usize,
-    nin: usize,
-    nout: usize,
-    w: &[f32],
-    ok: bool,
-) -> bool
-    requires { ⌜ FromFits (length (now x)) (length (now s)) (length (now w)) y n nin nout ⌝ }
-    ensures { λ r. ⌜ Wrote (now (s .entry)) (now (s .exit)) y (linearOf n nin nout (now (w .entry)) (now (x .entry))) ok r ⌝ }
-{
-    linear_from(x, s, y, n, nin, nout, w);
-    let e = n * nout;
-    ok & finite(part(s, y, e))
-}
-
 // Patch projection and ln_pre, each rounded to bf16: h, where every stage is finite. w is the embedding's part of the weights.
 pub(crate) fn embed(x: &[f32], s: &mut [f32], z: Sizes, f: usize, w: &[f32]) -> bool
     requires { ⌜ EmbedFits z (length (now x)) (length (now s)) (length (now w)) f ⌝ }
@@ -56,7 +34,7 @@ pub(crate) fn embed(x: &[f32], s: &mut [f32], z: Sizes, f: usize, w: &[f32]) -> 
     let dim = z.hidden;
     let n = t * dim;
     let e = dim * f;
-    let a = from_finite(x, s, n, t, f, dim, part(w, 0, e), true);
+    let a = linear_from_finite(x, s, n, t, f, dim, part(w, 0, e), true);
     let b = round_finite(s, n, n, a);
     let c = norm_finite(s, n, 0, t, dim, part(w, e, dim), b);
     round_finite(s, 0, n, c)

@@ -1,19 +1,16 @@
 // The projector: norm, spatial merge, merging layer, linear_1, gelu, linear_2.
 ghost use mathlib.Core.Path.{_≡_};
-ghost use Prim.Native.Nat.{_+_, _*_, _≤_};
+ghost use Prim.Native.Nat.{_+_, _*_};
 ghost use lib.ListN.{length};
 ghost use Rattle.buffers.specs.Region.{region, put};
-ghost use Rattle.encoder_elements.specs.Element.{gelued};
 ghost use Rattle.encoder_steps.specs.Run.{answer};
-ghost use Rattle.encoder_steps.specs.inner.Step.{Wrote};
 ghost use Rattle.encoder.specs.Merge.{mergeOf};
 ghost use Rattle.encoder.specs.inner.Source.{sourceOf};
 ghost use Rattle.encoder.specs.Project.{projectRun};
 ghost use Rattle.encoder.specs.inner.Fits.{SourceFits, MergeFits, ProjFits};
 use buffers::part;
-use encoder_elements::element::gelu_inplace;
-use encoder_kernels::finite::finite;
-use encoder_steps::matrix;
+use encoder_steps::gelu_finite;
+use encoder_steps::linear_finite;
 use encoder_steps::norm_finite;
 
 // Where place p of the merged rows takes its value from.
@@ -54,15 +51,6 @@ pub(crate) fn merge_tokens(
     }
 }
 
-// gelu of the n floats at y, and whether all is finite up to here.
-pub(crate) fn gelu_finite(s: &mut [f32], y: usize, n: usize, ok: bool) -> bool
-    requires { ⌜ y + n ≤ length (now s) ⌝ }
-    ensures { λ r. ⌜ Wrote (now (s .entry)) (now (s .exit)) y (gelued n (region (now (s .entry)) y n)) ok r ⌝ }
-{
-    gelu_inplace(s, y, n);
-    ok & finite(part(s, y, n))
-}
-
 // The projector, on h at 0; its result at at + o * text. w is the projector's part of the weights.
 pub(crate) fn projector_forward(
     s: &mut [f32],
@@ -86,8 +74,8 @@ pub(crate) fn projector_forward(
     let e = o * text;
     let a = norm_finite(s, 0, n, t, dim, part(w, 0, dim), true);
     merge_tokens(s, n, 2 * n, o * wide, merge, gh, gw, dim);
-    let b = matrix(s, 2 * n, 3 * n, o, wide, dim, w, dim, a);
-    let c = matrix(s, 3 * n, at, o, dim, text, w, p, b);
+    let b = linear_finite(s, 2 * n, 3 * n, o, wide, dim, w, dim, a);
+    let c = linear_finite(s, 3 * n, at, o, dim, text, w, p, b);
     let d = gelu_finite(s, at, e, c);
-    matrix(s, at, at + e, o, text, text, w, q, d)
+    linear_finite(s, at, at + e, o, text, text, w, q, d)
 }

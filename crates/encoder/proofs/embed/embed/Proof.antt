@@ -10,7 +10,7 @@ use Rattle.encoder_settings.specs.Weights.{embedding}
 use Rattle.encoder_settings.proofs.Weights.{stands}
 use Rattle.encoder_blocks.specs.Sizes.{nOf}
 use Rattle.encoder.specs.Embed.{patchConv, lnPre}
-use Rattle.encoder_steps.proofs.Writes.{norm-wrote, round-wrote}
+use Rattle.encoder_steps.proofs.Writes.{linear-from-wrote, norm-wrote, round-wrote}
 use Rattle.encoder.proofs.Embeds.{embedded}
 use Rattle.encoder.proofs.embed.embed.Statement.{statement}
 use Rattle.encoder.proofs.embed.embed.Tie as tie
@@ -24,12 +24,8 @@ mul-e c = search needs
 part-requires : tie.Need-part-requires
 part-requires c κs = search needs
 
-from-finite-requires : tie.Need-from-finite-requires
-from-finite-requires c κs =
-    let a = c .before .before .before .before .before .args in
-    let g = c .before .before .before .before .before .pre in
-    let e : length (c .part .result .now) ≡ a .z .hidden * a .f = ap length (c .part .ensures) ∙ length-region (a .w .now) 0 (a .z .hidden * a .f) (omega (arith, g .weights)) in
-    record { xin = omega (arith, g .xin); yin = omega (arith, g .room); win = omega (arith, e) }
+linear-from-finite-requires : tie.Need-linear-from-finite-requires
+linear-from-finite-requires c κs = search needs
 
 round-finite-requires : tie.Need-round-finite-requires
 round-finite-requires c κs = search needs
@@ -44,7 +40,7 @@ round-finite-requires-2 : tie.Need-round-finite-requires-2
 round-finite-requires-2 c κs = search needs
 
 same-length : tie.Need-same-length
-same-length c = c .before .before .round-finite2 .kept .0 ∙ c .before .before .before .before .before .before .norm-finite .kept .0 ∙ c .before .before .before .before .before .before .before .before .before .before .before .round-finite .kept .0 ∙ c .before .before .before .before .before .before .before .before .before .before .before .before .before .before .before .from-finite .kept .1 .0
+same-length c = c .before .before .round-finite2 .kept .0 ∙ c .before .before .before .before .before .before .norm-finite .kept .0 ∙ c .before .before .before .before .before .before .before .before .before .before .before .round-finite .kept .0 ∙ c .before .before .before .before .before .before .before .before .before .before .before .before .before .before .before .linear-from-finite .kept .1 .0
 
 returns : tie.Need-returns
 unfolding patchConv lnPre
@@ -53,15 +49,18 @@ returns c =
     let g = c .before .before .before .before .before .before .before .before .before .before .before .before .before .before .before .before .before .before .before .before .before .pre in
     let n = nOf (a .z) in
     let T = embedding (a .z .hidden) (a .f) in
-    let x = c .before .before .before .before .before .before .before .before .before .before .before .before .before .before .before .from-finite in
+    let x = c .before .before .before .before .before .before .before .before .before .before .before .before .before .before .before .linear-from-finite in
     let y = c .before .before .before .before .before .before .before .before .before .before .before .round-finite in
     let q = c .before .before .before .before .before .before .before .part2 in
     let z = c .before .before .before .before .before .before .norm-finite in
     let r = c .before .before .round-finite2 in
+    let v = c .before .before .before .before .before .before .before .before .before .before .before .before .before .before .before .before .part in
+    let k : length (v .result .now) ≡ a .z .hidden * a .f = ap length (v .ensures) ∙ length-region (a .w .now) 0 (a .z .hidden * a .f) (omega (arith, g .weights)) in
     let l = y .kept .0 ∙ x .kept .1 .0 in
     embedded (a .z) (a .f) (a .w .now) (a .x .now) (a .s .now) (g .room) (x .last .1 .0) (y .last .0) (z .last .0) (r .last .0)
     (x .result) (y .result) (z .result) (r .result)
-    (rw (c .before .before .before .before .before .before .before .before .before .before .before .before .before .before .before .before .part .ensures ∙ stands T "patch_conv" (a .w .now) 0 (a .z .hidden * a .f) (omega arith) (omega arith)) at (x .ensures))
+    (rw (v .ensures ∙ stands T "patch_conv" (a .w .now) 0 (a .z .hidden * a .f) (omega arith) (omega arith)) at
+    (linear-from-wrote (a .x .now) (v .result .now) n (a .z .tokens) (a .f) (a .z .hidden) (record { xin = omega (arith, g .xin); yin = omega (arith, g .room); win = omega (arith, k) }) (x .ensures)))
     (round-wrote n n (omega (arith, g .room, x .kept .1 .0)) (y .ensures))
     (rw (q .ensures ∙ stands T "ln_pre" (a .w .now) (a .z .hidden * a .f) (a .z .hidden) (omega arith) (omega arith)) at
     (norm-wrote (q .result .now) n 0 (a .z .tokens) (a .z .hidden)
@@ -82,7 +81,7 @@ embed-spec =
     mul-n
     mul-e
     part-requires
-    from-finite-requires
+    linear-from-finite-requires
     round-finite-requires
     part-requires-2
     norm-finite-requires

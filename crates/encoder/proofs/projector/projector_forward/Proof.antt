@@ -9,7 +9,7 @@ use Rattle.buffers.specs.inner.Apart.{before}
 use Rattle.encoder_settings.specs.Weights.{projector}
 use Rattle.encoder_settings.proofs.Weights.{stands}
 use Rattle.encoder.specs.Project.{projNorm, mergingLayer, linear1, linear2}
-use Rattle.encoder_steps.proofs.Writes.{norm-wrote, matrix-wrote}
+use Rattle.encoder_steps.proofs.Writes.{norm-wrote, linear-wrote, gelu-wrote}
 use Rattle.encoder.proofs.Projects.{project-run}
 use Rattle.encoder.proofs.projector.projector_forward.Statement.{statement}
 use Rattle.encoder.proofs.projector.projector_forward.Tie as tie
@@ -47,35 +47,32 @@ mul-merge-tokens-2 c = search needs
 merge-tokens-requires : tie.Need-merge-tokens-requires
 merge-tokens-requires c κs = rw (c .before .before .before .norm-finite .kept .0) (c .before .before .before .before .before .before .before .before .pre .merges)
 
-mul-matrix : tie.Need-mul-matrix
-mul-matrix c = search needs
+mul-linear-finite : tie.Need-mul-linear-finite
+mul-linear-finite c = search needs
 
-mul-matrix-2 : tie.Need-mul-matrix-2
-mul-matrix-2 c = search needs
+mul-linear-finite-2 : tie.Need-mul-linear-finite-2
+mul-linear-finite-2 c = search needs
 
-matrix-requires : tie.Need-matrix-requires
-matrix-requires c κs = search needs
+linear-finite-requires : tie.Need-linear-finite-requires
+linear-finite-requires c κs = search needs
 
-mul-matrix-3 : tie.Need-mul-matrix-3
-mul-matrix-3 c = search needs
+mul-linear-finite-3 : tie.Need-mul-linear-finite-3
+mul-linear-finite-3 c = search needs
 
-matrix-requires-2 : tie.Need-matrix-requires-2
-matrix-requires-2 c κs = search needs
+linear-finite-requires-2 : tie.Need-linear-finite-requires-2
+linear-finite-requires-2 c κs = search needs
 
 gelu-finite-requires : tie.Need-gelu-finite-requires
-gelu-finite-requires c κs =
-    let g = c .before .before .before .before .before .before .before .before .before .before .before .before .before .before .before .before .before .before .before .before .pre in
-    let l = c .before .before .before .matrix2 .kept .0 ∙ c .before .before .before .before .before .before .before .matrix .kept .0 ∙ c .before .before .before .before .before .before .before .before .before .before .before .merge-tokens .kept .0 ∙ c .before .before .before .before .before .before .before .before .before .before .before .before .before .before .before .norm-finite .kept .0 in
-    omega arith
+gelu-finite-requires c κs = search needs
 
-add-matrix : tie.Need-add-matrix
-add-matrix c = omega (arith, c .before .before .before .before .before .before .before .before .before .before .before .before .before .before .before .before .before .before .before .before .before .before .before .before)
+add-linear-finite : tie.Need-add-linear-finite
+add-linear-finite c = omega (arith, c .before .before .before .before .before .before .before .before .before .before .before .before .before .before .before .before .before .before .before .before .before .before .before .before)
 
-matrix-requires-3 : tie.Need-matrix-requires-3
-matrix-requires-3 c κs = search needs
+linear-finite-requires-3 : tie.Need-linear-finite-requires-3
+linear-finite-requires-3 c κs = search needs
 
 same-length : tie.Need-same-length
-same-length c = c .before .before .matrix3 .kept .0 ∙ c .before .before .before .before .before .before .gelu-finite .kept .0 ∙ c .before .before .before .before .before .before .before .before .before .before .matrix2 .kept .0 ∙ c .before .before .before .before .before .before .before .before .before .before .before .before .before .before .matrix .kept .0 ∙ c .before .before .before .before .before .before .before .before .before .before .before .before .before .before .before .before .before .before .merge-tokens .kept .0 ∙ c .before .before .before .before .before .before .before .before .before .before .before .before .before .before .before .before .before .before .before .before .before .before .norm-finite .kept .0
+same-length c = c .before .before .linear-finite3 .kept .0 ∙ c .before .before .before .before .before .before .gelu-finite .kept .0 ∙ c .before .before .before .before .before .before .before .before .before .before .linear-finite2 .kept .0 ∙ c .before .before .before .before .before .before .before .before .before .before .before .before .before .before .linear-finite .kept .0 ∙ c .before .before .before .before .before .before .before .before .before .before .before .before .before .before .before .before .before .before .merge-tokens .kept .0 ∙ c .before .before .before .before .before .before .before .before .before .before .before .before .before .before .before .before .before .before .before .before .before .before .norm-finite .kept .0
 
 returns : tie.Need-returns
 unfolding projNorm mergingLayer linear1 linear2
@@ -89,13 +86,14 @@ returns c =
     let q = c .before .before .before .before .before .before .before .before .before .before .before .before .before .before .before .before .before .before .before .before .before .before .before .part in
     let x₁ = c .before .before .before .before .before .before .before .before .before .before .before .before .before .before .before .before .before .before .before .before .before .before .norm-finite in
     let x₂ = c .before .before .before .before .before .before .before .before .before .before .before .before .before .before .before .before .before .before .merge-tokens in
-    let x₃ = c .before .before .before .before .before .before .before .before .before .before .before .before .before .before .matrix in
-    let x₄ = c .before .before .before .before .before .before .before .before .before .before .matrix2 in
+    let x₃ = c .before .before .before .before .before .before .before .before .before .before .before .before .before .before .linear-finite in
+    let x₄ = c .before .before .before .before .before .before .before .before .before .before .linear-finite2 in
     let x₅ = c .before .before .before .before .before .before .gelu-finite in
-    let x₆ = c .before .before .matrix3 in
+    let x₆ = c .before .before .linear-finite3 in
     let l₂ = x₂ .kept .0 ∙ x₁ .kept .0 in
     let l₃ = x₃ .kept .0 ∙ l₂ in
-    let l₅ = x₅ .kept .0 ∙ x₄ .kept .0 ∙ l₃ in
+    let l₄ = x₄ .kept .0 ∙ l₃ in
+    let l₅ = x₅ .kept .0 ∙ l₄ in
     project-run (a .t) (a .dim) (a .o) (a .wide) (a .text) (a .w .now) (a .s .now) (x₁ .last .0) (x₂ .last .0) (x₃ .last .0) (x₄ .last .0) (x₅ .last .0) (x₆ .last .0)
     (length (a .w .now)) (a .merge) (a .gh) (a .gw) (a .at) (x₁ .result) (x₃ .result) (x₄ .result) (x₅ .result) (x₆ .result) g
     (rw (q .ensures ∙ stands T "norm" (a .w .now) 0 (a .dim) (omega arith) (omega arith)) at
@@ -109,14 +107,14 @@ returns c =
     })
     (x₁ .ensures)))
     (x₂ .ensures)
-    (rw (stands T "merging_layer" (a .w .now) (a .dim) (a .dim * a .wide) (omega arith) (omega arith)) at (matrix-wrote (a .w .now) (2 * n) (3 * n) (a .o) (a .wide) (a .dim) (a .dim)
+    (rw (stands T "merging_layer" (a .w .now) (a .dim) (a .dim * a .wide) (omega arith) (omega arith)) at (linear-wrote (a .w .now) (2 * n) (3 * n) (a .o) (a .wide) (a .dim) (a .dim)
     (record { xIn = omega (arith, g .at-is, g .room, g .wideIn, l₂); yIn = omega (arith, g .at-is, g .room, g .foldIn, l₂); wIn = omega (arith, g .weights); apart = before (omega (arith, g .wideIn)) })
     (x₃ .ensures)))
-    (rw (stands T "linear_1" (a .w .now) p (a .text * a .dim) (omega arith) (omega arith)) at (matrix-wrote (a .w .now) (3 * n) (a .at) (a .o) (a .dim) (a .text) p
+    (rw (stands T "linear_1" (a .w .now) p (a .text * a .dim) (omega arith) (omega arith)) at (linear-wrote (a .w .now) (3 * n) (a .at) (a .o) (a .dim) (a .text) p
     (record { xIn = omega (arith, g .at-is, g .room, g .foldIn, l₃); yIn = omega (arith, g .room, l₃); wIn = omega (arith, g .weights); apart = before (omega (arith, g .at-is, g .foldIn)) })
     (x₄ .ensures)))
-    (x₅ .ensures)
-    (rw (stands T "linear_2" (a .w .now) (p + a .text * a .dim) (a .text * a .text) (omega arith) (omega arith)) at (matrix-wrote (a .w .now) (a .at) (a .at + e) (a .o) (a .text) (a .text) (p + a .text * a .dim)
+    (gelu-wrote (a .at) e (omega (arith, g .room, l₄)) (x₅ .ensures))
+    (rw (stands T "linear_2" (a .w .now) (p + a .text * a .dim) (a .text * a .text) (omega arith) (omega arith)) at (linear-wrote (a .w .now) (a .at) (a .at + e) (a .o) (a .text) (a .text) (p + a .text * a .dim)
     (record { xIn = omega (arith, g .room, l₅); yIn = omega (arith, g .room, l₅); wIn = omega (arith, g .weights); apart = before (omega arith) })
     (x₆ .ensures)))
 
@@ -135,13 +133,13 @@ projector-forward-spec =
     mul-merge-tokens
     mul-merge-tokens-2
     merge-tokens-requires
-    mul-matrix
-    mul-matrix-2
-    matrix-requires
-    mul-matrix-3
-    matrix-requires-2
+    mul-linear-finite
+    mul-linear-finite-2
+    linear-finite-requires
+    mul-linear-finite-3
+    linear-finite-requires-2
     gelu-finite-requires
-    add-matrix
-    matrix-requires-3
+    add-linear-finite
+    linear-finite-requires-3
     same-length
     returns)
