@@ -1,22 +1,14 @@
 -- What stands behind a block's regions in the scratch, and how the weights are cut.
 -- Assumes nothing.
-use mathlib.Core.Bool.{Bool}
-use mathlib.Core.Path.{_≡_}
-use mathlib.Core.List.{List, [], _∷_}
 use Prim.Native.Nat.{ℕ, _+_, _*_}
-use lib.Ieee.{Float}
 use Rattle.picture_limits.specs.Places.{patchFloats}
 use Rattle.encoder_settings.specs.declared.EncoderSettings.{EncoderSettings}
 use Rattle.encoder_settings.specs.Settings.{mergeArea}
 use Rattle.encoder_settings.specs.inner.Bounds.{layerSum}
-use Rattle.encoder_elements.specs.Element.{rounded}
-use Rattle.encoder_steps.specs.Run.{stagesFinite}
 use Rattle.encoder_blocks.specs.declared.Sizes.{Sizes}
 use Rattle.encoder_blocks.specs.Sizes.{nOf, mOf}
-use Rattle.encoder_blocks.specs.inner.Live.{hAt}
 use Rattle.encoder.specs.declared.Counts.{Counts}
 use Rattle.encoder.specs.declared.Regions.{Regions}
-use Rattle.encoder.specs.Embed.{patchConv, lnPre}
 
 -- linear_1's result, linear_2's, of e floats each, and the score row
 abbrev pub regionsOf : Sizes → ℕ → Regions
