@@ -1,4 +1,4 @@
-pub mod Lives
+pub mod Halves
 pub mod Turns
 pub mod Rooms
 pub mod Leaves

@@ -57,6 +57,35 @@ module _ {s t l : List Float} {y : ℕ} {ok r : Bool} (w : Wrote s t y l ok r) (
   pub left : (a m : ℕ) → Apart a m y n → region t a m ≡ region s a m
   left a m k = ap (λ u. region u a m) (w .all) ∙ region-put s y l a m (rw h k)
 
+-- ---- what each step says of its call: s before it, t behind it
+
+abbrev pub LinearTried : List Float → ℕ → ℕ → ℕ → ℕ → ℕ → ℕ → List Float → List Float → Bool → Bool → Type 0
+LinearTried w x y n nin nout at s t ok r =
+    Tried (linearAtFits (length s) (length w) x y n nin nout at) s t y (n * nout) (linearOf n nin nout (region w at (nout * nin)) (region s x (n * nin))) ok r
+
+abbrev pub FromTried : List Float → List Float → ℕ → ℕ → ℕ → ℕ → List Float → List Float → Bool → Bool → Type 0
+FromTried x w y n nin nout s t ok r = Tried (fromFits (length x) (length s) (length w) y n nin nout) s t y (n * nout) (linearOf n nin nout w x) ok r
+
+abbrev pub NormTried : List Float → ℕ → ℕ → ℕ → ℕ → List Float → List Float → Bool → Bool → Type 0
+NormTried w x y n dim s t ok r = Tried (normFits (length s) (length w) x y n dim) s t y (n * dim) (normOf n dim w (region s x (n * dim))) ok r
+
+abbrev pub RotateTried : List Float → List Float → ℕ → ℕ → ℕ → ℕ → ℕ → ℕ → List Float → List Float → Bool → Bool → Type 0
+RotateTried cos sin x tokens heads half gw side s t ok r =
+    Tried (rotateFits (length s) (length cos) (length sin) x tokens heads half gw side) s t x (tokens * (heads * (half + half)))
+    (rotateOf tokens heads half gw side cos sin (region s x (tokens * (heads * (half + half))))) ok r
+
+abbrev pub AddTried : ℕ → ℕ → ℕ → List Float → List Float → Bool → Bool → Type 0
+AddTried y z n s t ok r = Tried (pairFits (length s) y z n) s t y n (added n (region s y n) (region s z n)) ok r
+
+abbrev pub GateTried : ℕ → ℕ → ℕ → List Float → List Float → Bool → Bool → Type 0
+GateTried y z n s t ok r = Tried (pairFits (length s) y z n) s t y n (gated n (region s y n) (region s z n)) ok r
+
+abbrev pub GeluTried : ℕ → ℕ → List Float → List Float → Bool → Bool → Type 0
+GeluTried y n s t ok r = Tried (inside (length s) y n) s t y n (gelued n (region s y n)) ok r
+
+abbrev pub RoundTried : ℕ → ℕ → List Float → List Float → Bool → Bool → Type 0
+RoundTried y n s t ok r = Tried (inside (length s) y n) s t y n (rounded n (region s y n)) ok r
+
 -- ---- a step that fits
 
 module _ {s t : List Float} {ok r : Bool} where
@@ -70,7 +99,7 @@ module _ {s t : List Float} {ok r : Bool} where
       record { all = e; finite-is = w .finite-is ∙ ap (λ b. ok && (b && allFinite (region t y n))) f ∙ ap (λ u. ok && allFinite u) q }
 
   pub linear-wrote : (w : List Float) (x y n nin nout at : ℕ) → LinearAt (length s) (length w) x y n nin nout at
-      → Tried (linearAtFits (length s) (length w) x y n nin nout at) s t y (n * nout) (linearOf n nin nout (region w at (nout * nin)) (region s x (n * nin))) ok r
+      → LinearTried w x y n nin nout at s t ok r
       → Wrote s t y (linearOf n nin nout (region w at (nout * nin)) (region s x (n * nin))) ok r
   unfolding linearAtFits
   linear-wrote w x y n nin nout at f =
@@ -81,21 +110,18 @@ module _ {s t : List Float} {ok r : Bool} where
       (length-linear n nin nout m l) (f .yIn)
 
   pub linear-from-wrote : (x w : List Float) (y n nin nout : ℕ) → FromFits (length x) (length s) (length w) y n nin nout
-      → Tried (fromFits (length x) (length s) (length w) y n nin nout) s t y (n * nout) (linearOf n nin nout w x) ok r
-      → Wrote s t y (linearOf n nin nout w x) ok r
+      → FromTried x w y n nin nout s t ok r → Wrote s t y (linearOf n nin nout w x) ok r
   linear-from-wrote x w y n nin nout f =
       tried (fromFits (length x) (length s) (length w) y n nin nout) (linearOf n nin nout w x) y (n * nout) (from-fits f) (length-linear n nin nout w x) (f .yin)
 
   pub norm-wrote : (w : List Float) (x y n dim : ℕ) → NormFits (length s) (length w) x y n dim
-      → Tried (normFits (length s) (length w) x y n dim) s t y (n * dim) (normOf n dim w (region s x (n * dim))) ok r
-      → Wrote s t y (normOf n dim w (region s x (n * dim))) ok r
+      → NormTried w x y n dim s t ok r → Wrote s t y (normOf n dim w (region s x (n * dim))) ok r
   norm-wrote w x y n dim f =
       let l = region s x (n * dim) in
       tried (normFits (length s) (length w) x y n dim) (normOf n dim w l) y (n * dim) (norm-fits f) (length-norm n dim w l) (f .yin)
 
   pub rotate-wrote : (cos sin : List Float) (x tokens heads half gw side : ℕ) → RotateFits (length s) (length cos) (length sin) x tokens heads half gw side
-      → Tried (rotateFits (length s) (length cos) (length sin) x tokens heads half gw side) s t x (tokens * (heads * (half + half)))
-      (rotateOf tokens heads half gw side cos sin (region s x (tokens * (heads * (half + half))))) ok r
+      → RotateTried cos sin x tokens heads half gw side s t ok r
       → Wrote s t x (rotateOf tokens heads half gw side cos sin (region s x (tokens * (heads * (half + half))))) ok r
   rotate-wrote cos sin x tokens heads half gw side f =
       let n = tokens * (heads * (half + half)) in
@@ -104,25 +130,19 @@ module _ {s t : List Float} {ok r : Bool} where
       (rotate-fits f) (length-rotate tokens heads half gw side cos sin l) (f .xin)
 
   pub add-wrote : (y z n : ℕ) → PairFits (length s) y z n
-      → Tried (pairFits (length s) y z n) s t y n (added n (region s y n) (region s z n)) ok r
-      → Wrote s t y (added n (region s y n) (region s z n)) ok r
+      → AddTried y z n s t ok r → Wrote s t y (added n (region s y n) (region s z n)) ok r
   add-wrote y z n f =
       tried (pairFits (length s) y z n) (added n (region s y n) (region s z n)) y n (pair-fits f) (length-added n (region s y n) (region s z n)) (f .yin)
 
   pub gate-wrote : (y z n : ℕ) → PairFits (length s) y z n
-      → Tried (pairFits (length s) y z n) s t y n (gated n (region s y n) (region s z n)) ok r
-      → Wrote s t y (gated n (region s y n) (region s z n)) ok r
+      → GateTried y z n s t ok r → Wrote s t y (gated n (region s y n) (region s z n)) ok r
   gate-wrote y z n f =
       tried (pairFits (length s) y z n) (gated n (region s y n) (region s z n)) y n (pair-fits f) (length-gated n (region s y n) (region s z n)) (f .yin)
 
-  pub gelu-wrote : (y n : ℕ) → y + n ≤ length s
-      → Tried (inside (length s) y n) s t y n (gelued n (region s y n)) ok r
-      → Wrote s t y (gelued n (region s y n)) ok r
+  pub gelu-wrote : (y n : ℕ) → y + n ≤ length s → GeluTried y n s t ok r → Wrote s t y (gelued n (region s y n)) ok r
   gelu-wrote y n f = tried (inside (length s) y n) (gelued n (region s y n)) y n (le-leb (y + n) (length s) f) (length-gelued n (region s y n)) f
 
-  pub round-wrote : (y n : ℕ) → y + n ≤ length s
-      → Tried (inside (length s) y n) s t y n (rounded n (region s y n)) ok r
-      → Wrote s t y (rounded n (region s y n)) ok r
+  pub round-wrote : (y n : ℕ) → y + n ≤ length s → RoundTried y n s t ok r → Wrote s t y (rounded n (region s y n)) ok r
   round-wrote y n f = tried (inside (length s) y n) (rounded n (region s y n)) y n (le-leb (y + n) (length s) f) (length-rounded n (region s y n)) f
 
 -- ---- what is left once the run is over

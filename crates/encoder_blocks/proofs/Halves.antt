@@ -1,0 +1,312 @@
+-- Each half of a block, from what its steps say. Assumes nothing.
+use mathlib.Core.Bool.{Bool, true, _&&_, cond}
+use mathlib.Core.Path.{_≡_, sym, ap, _∙_}
+use mathlib.Core.List.{List}
+use Prim.Native.Nat.{ℕ, _+_, _*_, _/_, _%_, _≤_}
+use Prim.Native.String.{String}
+use native.Mathlib.Omega.{arith}
+use lib.ListN.{length}
+use lib.Ieee.{Float}
+use Rattle.number_floats.specs.Constants.{zero32}
+use Rattle.buffers.specs.Rows.{tab}
+use Rattle.buffers.specs.Region.{region, put}
+use Rattle.buffers.specs.Each.{blank}
+use Rattle.buffers.specs.inner.Apart.{before, after}
+use Rattle.buffers.proofs.Regions.{length-put, length-region, region-put, region-put-same}
+use Rattle.buffers.proofs.Steps.{blank-region}
+use Rattle.encoder_settings.specs.Weights.{part}
+use Rattle.encoder_settings.proofs.Weights.{placeIn, floatsIn, stands}
+use Rattle.encoder_linear.proofs.Sums.{length-linear}
+use Rattle.encoder_elements.specs.Element.{added, gated, rounded}
+use Rattle.encoder_elements.proofs.Lengths.{length-added, length-gated, length-rounded}
+use Rattle.encoder_kernels.specs.Finite.{allFinite}
+use Rattle.encoder_kernels.specs.inner.Fits.{RotateFits}
+use Rattle.encoder_kernels.proofs.Lengths.{length-norm}
+use Rattle.encoder_kernels.proofs.Rotated.{length-rotate}
+use Rattle.encoder_attention.specs.Attention.{scoresOf, attentionOf}
+use Rattle.encoder_attention.specs.inner.Fits.{KeysFit}
+use Rattle.encoder_attention.specs.inner.Keys.{turnedKeys}
+use Rattle.encoder_attention.specs.inner.Room.{attendFits}
+use Rattle.encoder_attention.proofs.Attends.{length-attention}
+use Rattle.encoder_attention.proofs.Keys.{length-turned}
+use Rattle.encoder_attention.proofs.Rooms.{attend-fits}
+use Rattle.encoder_steps.specs.Run.{stagesFinite, answer}
+use Rattle.encoder_steps.specs.inner.Step.{LinearAt, Wrote}
+use Rattle.encoder_steps.proofs.Writes.{LinearTried, NormTried, RotateTried, AddTried, GateTried, RoundTried, got, long, left, linear-wrote, norm-wrote, rotate-wrote, add-wrote, gate-wrote, round-wrote}
+use Rattle.encoder_blocks.specs.declared.Sizes.{Sizes}
+use Rattle.encoder_blocks.specs.Sizes.{nOf, mOf, partsOf}
+use Rattle.encoder_blocks.specs.Block.{normed, squareOf, innerOf, outerOf, rotated, mixed, scored, attnRun, feedRun}
+use Rattle.encoder_blocks.specs.inner.Live.{hAt}
+use Rattle.encoder_blocks.specs.inner.Fits.{BlockFits, RotationFits, ScoreRow}
+
+-- ---- the lengths of the stages
+
+module _ (z : Sizes) where
+  length-normed : (name : String) (w h : List Float) → length (normed z name w h) ≡ nOf z
+  unfolding normed
+  length-normed name w h = length-norm (z .tokens) (z .hidden) (part (partsOf z) name w) h
+
+  length-square : (name : String) (w x : List Float) → length (squareOf z name w x) ≡ nOf z
+  unfolding squareOf
+  length-square name w x = length-linear (z .tokens) (z .hidden) (z .hidden) (part (partsOf z) name w) x
+
+  length-inner : (name : String) (w x : List Float) → length (innerOf z name w x) ≡ mOf z
+  unfolding innerOf
+  length-inner name w x = length-linear (z .tokens) (z .hidden) (z .inter) (part (partsOf z) name w) x
+
+  length-outer : (name : String) (w x : List Float) → length (outerOf z name w x) ≡ nOf z
+  unfolding outerOf
+  length-outer name w x = length-linear (z .tokens) (z .inter) (z .hidden) (part (partsOf z) name w) x
+
+  -- the halves of the heads
+  halves-whole : z .heads * z .«head_dim» ≡ z .hidden → z .«head_dim» % 2 ≡ 0 → z .heads * (z .«head_dim» / 2 + z .«head_dim» / 2) ≡ z .hidden
+  halves-whole w e = let h : z .«head_dim» / 2 + z .«head_dim» / 2 ≡ z .«head_dim» = omega arith in ap (λ (k : ℕ). z .heads * k) h ∙ w
+
+  length-rotated : z .heads * (z .«head_dim» / 2 + z .«head_dim» / 2) ≡ z .hidden → (cos sin x : List Float) → length (rotated z cos sin x) ≡ nOf z
+  unfolding rotated
+  length-rotated e cos sin x = length-rotate (z .tokens) (z .heads) (z .«head_dim» / 2) (z .«grid_w») (z .side) cos sin x ∙ ap (λ (k : ℕ). z .tokens * k) e
+
+  length-mixed : z .heads * z .«head_dim» ≡ z .hidden → (q k v : List Float) → length (mixed z q k v) ≡ nOf z
+  unfolding mixed
+  length-mixed e q k v = length-attention (z .tokens) (z .heads) (z .«head_dim») (z .scaling) q k v ∙ ap (λ (k : ℕ). z .tokens * k) e
+
+-- ---- each step by the name of its weights
+
+module _ (z : Sizes) (w : List Float) {s t : List Float} {ok r : Bool} where
+  normed-wrote : (name : String) (at : ℕ) → placeIn (partsOf z) name ≡ at → floatsIn (partsOf z) name ≡ z .hidden → at + z .hidden ≤ length w
+      → z .hidden ≤ 2048 → nOf z + nOf z ≤ length s → NormTried (region w at (z .hidden)) 0 (nOf z) (z .tokens) (z .hidden) s t ok r → Wrote s t (nOf z) (normed z name w (hAt z s)) ok r
+  unfolding normed
+  normed-wrote name at e f h small k T =
+      rw (stands (partsOf z) name w at (z .hidden) e f) at
+      (norm-wrote (region w at (z .hidden)) 0 (nOf z) (z .tokens) (z .hidden)
+      (record { small = small; xin = omega arith; yin = k; win = length-region w at (z .hidden) h; apart = before (omega arith) }) T)
+
+  square-wrote : (name : String) (x y at : ℕ) → placeIn (partsOf z) name ≡ at → floatsIn (partsOf z) name ≡ z .hidden * z .hidden
+      → LinearAt (length s) (length w) x y (z .tokens) (z .hidden) (z .hidden) at → LinearTried w x y (z .tokens) (z .hidden) (z .hidden) at s t ok r
+      → Wrote s t y (squareOf z name w (region s x (nOf z))) ok r
+  unfolding squareOf
+  square-wrote name x y at e f g T = rw (stands (partsOf z) name w at (z .hidden * z .hidden) e f) at (linear-wrote w x y (z .tokens) (z .hidden) (z .hidden) at g T)
+
+  inner-wrote : (name : String) (x y at : ℕ) → placeIn (partsOf z) name ≡ at → floatsIn (partsOf z) name ≡ z .inter * z .hidden
+      → LinearAt (length s) (length w) x y (z .tokens) (z .hidden) (z .inter) at → LinearTried w x y (z .tokens) (z .hidden) (z .inter) at s t ok r
+      → Wrote s t y (innerOf z name w (region s x (nOf z))) ok r
+  unfolding innerOf
+  inner-wrote name x y at e f g T = rw (stands (partsOf z) name w at (z .inter * z .hidden) e f) at (linear-wrote w x y (z .tokens) (z .hidden) (z .inter) at g T)
+
+  outer-wrote : (name : String) (x y at : ℕ) → placeIn (partsOf z) name ≡ at → floatsIn (partsOf z) name ≡ z .hidden * z .inter
+      → LinearAt (length s) (length w) x y (z .tokens) (z .inter) (z .hidden) at → LinearTried w x y (z .tokens) (z .inter) (z .hidden) at s t ok r
+      → Wrote s t y (outerOf z name w (region s x (mOf z))) ok r
+  unfolding outerOf
+  outer-wrote name x y at e f g T = rw (stands (partsOf z) name w at (z .hidden * z .inter) e f) at (linear-wrote w x y (z .tokens) (z .inter) (z .hidden) at g T)
+
+-- ---- the rotation
+
+rotate-at : (z : Sizes) {len lenc lenn : ℕ} (x : ℕ) → RotationFits z len lenc lenn → x + nOf z ≤ len
+    → RotateFits len lenc lenn x (z .tokens) (z .heads) (z .«head_dim» / 2) (z .«grid_w») (z .side)
+rotate-at z x f xIn =
+    let half = z .«head_dim» / 2 in
+    let h : half + half ≡ z .«head_dim» = omega (arith, f .even) in
+    let e = halves-whole z (f .whole) (f .even) in
+    let n : z .tokens * (z .heads * (half + half)) ≡ nOf z = ap (λ (k : ℕ). z .tokens * k) e in
+    let t : z .side * z .side * z .«head_dim» ≡ z .side * z .side * (half + half) = ap (λ (k : ℕ). z .side * z .side * k) (sym h) in
+    record {
+      narrow = omega (arith, f .narrow, h);
+      tables = f .tables;
+      dimin = omega (arith, f .dimIn, e);
+      xin = omega (arith, xIn, n);
+      some = f .some;
+      wide = f .wide;
+      high = f .high;
+      cin = f .cosines ∙ t;
+      sin′ = f .sines ∙ t;
+    }
+
+rotated-wrote : (z : Sizes) (cos sin : List Float) {s t : List Float} {ok r : Bool} (x : ℕ) → RotationFits z (length s) (length cos) (length sin) → x + nOf z ≤ length s
+    → RotateTried cos sin x (z .tokens) (z .heads) (z .«head_dim» / 2) (z .«grid_w») (z .side) s t ok r → Wrote s t x (rotated z cos sin (region s x (nOf z))) ok r
+unfolding rotated
+rotated-wrote z cos sin x f xIn T =
+    rw (halves-whole z (f .whole) (f .even)) at (rotate-wrote cos sin x (z .tokens) (z .heads) (z .«head_dim» / 2) (z .«grid_w») (z .side) (rotate-at z x f xIn) T)
+
+-- ---- the attention
+
+-- what is said of the call: s before it, t behind it
+abbrev pub Attend : Sizes → ℕ → List Float → List Float → Bool → Type 0
+Attend z row s t r =
+    let n = nOf z in
+    let d = z .heads * z .«head_dim» in
+    let N = z .tokens * d in
+    let fits = attendFits (length s) (2 * n) (3 * n) (4 * n) n row (5 * n) (z .tokens) (z .heads) (z .«head_dim») in
+    (r ≡ (fits && allFinite (scoresOf (z .tokens) (z .heads) (z .«head_dim») (z .scaling) (region s (2 * n) N) (region s (3 * n) N))))
+    × (t ≡ cond fits (put (blank zero32 row (z .tokens) (put s n (turnedKeys (z .tokens) d (region s (3 * n) N)))) (5 * n)
+    (attentionOf (z .tokens) (z .heads) (z .«head_dim») (z .scaling) (region s (2 * n) N) (region s (3 * n) N) (region s (4 * n) N))) s)
+
+attend-at : (z : Sizes) {len lenw row : ℕ} → BlockFits z len lenw → ScoreRow z len row
+    → KeysFit len (2 * nOf z) (3 * nOf z) (4 * nOf z) (nOf z) row (5 * nOf z) (z .tokens) (z .heads) (z .«head_dim»)
+attend-at z f r =
+    let g = f .scratch in let b = r .behind in let i = r .inside in
+    let e : z .tokens * (z .heads * z .«head_dim») ≡ nOf z = ap (λ (k : ℕ). z .tokens * k) (f .whole) in
+    record {
+      turned = record {
+        qIn = omega arith;
+        kIn = omega arith;
+        vIn = omega arith;
+        rowIn = omega arith;
+        outIn = omega arith;
+        dimIn = omega (arith, f .dimIn, f .whole);
+        qrow = before (omega arith);
+        krow = before (omega arith);
+        vrow = before (omega arith);
+        outrow = before (omega arith);
+        qout = before (omega arith);
+        kout = before (omega arith);
+        vout = before (omega arith);
+      };
+      turn = record { kIn = omega arith; ktIn = omega arith; apart = after (omega arith) };
+      qkt = after (omega arith);
+      vkt = after (omega arith);
+    }
+
+-- what it leaves of what lives on
+record Attended (z : Sizes) (s t : List Float) (r : Bool) : Type 0 where
+  finite-is : r ≡ allFinite (scored z (region s (2 * nOf z) (nOf z)) (region s (3 * nOf z) (nOf z)))
+  sums : region t (5 * nOf z) (nOf z) ≡ mixed z (region s (2 * nOf z) (nOf z)) (region s (3 * nOf z) (nOf z)) (region s (4 * nOf z) (nOf z))
+  h-is : hAt z t ≡ hAt z s
+  same : length t ≡ length s
+
+attended : (z : Sizes) (s : List Float) (lenw row : ℕ) {t : List Float} {r : Bool} → BlockFits z (length s) lenw → ScoreRow z (length s) row → Attend z row s t r → Attended z s t r
+unfolding scored mixed
+attended z s lenw row {t} f sc T =
+    let n = nOf z in
+    let fits = attend-fits (attend-at z f sc) in
+    let q = region s (2 * n) n in
+    let k = region s (3 * n) n in
+    let v = region s (4 * n) n in
+    let a = mixed z q k v in
+    let kt = turnedKeys (z .tokens) (z .hidden) k in
+    let b = blank zero32 row (z .tokens) (put s n kt) in
+    let e : t ≡ put b (5 * n) a = rw (fits, f .whole) at (T .1) in
+    let l = length-mixed z (f .whole) q k v in
+    let i : length b ≡ length s = length-put (put s n kt) row (tab (z .tokens) (λ _. zero32)) ∙ length-put s n kt in
+    record {
+      finite-is = rw (fits, f .whole) at (T .0);
+      sums = ap (λ u. region u (5 * n) n) e ∙ region-put-same b (5 * n) a n (sym l) (rw (l, i) (omega arith));
+      h-is =
+          ap (λ u. region u 0 n) e ∙ region-put b (5 * n) a 0 n (rw l (before (omega arith))) ∙ blank-region zero32 row (z .tokens) (put s n kt) 0 n (before (omega arith))
+          ∙ region-put s n kt 0 n (rw (length-turned (z .tokens) (z .hidden) k) (before (omega arith)));
+      same = ap length e ∙ length-put b (5 * n) a ∙ i;
+    }
+
+-- ---- the halves: s₁, s₂, .. are what the steps leave, one after another
+
+module _ (z : Sizes) (w s : List Float) (f : BlockFits z (length s) (length w)) where
+  abbrev d : ℕ
+  d = z .hidden
+
+  abbrev n : ℕ
+  n = nOf z
+
+  abbrev m : ℕ
+  m = mOf z
+
+  pub attn-half : (cos sin : List Float) (row : ℕ) → RotationFits z (length s) (length cos) (length sin) → ScoreRow z (length s) row
+      → (s₁ s₂ s₃ s₄ s₅ s₆ s₇ s₈ s₉ : List Float) (r₁ r₂ r₃ r₄ r₅ r₆ r₇ i r₈ r₉ : Bool)
+      → NormTried (region w 0 d) 0 n (z .tokens) d s s₁ true r₁
+      → LinearTried w n (2 * n) (z .tokens) d d d s₁ s₂ r₁ r₂
+      → LinearTried w n (3 * n) (z .tokens) d d (d + d * d) s₂ s₃ r₂ r₃
+      → LinearTried w n (4 * n) (z .tokens) d d (d + d * d + d * d) s₃ s₄ r₃ r₄
+      → RotateTried cos sin (2 * n) (z .tokens) (z .heads) (z .«head_dim» / 2) (z .«grid_w») (z .side) s₄ s₅ r₄ r₅
+      → RotateTried cos sin (3 * n) (z .tokens) (z .heads) (z .«head_dim» / 2) (z .«grid_w») (z .side) s₅ s₆ r₅ r₆
+      → Attend z row s₆ s₇ r₇
+      → i ≡ allFinite (region s₇ (5 * n) n)
+      → LinearTried w (5 * n) (6 * n) (z .tokens) d d (d + d * d + d * d + d * d) s₇ s₈ ((r₆ && r₇) && i) r₈
+      → AddTried 0 (6 * n) n s₈ s₉ r₈ r₉
+      → answer r₉ (hAt z s₉) ≡ attnRun z w cos sin (hAt z s)
+  unfolding stagesFinite attnRun
+  attn-half cos sin row ro sc s₁ s₂ s₃ s₄ s₅ s₆ s₇ s₈ s₉ r₁ r₂ r₃ r₄ r₅ r₆ r₇ i r₈ r₉ t₁ t₂ t₃ t₄ t₅ t₆ t₇ e t₈ t₉ =
+      let g = f .scratch in
+      let b = f .weights in
+      let half = halves-whole z (ro .whole) (ro .even) in
+      let w₁ = normed-wrote z w "attention_norm" 0 (omega arith) (omega arith) (omega arith) (f .small) (omega arith) t₁ in
+      let l₁ = length-normed z "attention_norm" w (hAt z s) in
+      let k₁ : length s₁ ≡ length s = long w₁ n l₁ in
+      let w₂ = square-wrote z w "q" n (2 * n) d (omega arith) (omega arith) (record { xIn = omega arith; yIn = omega arith; wIn = omega arith; apart = before (omega arith) }) t₂ in
+      let l₂ = length-square z "q" w (region s₁ n n) in
+      let k₂ : length s₂ ≡ length s = long w₂ n l₂ ∙ k₁ in
+      let w₃ = square-wrote z w "k" n (3 * n) (d + d * d) (omega arith) (omega arith) (record { xIn = omega arith; yIn = omega arith; wIn = omega arith; apart = before (omega arith) }) t₃ in
+      let l₃ = length-square z "k" w (region s₂ n n) in
+      let k₃ : length s₃ ≡ length s = long w₃ n l₃ ∙ k₂ in
+      let w₄ = square-wrote z w "v" n (4 * n) (d + d * d + d * d) (omega arith) (omega arith) (record { xIn = omega arith; yIn = omega arith; wIn = omega arith; apart = before (omega arith) }) t₄ in
+      let l₄ = length-square z "v" w (region s₃ n n) in
+      let k₄ : length s₄ ≡ length s = long w₄ n l₄ ∙ k₃ in
+      let w₅ = rotated-wrote z cos sin (2 * n) (rw k₄ ro) (omega arith) t₅ in
+      let l₅ = length-rotated z half cos sin (region s₄ (2 * n) n) in
+      let k₅ : length s₅ ≡ length s = long w₅ n l₅ ∙ k₄ in
+      let w₆ = rotated-wrote z cos sin (3 * n) (rw k₅ ro) (omega arith) t₆ in
+      let l₆ = length-rotated z half cos sin (region s₅ (3 * n) n) in
+      let k₆ : length s₆ ≡ length s = long w₆ n l₆ ∙ k₅ in
+      let w₇ = attended z s₆ (length w) row (rw k₆ f) (rw k₆ sc) t₇ in
+      let k₇ : length s₇ ≡ length s = w₇ .same ∙ k₆ in
+      let w₈ = square-wrote z w "o" (5 * n) (6 * n) (d + d * d + d * d + d * d) (omega arith) (omega arith) (record { xIn = omega arith; yIn = omega arith; wIn = omega arith; apart = before (omega arith) }) t₈ in
+      let l₈ = length-square z "o" w (region s₇ (5 * n) n) in
+      let k₈ : length s₈ ≡ length s = long w₈ n l₈ ∙ k₇ in
+      let w₉ = add-wrote 0 (6 * n) n (record { yin = omega arith; zin = omega arith; apart = after (omega arith) }) t₉ in
+      let x₁ : region s₁ n n ≡ normed z "attention_norm" w (hAt z s) = got w₁ n l₁ (omega arith) in
+      let x₂ : region s₂ n n ≡ region s₁ n n = left w₂ n l₂ n n (before (omega arith)) in
+      let x₃ : region s₃ n n ≡ region s₂ n n = left w₃ n l₃ n n (before (omega arith)) in
+      let q₄ : region s₄ (2 * n) n ≡ squareOf z "q" w (region s₁ n n) = left w₄ n l₄ (2 * n) n (before (omega arith)) ∙ left w₃ n l₃ (2 * n) n (before (omega arith)) ∙ got w₂ n l₂ (omega arith) in
+      let p₅ : region s₅ (3 * n) n ≡ squareOf z "k" w (region s₂ n n) = left w₅ n l₅ (3 * n) n (after (omega arith)) ∙ left w₄ n l₄ (3 * n) n (before (omega arith)) ∙ got w₃ n l₃ (omega arith) in
+      let v₆ : region s₆ (4 * n) n ≡ squareOf z "v" w (region s₃ n n) = left w₆ n l₆ (4 * n) n (after (omega arith)) ∙ left w₅ n l₅ (4 * n) n (after (omega arith)) ∙ got w₄ n l₄ (omega arith) in
+      let q₆ : region s₆ (2 * n) n ≡ rotated z cos sin (region s₄ (2 * n) n) = left w₆ n l₆ (2 * n) n (before (omega arith)) ∙ got w₅ n l₅ (omega arith) in
+      let p₆ : region s₆ (3 * n) n ≡ rotated z cos sin (region s₅ (3 * n) n) = got w₆ n l₆ (omega arith) in
+      let o₈ : region s₈ (6 * n) n ≡ squareOf z "o" w (region s₇ (5 * n) n) = got w₈ n l₈ (omega arith) in
+      let h₆ : hAt z s₆ ≡ hAt z s =
+      left w₆ n l₆ 0 n (before (omega arith)) ∙ left w₅ n l₅ 0 n (before (omega arith)) ∙ left w₄ n l₄ 0 n (before (omega arith)) ∙ left w₃ n l₃ 0 n (before (omega arith))
+      ∙ left w₂ n l₂ 0 n (before (omega arith)) ∙ left w₁ n l₁ 0 n (before (omega arith)) in
+      let h₈ : hAt z s₈ ≡ hAt z s = left w₈ n l₈ 0 n (before (omega arith)) ∙ w₇ .h-is ∙ h₆ in
+      let h₉ : hAt z s₉ ≡ added n (hAt z s₈) (region s₈ (6 * n) n) = got w₉ n (length-added n (hAt z s₈) (region s₈ (6 * n) n)) (omega arith) in
+      rw (h₉, w₉ .finite-is, h₈, o₈, w₈ .finite-is, e, w₇ .sums, w₇ .finite-is, q₆, p₆, v₆, w₆ .finite-is, w₅ .finite-is, p₅, q₄, w₄ .finite-is, w₃ .finite-is, w₂ .finite-is, x₃, x₂, x₁, w₁ .finite-is)
+
+  pub feed-half : (s₁ s₂ s₃ s₄ s₅ s₆ s₇ : List Float) (r₁ r₂ r₃ r₄ r₅ r₆ r₇ : Bool)
+      → NormTried (region w (d + 4 * (d * d)) d) 0 n (z .tokens) d s s₁ true r₁
+      → LinearTried w n (7 * n) (z .tokens) d (z .inter) (d + 4 * (d * d) + d) s₁ s₂ r₁ r₂
+      → LinearTried w n (7 * n + m) (z .tokens) d (z .inter) (d + 4 * (d * d) + d + z .inter * d) s₂ s₃ r₂ r₃
+      → GateTried (7 * n) (7 * n + m) m s₃ s₄ r₃ r₄
+      → LinearTried w (7 * n) (6 * n) (z .tokens) (z .inter) d (d + 4 * (d * d) + d + z .inter * d + z .inter * d) s₄ s₅ r₄ r₅
+      → AddTried 0 (6 * n) n s₅ s₆ r₅ r₆
+      → RoundTried 0 n s₆ s₇ r₆ r₇
+      → answer r₇ (hAt z s₇) ≡ feedRun z w (hAt z s)
+  unfolding stagesFinite feedRun
+  feed-half s₁ s₂ s₃ s₄ s₅ s₆ s₇ r₁ r₂ r₃ r₄ r₅ r₆ r₇ t₁ t₂ t₃ t₄ t₅ t₆ t₇ =
+      let g = f .scratch in
+      let b = f .weights in
+      let at = d + 4 * (d * d) + d in
+      let w₁ = normed-wrote z w "ffn_norm" (d + 4 * (d * d)) (omega arith) (omega arith) (omega arith) (f .small) (omega arith) t₁ in
+      let l₁ = length-normed z "ffn_norm" w (hAt z s) in
+      let k₁ : length s₁ ≡ length s = long w₁ n l₁ in
+      let w₂ = inner-wrote z w "gate" n (7 * n) at (omega arith) (omega arith) (record { xIn = omega arith; yIn = omega arith; wIn = omega arith; apart = before (omega arith) }) t₂ in
+      let l₂ = length-inner z "gate" w (region s₁ n n) in
+      let k₂ : length s₂ ≡ length s = long w₂ m l₂ ∙ k₁ in
+      let w₃ = inner-wrote z w "up" n (7 * n + m) (at + z .inter * d) (omega arith) (omega arith) (record { xIn = omega arith; yIn = omega arith; wIn = omega arith; apart = before (omega arith) }) t₃ in
+      let l₃ = length-inner z "up" w (region s₂ n n) in
+      let k₃ : length s₃ ≡ length s = long w₃ m l₃ ∙ k₂ in
+      let w₄ = gate-wrote (7 * n) (7 * n + m) m (record { yin = omega arith; zin = omega arith; apart = after (omega arith) }) t₄ in
+      let l₄ = length-gated m (region s₃ (7 * n) m) (region s₃ (7 * n + m) m) in
+      let k₄ : length s₄ ≡ length s = long w₄ m l₄ ∙ k₃ in
+      let w₅ = outer-wrote z w "down" (7 * n) (6 * n) (at + z .inter * d + z .inter * d) (omega arith) (omega arith) (record { xIn = omega arith; yIn = omega arith; wIn = omega arith; apart = after (omega arith) }) t₅ in
+      let l₅ = length-outer z "down" w (region s₄ (7 * n) m) in
+      let k₅ : length s₅ ≡ length s = long w₅ n l₅ ∙ k₄ in
+      let w₆ = add-wrote 0 (6 * n) n (record { yin = omega arith; zin = omega arith; apart = after (omega arith) }) t₆ in
+      let l₆ = length-added n (hAt z s₅) (region s₅ (6 * n) n) in
+      let k₆ : length s₆ ≡ length s = long w₆ n l₆ ∙ k₅ in
+      let w₇ = round-wrote 0 n (omega arith) t₇ in
+      let x₁ : region s₁ n n ≡ normed z "ffn_norm" w (hAt z s) = got w₁ n l₁ (omega arith) in
+      let x₂ : region s₂ n n ≡ region s₁ n n = left w₂ m l₂ n n (before (omega arith)) in
+      let g₃ : region s₃ (7 * n) m ≡ innerOf z "gate" w (region s₁ n n) = left w₃ m l₃ (7 * n) m (before (omega arith)) ∙ got w₂ m l₂ (omega arith) in
+      let u₃ : region s₃ (7 * n + m) m ≡ innerOf z "up" w (region s₂ n n) = got w₃ m l₃ (omega arith) in
+      let a₄ : region s₄ (7 * n) m ≡ gated m (region s₃ (7 * n) m) (region s₃ (7 * n + m) m) = got w₄ m l₄ (omega arith) in
+      let o₅ : region s₅ (6 * n) n ≡ outerOf z "down" w (region s₄ (7 * n) m) = got w₅ n l₅ (omega arith) in
+      let h₅ : hAt z s₅ ≡ hAt z s =
+      left w₅ n l₅ 0 n (before (omega arith)) ∙ left w₄ m l₄ 0 n (before (omega arith)) ∙ left w₃ m l₃ 0 n (before (omega arith)) ∙ left w₂ m l₂ 0 n (before (omega arith)) ∙ left w₁ n l₁ 0 n (before (omega arith)) in
+      let h₆ : hAt z s₆ ≡ added n (hAt z s₅) (region s₅ (6 * n) n) = got w₆ n l₆ (omega arith) in
+      let h₇ : hAt z s₇ ≡ rounded n (hAt z s₆) = got w₇ n (length-rounded n (hAt z s₆)) (omega arith) in
+      rw (h₇, w₇ .finite-is, h₆, w₆ .finite-is, h₅, o₅, w₅ .finite-is, a₄, w₄ .finite-is, g₃, u₃, w₃ .finite-is, w₂ .finite-is, x₂, x₁, w₁ .finite-is)
