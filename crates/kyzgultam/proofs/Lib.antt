@@ -1,4 +1,3 @@
-pub mod Examples
 pub mod Part
 pub mod Unique
 pub mod Log
