@@ -15,11 +15,20 @@ fn pair(f: impl Fn(usize) -> f64) -> Pair {
 /// What the forwards of a square grid took.
 struct Grid {
     side: usize,
+    s: Settings,
     whole: Pair,
     /// With no layer.
     bare: Pair,
     /// With a feed-forward that is one place wide.
     thin: Pair,
+}
+
+fn bare(s: Settings) -> Settings {
+    Settings { num_layers: 0, ..s }
+}
+
+fn thin(s: Settings) -> Settings {
+    Settings { intermediate_size: 1, ..s }
 }
 
 impl Grid {
@@ -30,6 +39,20 @@ impl Grid {
     /// What the layers take but for their feed-forward.
     fn attention(&self) -> Pair {
         pair(|k| self.thin[k] - self.bare[k])
+    }
+
+    /// The products in the linear layers of a forward of this grid: a token's, and a merged token's.
+    fn linear(&self, s: Settings) -> f64 {
+        let (h, x, merged) = (s.hidden_size, s.text_hidden_size, s.spatial_merge_size * s.spatial_merge_size);
+        let layers = s.num_layers * (4 * h * h + 3 * h * s.intermediate_size);
+        let token = 3 * s.patch_size * s.patch_size * h + layers;
+        let projected = merged * h * h + h * x + x * x;
+        self.tokens() * (token as f64 + projected as f64 / merged as f64)
+    }
+
+    /// The products in its scores and weighted sums: each token with each.
+    fn squared(&self) -> f64 {
+        2.0 * self.tokens() * self.tokens() * (self.s.num_layers * self.s.hidden_size) as f64
     }
 }
 
@@ -62,9 +85,9 @@ fn fastest(s: Settings, side: usize, rounds: usize) -> Result<Pair, String> {
     Ok(best)
 }
 
-/// The seconds of each, with a note on each, and how many of the port's go into the Rust's.
-fn line(name: &str, time: Pair, note: impl Fn(usize) -> String) {
-    let [ours, other] = [0, 1].map(|k| format!("{:10.3}{:>10}", time[k], note(k)));
+/// The seconds of each, with notes on each, and how many of the port's go into the Rust's.
+fn line(name: &str, time: Pair, notes: impl Fn(usize) -> String) {
+    let [ours, other] = [0, 1].map(|k| format!("{:10.3}{}", time[k], notes(k)));
     let ratio = match time.iter().all(|seconds| *seconds > 0.0) {
         true => format!("{:.2} times as fast", time[1] / time[0]),
         false => "lost in the noise".into(),
@@ -72,19 +95,18 @@ fn line(name: &str, time: Pair, note: impl Fn(usize) -> String) {
     println!("{name:28}{ours}{other}   {ratio}");
 }
 
-fn head(name: &str, note: &str) {
-    let text = format!("{name:28}{:>10}{note:>10}{:>10}{note:>10}", "ours", "the Rust");
-    println!("{}", text.trim_end());
+fn head(name: &str, notes: &str) {
+    println!("{}", format!("{name:28}{:>10}{notes}{:>10}{notes}", "ours", "the Rust").trim_end());
 }
 
 /// The forwards of one grid; the line of the whole one is printed as soon as it is known.
-fn grid(side: usize, rounds: usize) -> Result<Grid, String> {
-    let s = real(side);
+fn grid(layers: usize, side: usize, rounds: usize) -> Result<Grid, String> {
+    let s = Settings { num_layers: layers, ..real(side) };
     let whole = fastest(s, side, rounds)?;
     line(&format!("forward {side}x{side}"), whole, |_| String::new());
-    let bare = fastest(Settings { num_layers: 0, ..s }, side, rounds)?;
-    let thin = fastest(Settings { intermediate_size: 1, ..s }, side, rounds)?;
-    Ok(Grid { side, whole, bare, thin })
+    let bare = fastest(bare(s), side, rounds)?;
+    let thin = fastest(thin(s), side, rounds)?;
+    Ok(Grid { side, s, whole, bare, thin })
 }
 
 /// What grows with the square of the tokens: b·t² of the curve c + a·t + b·t² through the attention of two small grids
@@ -99,29 +121,35 @@ fn squared(small: &[Grid], g: &Grid) -> Pair {
     })
 }
 
-/// The parts of a whole forward, and what share of it each is; the attention is parted where its square is known.
+/// The parts of a whole forward, what share of it each is, and how many billions of products it makes a second; the
+/// attention is parted where its square is known.
 fn shares(g: &Grid, squared: Option<Pair>) {
     println!();
-    head(&format!("stages of {0}x{0}", g.side), "share");
-    let mut parts = vec![("patch projection, projector", g.bare)];
+    head(&format!("stages of {0}x{0}", g.side), &format!("{:>9}{:>7}", "share", "G/s"));
+    let [whole, thin, bare] = [g.s, thin(g.s), bare(g.s)].map(|s| g.linear(s));
+    let mut parts = vec![("patch projection, projector", g.bare, bare)];
     match squared {
         Some(squared) => parts.extend([
-            ("norms, q, k, v, rotation, o", pair(|k| g.attention()[k] - squared[k])),
-            ("scores, softmax, sums", squared),
+            ("norms, q, k, v, rotation, o", pair(|k| g.attention()[k] - squared[k]), thin - bare),
+            ("scores, softmax, sums", squared, g.squared()),
         ]),
-        None => parts.push(("attention", g.attention())),
+        None => parts.push(("attention", g.attention(), thin - bare + g.squared())),
     }
-    parts.push(("gate, up, silu, down", pair(|k| g.whole[k] - g.thin[k])));
-    for (name, time) in parts {
-        line(name, time, |k| format!("{:.1} %", 100.0 * time[k] / g.whole[k]));
+    parts.push(("gate, up, silu, down", pair(|k| g.whole[k] - g.thin[k]), whole - thin));
+    for (name, time, products) in parts {
+        line(name, time, |k| {
+            let share = format!("{:.1} %", 100.0 * time[k] / g.whole[k]);
+            let rate = if time[k] > 0.0 { format!("{:.2}", products / 1e9 / time[k]) } else { "-".into() };
+            format!("{share:>9}{rate:>7}")
+        });
     }
 }
 
 fn growth(grids: &[Grid]) {
     println!();
-    head("growth", "a token");
+    head("growth", &format!("{:>11}", "a token"));
     for g in grids {
-        line(&format!("{} tokens", g.tokens()), g.whole, |k| format!("{:.2} ms", 1e3 * g.whole[k] / g.tokens()));
+        line(&format!("{} tokens", g.tokens()), g.whole, |k| format!("{:>8.2} ms", 1e3 * g.whole[k] / g.tokens()));
     }
     let (first, last) = (&grids[0], &grids[grids.len() - 1]);
     let [ours, other] = pair(|k| last.whole[k] / first.whole[k]);
@@ -129,52 +157,51 @@ fn growth(grids: &[Grid]) {
     println!("{times:.0} times the tokens take ours {ours:.1} and the Rust {other:.1} times as long");
 }
 
-fn print_settings() {
+fn print_settings(layers: usize) {
     let s = real(1);
     println!(
         "hidden {}, {} heads, intermediate {}, {} layers, patch {}, merge {}, text {}; \
          the Rust on one thread, with E and T",
-        s.hidden_size,
-        s.num_heads,
-        s.intermediate_size,
-        s.num_layers,
-        s.patch_size,
-        s.spatial_merge_size,
-        s.text_hidden_size
+        s.hidden_size, s.num_heads, s.intermediate_size, layers, s.patch_size, s.spatial_merge_size, s.text_hidden_size
     );
 }
 
-/// Sides of grids, and how often each forward runs.
-const PLAN: [(usize, usize); 4] = [(4, 5), (8, 5), (16, 3), (32, 2)];
+/// How many layers, and how often each forward runs: of a grid of four tokens, of which the whole alone is timed, and of
+/// grids by their sides, the first two of which are 4x4 and 8x8.
+pub struct Plan {
+    layers: usize,
+    few: usize,
+    grids: &'static [(usize, usize)],
+}
 
-/// A grid of four tokens, whose whole forward alone is timed.
-const FEW: (usize, usize) = (2, 5);
+pub const PLAN: Plan = Plan { layers: 2, few: 5, grids: &[(4, 5), (8, 5), (16, 3), (32, 2)] };
+pub const QUICK: Plan = Plan { layers: 2, few: 2, grids: &[(4, 2), (8, 2)] };
+pub const LARGE: Plan = Plan { layers: 1, few: 5, grids: &[(4, 5), (8, 5), (64, 1)] };
 
-/// All grids, or the small ones alone, each twice.
-fn all(quick: bool) -> Result<(), String> {
-    let plan = if quick { &PLAN[..2] } else { &PLAN };
-    print_settings();
+fn all(plan: &Plan) -> Result<(), String> {
+    print_settings(plan.layers);
     head("processor seconds", "");
-    let few = fastest(real(FEW.0), FEW.0, if quick { 2 } else { FEW.1 })?;
-    line(&format!("forward {0}x{0}", FEW.0), few, |_| String::new());
-    let run = |(side, rounds): &(usize, usize)| grid(*side, if quick { 2 } else { *rounds });
-    let grids = plan.iter().map(run).collect::<Result<Vec<_>, _>>()?;
+    let few = fastest(Settings { num_layers: plan.layers, ..real(2) }, 2, plan.few)?;
+    line("forward 2x2", few, |_| String::new());
+    let run = |(side, rounds): &(usize, usize)| grid(plan.layers, *side, *rounds);
+    let grids = plan.grids.iter().map(run).collect::<Result<Vec<_>, _>>()?;
     let (small, large) = grids.split_at(2);
     small.iter().for_each(|g| shares(g, None));
     large.iter().for_each(|g| shares(g, Some(squared(small, g))));
     println!(
         "found by whole forwards: patch projection and projector with 0 layers; gate, up, silu and down by what an \
          intermediate size of 1 saves; scores, softmax and sums as b·t² of c + a·t + b·t² through the rest at 16, 64 \
-         and t tokens"
+         and t tokens; G/s: billions of products a second, those of the linear layers, the scores and the sums, \
+         counted from the sizes"
     );
-    growth(if quick { small } else { &grids[1..] });
+    growth(if large.is_empty() { small } else { &grids[1..] });
     println!("every answer has the Rust's bits");
     Ok(())
 }
 
 /// Whether every answer is the Rust's.
-pub fn run(quick: bool) -> bool {
-    let done = all(quick);
+pub fn run(plan: &Plan) -> bool {
+    let done = all(plan);
     if let Err(words) = &done {
         println!("encoder: {words}");
     }

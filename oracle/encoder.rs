@@ -7,7 +7,8 @@
 //! with others, between which forward and lengths make no difference.
 //!
 //!     encoder            edges, a call for each stage (stages.rs), and random calls with a fixed seed
-//!     encoder --bench    times ours and the Rust, on one thread (bench.rs); with --quick, on small grids alone
+//!     encoder --bench    times ours and the Rust, on one thread (bench.rs); with --quick, on
+//!                        small grids alone, with --large, on these and 64x64, with one layer
 //!     encoder --sample   prints the Rust's answers as crates/encoder_replay/stdin holds them
 
 use std::collections::{BTreeMap, BTreeSet};
@@ -1073,11 +1074,12 @@ fn main() {
     let words: Vec<&str> = words.iter().map(String::as_str).collect();
     let same = match words[..] {
         [] => edges_and_random(),
-        ["--bench"] => bench::run(false),
-        ["--bench", "--quick"] => bench::run(true),
+        ["--bench"] => bench::run(&bench::PLAN),
+        ["--bench", "--quick"] => bench::run(&bench::QUICK),
+        ["--bench", "--large"] => bench::run(&bench::LARGE),
         ["--sample"] => sample().is_ok(),
         _ => {
-            eprintln!("usage: encoder [--bench [--quick] | --sample]");
+            eprintln!("usage: encoder [--bench [--quick | --large] | --sample]");
             std::process::exit(2);
         }
     };

@@ -99,6 +99,10 @@ fn usage() {
         ("bench now", "no files"),
         ("bench --quick --size 8x8", "--quick goes with no other option"),
         ("bench --quick=yes", "no option --quick=yes"),
+        ("bench --large --size 8x8", "--large goes with no other option"),
+        ("bench --large --quick", "give one"),
+        ("bench --large=yes", "no option --large=yes"),
+        ("demo --large", "no option --large"),
         ("demo --quick", "no option --quick"),
         ("demo now", "no files"),
         ("demo --settings patch=1", "no option --settings"),
@@ -582,7 +586,7 @@ fn bench_beside_the_rust() {
     if errors.contains(skipped) {
         eprint!("bench_beside_the_rust: {errors}");
     } else {
-        let parts = ["preprocess 1540x1540", "restore 1540x1540", "forward 4x4", "times as fast"];
+        let parts = ["preprocess 1540x1540", "restore 1540x1540", "forward 4x4", "times as fast", "G/s"];
         for part in parts.into_iter().chain(["stages of 8x8", "share", "growth", "every answer has the Rust's bits"]) {
             assert!(said.contains(part), "{part:?} is not in {said}");
         }

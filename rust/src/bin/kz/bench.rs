@@ -12,21 +12,21 @@ use std::process::Command;
 use std::time::{Duration, Instant};
 
 pub const HELP: &str = "\
-kz bench [--quick]
+kz bench [--quick | --large]
 kz bench [--size HxW] [--weights FILE] [--tables FILE] [--settings LIST]
 
 The first form runs the Rust (on one thread, with E and T) and the port on
 the same inputs in the same run: preprocess, restore, and forward of a model
 of real width at grids from 4x4 to 32x32. It prints times, ratios, each stage's
-share, and how the time grows from 64 to 1024 tokens; one bit that differs ends
-it with status 1. That takes some five minutes; --quick has small grids alone
-and takes one. It is oracle/run of the repository where kz was built, with the
-archives that kz was linked with; the Rust's source is ../shared/docs/src from
-its root, or KZ_RUST_SRC. Behind restore a tile is timed, the first of a sweep
-of 3000x2000, in turn with a picture of the same 1540x1540 pixels, which needs
-no resizing; salvage of 1540x1540, with no sample bad and with every one, in
-turn with restore of the good ones; and bf16 packed and widened, in turn with a
-copy of as many bytes.
+share and products a second, and how the time grows from 64 to 1024 tokens; one
+bit that differs ends it with status 1. That takes some five minutes; --quick
+has small grids alone and takes one, --large has these and 64x64, with one
+layer, and takes ten. It is oracle/run of the repository where kz was built,
+with the archives that kz was linked with; the Rust's source is
+../shared/docs/src from its root, or KZ_RUST_SRC. A tile, the first of a sweep
+of 3000x2000, is timed in turn with a picture of the same 1540x1540 pixels;
+salvage of as many, with no sample bad and with every one, in turn with restore
+of the good ones; and bf16 packed and widened, in turn with a copy.
 
 The second form, and the first where the source or rustc is missing, times
 the port alone on noise, on one core: the best of the runs that fit into half
@@ -34,8 +34,7 @@ a second, at least one. `share` is the part of a sweep's time. Without --size
 three sizes are timed, the largest without forward. The model is as for
 `kz encode`. Then tile, salvage and bf16 are timed as above and, last, restore
 of the largest by three choices of mean and deviation, whatever --settings say:
-the Rust's, 0.2 and 0.25 as for grey ultrasound, and 0.2 and 1e38, by which a
-byte has to be found by halving.
+the Rust's, 0.2 and 0.25, and 0.2 and 1e38, with bytes found by halving.
 ";
 
 const ORACLE: &str = concat!(env!("CARGO_MANIFEST_DIR"), "/../oracle/run");
@@ -51,24 +50,31 @@ pub fn run(given: &Given) -> Result<(), Fail> {
     if !given.files.is_empty() {
         return Err(Fail::usage("bench takes no files"));
     }
-    if given.quick && given.has_options() {
-        return Err(Fail::usage("--quick goes with no other option"));
+    let grids = match (given.quick, given.large) {
+        (false, false) => None,
+        (true, false) => Some("--quick"),
+        (false, true) => Some("--large"),
+        (true, true) => return Err(Fail::usage("--quick has small grids and --large a large one; give one")),
+    };
+    if let (Some(word), true) = (grids, given.has_options()) {
+        return Err(Fail::usage(format!("{word} goes with no other option")));
     }
-    if !given.has_options() && beside_the_rust(given.quick)? {
+    if !given.has_options() && beside_the_rust(grids)? {
         return Ok(());
     }
     alone(given)
 }
 
-/// Times the port and the Rust in turn; false where there is no Rust to time.
-fn beside_the_rust(quick: bool) -> Result<bool, Fail> {
+/// Times the port and the Rust in turn, forward at the grids that a word picks; false where there is no Rust to time.
+fn beside_the_rust(grids: Option<&str>) -> Result<bool, Fail> {
     let Ok(oracle) = fs::canonicalize(ORACLE) else {
         let _ = writeln!(stderr(), "kz: comparison with the Rust skipped: there is no {ORACLE}");
         return Ok(false);
     };
-    let encoder: &[&str] = if quick { &["encoder", "--bench", "--quick"] } else { &["encoder", "--bench"] };
-    for words in [&["picture", "--bench"], encoder] {
-        if words == encoder {
+    for program in ["picture", "encoder"] {
+        let mut words = vec![program, "--bench"];
+        if program == "encoder" {
+            words.extend(grids);
             tiles()?;
             say(format_args!(""));
             salvages()?;
@@ -76,12 +82,12 @@ fn beside_the_rust(quick: bool) -> Result<bool, Fail> {
             packs()?;
             say(format_args!(""));
         }
-        let status = Command::new(&oracle).arg(ARCHIVES).args(words).status();
+        let status = Command::new(&oracle).arg(ARCHIVES).args(&words).status();
         let status = status.map_err(|e| Fail::file(&oracle, format!("cannot be run: {e}; check it out again")))?;
         match status.code() {
             Some(0) => {}
             Some(SKIPPED) => return Ok(false),
-            _ => return Err(Fail::file(&oracle, format!("{} ended with {status}; its own words are above", words[0]))),
+            _ => return Err(Fail::file(&oracle, format!("{program} ended with {status}; its own words are above"))),
         }
     }
     Ok(true)

@@ -8,7 +8,7 @@ use std::os::unix::ffi::OsStrExt;
 use std::path::PathBuf;
 
 /// The options without a value.
-const BARE: [&str; 6] = ["--all", "--bf16", "--force", "--quick", "--skip-existing", "--tiles"];
+const BARE: [&str; 7] = ["--all", "--bf16", "--force", "--large", "--quick", "--skip-existing", "--tiles"];
 
 /// Whether a word is an option, known or not. A single - is a name.
 fn dashed(word: &OsStr) -> bool {
@@ -47,6 +47,7 @@ pub struct Given {
     pub all: bool,
     pub bf16: bool,
     pub force: bool,
+    pub large: bool,
     pub quick: bool,
     pub skip: bool,
     pub tiles: bool,
@@ -66,6 +67,7 @@ impl Given {
                 given.all |= word == "--all";
                 given.bf16 |= word == "--bf16";
                 given.force |= word == "--force";
+                given.large |= word == "--large";
                 given.quick |= word == "--quick";
                 given.skip |= word == "--skip-existing";
                 given.tiles |= word == "--tiles";

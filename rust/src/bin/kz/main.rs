@@ -76,7 +76,7 @@ const COMMANDS: [Command; 7] = [
     ("restore", restore::HELP, &["-o", "--tiles", "--grid", "--settings", "--force"], restore::run),
     ("salvage", salvage::HELP, &["-o", "--map", "--all", "--grid", "--settings", "--force"], salvage::run),
     ("compare", compare::HELP, &["-o", "--settings", "--force"], compare::run),
-    ("bench", bench::HELP, &["--quick", "--size", "--weights", "--tables", "--settings"], bench::run),
+    ("bench", bench::HELP, &["--quick", "--large", "--size", "--weights", "--tables", "--settings"], bench::run),
 ];
 
 /// A line on standard output. That nobody reads it is no reason to stop.
