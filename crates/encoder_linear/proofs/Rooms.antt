@@ -2,13 +2,14 @@
 -- Assumes nothing.
 use mathlib.Core.Bool.{Bool, true, _&&_}
 use mathlib.Core.Path.{_≡_}
-use Prim.Native.Nat.{ℕ, _+_, _*_, _≤_}
+use Prim.Native.Nat.{ℕ, _+_, _*_, _-_, _≤_}
 use native.Mathlib.Omega.{arith}
 use borrow.Author.Tests.{leb-true, le-leb}
 use Rattle.buffers.specs.inner.Room.{inside, aside}
+use Rattle.buffers.proofs.Regions.{apart-sub}
 use Rattle.buffers.proofs.Rooms.{and-parts, two, aside-says, aside-is}
-use Rattle.encoder_linear.specs.inner.Room.{linearFits, fromFits, weighFits}
-use Rattle.encoder_linear.specs.inner.Fits.{LinearFits, FromFits, WeighFits}
+use Rattle.encoder_linear.specs.inner.Room.{linearFits, fromFits, weighFits, pairFits}
+use Rattle.encoder_linear.specs.inner.Fits.{LinearFits, FromFits, WeighFits, PairFits}
 
 module _ {lens lenw x y n nin nout : ℕ} where
   pub linear-says : linearFits lens lenw x y n nin nout ≡ true → LinearFits lens lenw x y n nin nout
@@ -72,3 +73,35 @@ module _ {len row v out t dim hd o : ℕ} where
   weigh-fits f =
       two (two (le-leb (o + hd) dim (f .oIn)) (le-leb (v + t * dim) len (f .vIn)))
       (two (two (le-leb (row + t) len (f .rowIn)) (le-leb (out + hd) len (f .outIn))) (two (aside-is (f .rowout)) (aside-is (f .vout))))
+
+-- what is asked of the sums from d on
+pub rest-fits : {lens row v out t dim hd o : ℕ} (d : ℕ) → WeighFits lens row v out t dim hd o → d ≤ hd → WeighFits lens row v (out + d) t dim (hd - d) (o + d)
+rest-fits d g h = record {
+  vIn = g .vIn;
+  rowIn = g .rowIn;
+  outIn = omega (arith, g .outIn);
+  oIn = omega (arith, g .oIn);
+  rowout = apart-sub (g .rowout) (omega arith) (omega arith) (omega arith) (omega arith);
+  vout = apart-sub (g .vout) (omega arith) (omega arith) (omega arith) (omega arith);
+}
+
+module _ {len a b v x y t dim hd o : ℕ} where
+  pub pair-says : pairFits len a b v x y t dim hd o ≡ true → PairFits len a b v x y t dim hd o
+  unfolding pairFits
+  pair-says h =
+      let p = and-parts (weighFits len a v x t dim hd o && weighFits len b v y t dim hd o) ((aside a t y hd && aside b t x hd) && aside x hd y hd) h in
+      let q = and-parts (weighFits len a v x t dim hd o) (weighFits len b v y t dim hd o) (p .0) in
+      let r = and-parts (aside a t y hd && aside b t x hd) (aside x hd y hd) (p .1) in
+      let e = and-parts (aside a t y hd) (aside b t x hd) (r .0) in
+      record {
+        first = weigh-says (q .0);
+        second = weigh-says (q .1);
+        ay = aside-says a t y hd (e .0);
+        bx = aside-says b t x hd (e .1);
+        xy = aside-says x hd y hd (r .1);
+      }
+
+  pub pair-fits : PairFits len a b v x y t dim hd o → pairFits len a b v x y t dim hd o ≡ true
+  unfolding pairFits
+  pair-fits f =
+      two (two (weigh-fits (f .first)) (weigh-fits (f .second))) (two (two (aside-is (f .ay)) (aside-is (f .bx))) (aside-is (f .xy)))

@@ -2,5 +2,6 @@
 mod few;
 mod lanes;
 pub mod linear;
+pub mod pair;
 mod room;
 pub mod weigh;

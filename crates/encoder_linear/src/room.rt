@@ -1,6 +1,6 @@
 // Whether what a sum is handed fits. No test forms a number that could wrap.
 ghost use mathlib.Core.Path.{_≡_};
-ghost use Rattle.encoder_linear.specs.inner.Room.{linearFits, fromFits, weighFits};
+ghost use Rattle.encoder_linear.specs.inner.Room.{linearFits, fromFits, weighFits, pairFits};
 use buffers::room::aside;
 use buffers::room::inside;
 use buffers::room::rows_inside;
@@ -54,4 +54,22 @@ pub(crate) fn weigh_fits(
         return held & (aside(row, t, out, hd) & aside(v, t * dim, out, hd));
     }
     false
+}
+
+pub(crate) fn pair_fits(
+    len: usize,
+    a: usize,
+    b: usize,
+    v: usize,
+    x: usize,
+    y: usize,
+    t: usize,
+    dim: usize,
+    hd: usize,
+    o: usize,
+) -> bool
+    ensures { λ r. ⌜ r ≡ pairFits len a b v x y t dim hd o ⌝ }
+{
+    let each = weigh_fits(len, a, v, x, t, dim, hd, o) & weigh_fits(len, b, v, y, t, dim, hd, o);
+    each & ((aside(a, t, y, hd) & aside(b, t, x, hd)) & aside(x, hd, y, hd))
 }

@@ -113,3 +113,17 @@ pub record WeighFits (len : ℕ) (row v out t dim hd o : ℕ) : Type 0 where
   pub oIn : o + hd ≤ dim
   pub rowout : Apart row t out hd
   pub vout : Apart v (t * dim) out hd
+
+-- two rows of weights by as many rows of dim, sixteen places from o on
+pub record WideFits (lenp lenr lenv o dim : ℕ) : Type 0 where
+  pub same : lenr ≡ lenp
+  pub vIs : lenv ≡ lenp * dim
+  pub places : o + 16 ≤ dim
+
+-- two rows of weights, at a and at b, with sums at x and at y
+pub record PairFits (len : ℕ) (a b v x y t dim hd o : ℕ) : Type 0 where
+  pub first : WeighFits len a v x t dim hd o
+  pub second : WeighFits len b v y t dim hd o
+  pub ay : Apart a t y hd
+  pub bx : Apart b t x hd
+  pub xy : Apart x hd y hd

@@ -13,22 +13,13 @@ use Rattle.buffers.proofs.Lists.{length-tab, tab-ext, tab-add}
 use Rattle.buffers.proofs.Regions.{put-append, region-put, apart-sub}
 use Rattle.encoder_linear.specs.inner.Fits.{WeighFits}
 use Rattle.encoder_linear.specs.Weighed.{columnOf, weighedRow}
+use Rattle.encoder_linear.proofs.Rooms.{rest-fits}
 use Rattle.encoder_linear.proofs.weigh.weigh_all.Statement.{statement}
 use Rattle.encoder_linear.proofs.weigh.weigh_all.Tie as tie
 use Rattle.encoder_linear.proofs.weigh.weigh_all.Reads as reads
 use Rattle.encoder_linear.proofs.weigh.weigh_all.Lts as lts
 use Rattle.encoder_linear.proofs.weigh.weigh_rest.Reads as weigh-rest-reads
 use Rattle.encoder_linear.proofs.weigh.weigh_wide.Reads as weigh-wide-reads
-
-rest-fits : {lens row v out t dim hd o : ℕ} (d : ℕ) → WeighFits lens row v out t dim hd o → d ≤ hd → WeighFits lens row v (out + d) t dim (hd - d) (o + d)
-rest-fits d g h = record {
-  vIn = g .vIn;
-  rowIn = g .rowIn;
-  outIn = omega (arith, g .outIn);
-  oIn = omega (arith, g .oIn);
-  rowout = apart-sub (g .rowout) (omega arith) (omega arith) (omega arith) (omega arith);
-  vout = apart-sub (g .vout) (omega arith) (omega arith) (omega arith) (omega arith);
-}
 
 -- the first d sums, and the others behind them, read past the first
 both : (s u z : List Float) (row v out t dim hd o d : ℕ) → WeighFits (length s) row v out t dim hd o → d ≤ hd

@@ -1,17 +1,16 @@
 -- `encoder_linear::weigh::wide` meets its contract: each lane is a column of its own. Assumes nothing.
 use borrow.Author.Needs.{needs}
-use Prim.Native.Nat.{ℕ, _+_, _*_, _-_, _≤_, _<_}
+use Prim.Native.Nat.{_+_, _*_, _-_, _≤_}
 use native.Mathlib.Omega.{arith}
-use mathlib.Core.Path.{_≡_, refl, sym, ap, _∙_}
-use mathlib.Core.List.{List}
-use native.Mathlib.Nat.{suc-mul, add-assoc}
+use mathlib.Core.Path.{_≡_, refl, ap, _∙_}
+use native.Mathlib.Nat.{suc-mul}
 use native.Mathlib.Numerals.{add-one}
-use lib.Ieee.{Float, nan, binary32, add, mul}
+use lib.Ieee.{nan, binary32, mul}
 use Rattle.buffers.specs.Rows.{tab}
-use Rattle.buffers.proofs.Lists.{fit, length-tab, getD-tab, tab-ext}
+use Rattle.buffers.proofs.Lists.{fit, length-tab}
 use Rattle.encoder_linear.specs.Linear.{sumOf}
 use Rattle.encoder_linear.specs.Weighed.{columnOf}
-use Rattle.encoder_linear.proofs.Products.{product-comm}
+use Rattle.encoder_linear.proofs.Columns.{begunColumn, column-step}
 use lib.ListN.{length, getD, replicate}
 use Rattle.encoder_linear.proofs.weigh.wide.Statement.{statement}
 use Rattle.encoder_linear.proofs.weigh.wide.Tie as tie
@@ -24,18 +23,6 @@ Inv-loop p v o dim b₀ j₀ a₀ b j a = (j ≤ length p) × (a ≡ j * dim + o
 
 abbrev μ-loop : tie.MeasureT-loop
 μ-loop p v o dim b₀ j₀ a₀ b j a = length p - j
-
--- a column's sum of j products
-abbrev begun : ℕ → ℕ → ℕ → List Float → List Float → ℕ → Float
-begun j dim o p v l = sumOf j (λ k. mul binary32 (getD p k nan) (getD v (k * dim + (o + l)) nan))
-
--- each lane with one product more
-lane-step : (j dim o a : ℕ) (p v b r : List Float) → a ≡ j * dim + o → b ≡ tab 16 (begun j dim o p v)
-    → r ≡ tab 16 (λ l. add binary32 (getD b l nan) (mul binary32 (getD v (a + l) nan) (getD p j nan))) → r ≡ tab 16 (begun (j + 1) dim o p v)
-unfolding sumOf
-lane-step j dim o a p v b r d e g =
-    g ∙ tab-ext 16 _ (begun (j + 1) dim o p v)
-    (λ l h. rw (e, d, add-one j, getD-tab 16 l (begun j dim o p v) nan h, product-comm binary32 (getD v (j * dim + o + l) nan) (getD p j nan), add-assoc (j * dim) o l) refl)
 
 -- src/attention.rt:143:5
 loop-holds : tie.Need-loop-holds Inv-loop μ-loop
@@ -73,7 +60,7 @@ loop-again c =
     let a = c .before .before .before .before .before .before .args in (
       omega arith,
       rw (add-one, suc-mul) (omega arith),
-      lane-step (l .j) (a .dim) (a .o) (l .a) (a .p .now) (a .v .now) (l .b) (c .add-products .result) (l .inv .1) (l .inv .2) (c .add-products .ensures),
+      column-step (l .j) (a .dim) (a .o) (l .a) (a .p .now) (a .v .now) (l .b) (c .add-products .result) (l .inv .1) (l .inv .2) (c .add-products .ensures),
     )
 
 -- src/attention.rt:136:1
@@ -81,7 +68,7 @@ returns : tie.Need-returns Inv-loop μ-loop
 unfolding columnOf
 returns c =
     let a = c .before .before .before .before .args in
-    c .before .loop .inv .2 ∙ ap (λ n. tab 16 (begun n (a .dim) (a .o) (a .p .now) (a .v .now))) (omega arith)
+    c .before .loop .inv .2 ∙ ap (λ n. tab 16 (begunColumn n (a .dim) (a .o) (a .p .now) (a .v .now))) (omega arith)
 
 pub wide-spec : {M : Type 1} → statement M
 wide-spec =

@@ -1,0 +1,96 @@
+-- `encoder_linear::pair::wide_pair` meets its contract: each lane is a column of its own. Assumes nothing.
+use borrow.Author.Needs.{needs}
+use Prim.Native.Nat.{_+_, _*_, _-_, _≤_}
+use native.Mathlib.Nat.{suc-mul}
+use native.Mathlib.Omega.{arith}
+use native.Mathlib.Numerals.{add-one}
+use mathlib.Core.Path.{_≡_, refl, ap, _∙_}
+use lib.ListN.{length, replicate}
+use Rattle.buffers.specs.Rows.{tab}
+use Rattle.buffers.proofs.Lists.{fit, length-tab}
+use Rattle.encoder_linear.specs.Linear.{sumOf}
+use Rattle.encoder_linear.specs.Weighed.{columnOf}
+use Rattle.encoder_linear.proofs.Columns.{begunColumn, column-step}
+use Rattle.encoder_linear.proofs.pair.wide_pair.Statement.{statement}
+use Rattle.encoder_linear.proofs.pair.wide_pair.Tie as tie
+
+abbrev Inv-loop : tie.InvT-loop
+Inv-loop p r v o dim b₀ c₀ j₀ a₀ b c j a = (j ≤ length p) × (a ≡ j * dim + o) × (b ≡ tab 16 (begunColumn j dim o p v)) × (c ≡ tab 16 (begunColumn j dim o r v))
+
+abbrev μ-loop : tie.MeasureT-loop
+μ-loop p r v o dim b₀ c₀ j₀ a₀ b c j a = length p - j
+
+loop-holds : tie.Need-loop-holds Inv-loop μ-loop
+unfolding sumOf tab
+loop-holds c = (omega arith, omega arith, refl, refl)
+
+mul-t : tie.Need-mul-t Inv-loop μ-loop
+mul-t c = search needs
+
+shared-slice-read-t : tie.Need-shared-slice-read-t Inv-loop μ-loop
+shared-slice-read-t c = search needs
+
+mul-u : tie.Need-mul-u Inv-loop μ-loop
+mul-u c = omega (arith, c .before .loop-test .taken, c .before .before .before .before .before .before .pre .same)
+
+shared-slice-read-u : tie.Need-shared-slice-read-u Inv-loop μ-loop
+shared-slice-read-u c = omega (arith, c .before .before .loop-test .taken, c .before .before .before .before .before .before .before .pre .same)
+
+add-products-requires : tie.Need-add-products-requires Inv-loop μ-loop
+add-products-requires c κs =
+    let p = c .before .before .before .before .before .before .before .pre in
+    (ap length (c .before .before .before .loop .inv .2) ∙ length-tab 16 _, omega (arith, p .vIs, p .places, fit (c .before .before .before .before .before .before .before .args .dim) (c .before .before .loop-test .taken)))
+
+add-products-requires-2 : tie.Need-add-products-requires-2 Inv-loop μ-loop
+add-products-requires-2 c κs =
+    let p = c .before .before .before .before .before .before .before .before .pre in
+    (ap length (c .before .before .before .before .loop .inv .3) ∙ length-tab 16 _, omega (arith, p .vIs, p .places, fit (c .before .before .before .before .before .before .before .before .args .dim) (c .before .before .before .loop-test .taken)))
+
+add-a : tie.Need-add-a Inv-loop μ-loop
+add-a c =
+    let p = c .before .before .before .before .before .before .before .before .before .pre in
+    omega (arith, p .vIs, p .places, fit (c .before .before .before .before .before .before .before .before .before .args .dim) (c .before .before .before .before .loop-test .taken))
+
+add-j : tie.Need-add-j Inv-loop μ-loop
+add-j c = search needs
+
+loop-less : tie.Need-loop-less Inv-loop μ-loop
+loop-less c = search needs
+
+loop-again : tie.Need-loop-again Inv-loop μ-loop
+loop-again c =
+    let l = c .before .before .before .before .before .loop in
+    let a = c .before .before .before .before .before .before .before .before .before .args in (
+      omega (arith, c .before .before .before .before .loop-test .taken),
+      rw (add-one, suc-mul) (omega (arith, l .inv .1)),
+      column-step (l .j) (a .dim) (a .o) (l .a) (a .p .now) (a .v .now) (l .b) (c .before .add-products .result) (l .inv .1) (l .inv .2) (c .before .add-products .ensures),
+      column-step (l .j) (a .dim) (a .o) (l .a) (a .r .now) (a .v .now) (l .c) (c .add-products2 .result) (l .inv .1) (l .inv .3) (c .add-products2 .ensures),
+    )
+
+returns : tie.Need-returns Inv-loop μ-loop
+unfolding columnOf
+returns c =
+    let a = c .before .before .before .before .before .args in
+    let l = c .before .loop in (
+      l .inv .2 ∙ ap (λ n. tab 16 (begunColumn n (a .dim) (a .o) (a .p .now) (a .v .now))) (omega arith),
+      l .inv .3 ∙ ap (λ n. tab 16 (begunColumn n (a .dim) (a .o) (a .r .now) (a .v .now))) (omega arith),
+    )
+
+pub wide-pair-spec : {M : Type 1} → statement M
+wide-pair-spec =
+    tie.close
+    (tie.spec
+    Inv-loop
+    μ-loop
+    loop-holds
+    mul-t
+    shared-slice-read-t
+    mul-u
+    shared-slice-read-u
+    add-products-requires
+    add-products-requires-2
+    add-a
+    add-j
+    loop-less
+    loop-again
+    returns)
