@@ -34,6 +34,10 @@ pub length-softened : (t : ℕ) (l : List Float) → length (softened t l) ≡ t
 unfolding softened expLess
 length-softened t l = simp length-tab
 
+pub length-scaled : (t : ℕ) (m : Float) (l : List Float) → length (scaled t m l) ≡ t
+unfolding scaled
+length-scaled t m l = simp length-tab
+
 pub length-softmax : (t : ℕ) (l : List Float) → length (softmaxOf t l) ≡ t
 unfolding softmaxOf scaled
 length-softmax t l = simp length-tab
@@ -73,6 +77,18 @@ module _ (s : List Float) (q k v row out t heads hd : ℕ) (sc : Float) where
   pub inside : (i h : ℕ) → i < t → h < heads → i * dim + h * hd + hd ≤ n
   inside i h a b = let f = fit dim a in let f′ = fit hd b in omega arith
 
+  -- the scaled sums of a query over the turned keys are its scores
+  pub row-scores : (i h : ℕ) → i < t → h < heads → q + n ≤ length s
+      → scaled t sc (weighedRow hd t t 0 (region s (q + (i * dim + h * hd)) hd) (region s (k + h * hd * t) (hd * t))) ≡ headScores t dim hd sc qs ks i (h * hd)
+  row-scores i h a b qIn =
+      let f = inside i h a b in
+      let o = h * hd in
+      let Q = region qs (i * dim + o) hd in
+      let lq : length Q ≡ hd = length-region qs (i * dim + o) hd (rw (length-region s q n qIn) f) in
+      ap (λ z. scaled t sc (weighedRow hd t t 0 z (region s (k + o * t) (hd * t)))) (sym (region-region s q n (i * dim + o) hd (omega arith)))
+      ∙ ap (λ z. scaled t sc (weighedRow hd t t 0 Q z)) (sym (region-region s k n (o * t) (hd * t) (head-rows t heads hd h b)))
+      ∙ turned-scores t dim hd o sc Q (region s k n) lq (fit hd b)
+
   -- the values stand at e of each of t rows of w
   pub head-run : (w e i h : ℕ) → HeadAt (length s) q k v row out t heads hd i h w e → (s₁ s₂ s₃ : List Float)
       → s₁ ≡ put s row (scaled t sc (weighedRow hd t t 0 (region s (q + (i * dim + h * hd)) hd) (region s (k + h * hd * t) (hd * t))))
@@ -89,12 +105,7 @@ module _ (s : List Float) (q k v row out t heads hd : ℕ) (sc : Float) where
       let W = weighedRow t w hd e (softmaxOf t S) (region s v (t * w)) in
       let lw = length-weighed t w hd e (softmaxOf t S) (region s v (t * w)) in
       let x = g .fits in
-      let Q = region qs (i * dim + o) hd in
-      let lq : length Q ≡ hd = length-region qs (i * dim + o) hd (rw (length-region s q n (x .qIn)) f) in
-      let e₁′ : s₁ ≡ put s row S =
-      e₁ ∙ ap (put s row) (ap (λ z. scaled t sc (weighedRow hd t t 0 z (region s (k + o * t) (hd * t)))) (sym (region-region s q n (i * dim + o) hd (omega arith)))
-      ∙ ap (λ z. scaled t sc (weighedRow hd t t 0 Q z)) (sym (region-region s k n (o * t) (hd * t) (head-rows t heads hd h (g .head))))
-      ∙ turned-scores t dim hd o sc Q (region s k n) lq (fit hd (g .head))) in
+      let e₁′ : s₁ ≡ put s row S = e₁ ∙ ap (put s row) (row-scores i h (g .token) (g .head) (x .qIn)) in
       let r₁ : region s₁ row t ≡ S = ap (λ l. region l row t) e₁′ ∙ region-put-same s row S t (sym ls) (rw ls (x .rowIn)) in
       let e₂′ : s₂ ≡ put s row (softmaxOf t S) = e₂ ∙ rw (r₁, e₁′) (put-put s row S (softmaxOf t S) (ls ∙ sym lp)) in
       let r₂ : region s₂ row t ≡ softmaxOf t S = ap (λ l. region l row t) e₂′ ∙ region-put-same s row (softmaxOf t S) t (sym lp) (rw lp (x .rowIn)) in

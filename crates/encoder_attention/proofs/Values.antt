@@ -14,7 +14,7 @@ use Rattle.buffers.specs.Each.{blank}
 use Rattle.buffers.specs.inner.Apart.{Apart, before}
 use Rattle.buffers.proofs.Regions.{region-put, region-put-same, apart-sub, apart-sym}
 use Rattle.buffers.proofs.Lists.{fit, length-tab, length-rows, tab-ext}
-use Rattle.buffers.proofs.Puts.{puts-ext, puts-step}
+use Rattle.buffers.proofs.Puts.{puts-ext}
 use Rattle.number_floats.specs.Constants.{zero32}
 use Rattle.encoder_kernels.specs.Finite.{allFinite}
 use Rattle.encoder_linear.specs.Linear.{sumOf}
@@ -54,31 +54,10 @@ module _ (s : List Float) (q k v row out t heads hd h : ℕ) (sc : Float) where
   abbrev pub goes : ℕ → ℕ
   goes i = out + (i * (heads * hd) + h * hd)
 
-  length-summed : (i : ℕ) → length (summed i) ≡ hd
+  pub length-summed : (i : ℕ) → length (summed i) ≡ hd
   length-summed i = length-weighed t hd hd 0 (softmaxOf t (scored i)) (region s v (t * hd))
 
-  pub queries-turn : QueriesAt (length s) q k v row out t heads hd h → (i : ℕ) → i < t → (u u′ : List Float) (ok here : Bool)
-      → ok ≡ allFinite (rows i scored)
-      → blank zero32 row t u ≡ putRows (blank zero32 row t s) i goes summed
-      → here ≡ allFinite (headScores t (heads * hd) hd sc (region u q (t * (heads * hd))) (keysOf t (heads * hd) (region u k (t * (heads * hd)))) i (h * hd))
-      → blank zero32 row t u′ ≡ put (blank zero32 row t u) (goes i) (weighedRow t hd hd 0
-      (softmaxOf t (headScores t (heads * hd) hd sc (region u q (t * (heads * hd))) (keysOf t (heads * hd) (region u k (t * (heads * hd)))) i (h * hd))) (region u v (t * hd)))
-      → (ok && here ≡ allFinite (rows (i + 1) scored)) × (blank zero32 row t u′ ≡ putRows (blank zero32 row t s) (i + 1) goes summed)
-  queries-turn w i l u u′ ok here a b c d =
-      let f′ = fit hd (w .head) in
-      let seen : (x m : ℕ) → Apart x m row t → Apart x m out (t * (heads * hd)) → region u x m ≡ region s x m =
-      λ x m ar ao. puts-seen zero32 row t s u goes summed i x m b ar
-      (λ j p. let p′ : j < t = omega arith in
-      let f = fit (heads * hd) p′ in rw (length-summed j) (apart-sub ao (omega arith) (omega arith) (omega arith) (omega arith))) in
-      let x = w .fits in
-      let q₁ = seen q (t * (heads * hd)) (x .qrow) (x .qout) in
-      let k₁ = seen k (t * (heads * hd)) (x .krow) (x .kout) in
-      let v₁ = seen v (t * hd) (x .vrow) (x .vout) in (
-        rw (all-finite-more s q k v row out t heads hd sc i scored, a, c, q₁, k₁),
-        rw (d, q₁, k₁, v₁, b) (puts-step (blank zero32 row t s) goes summed i),
-      )
-
--- what the queries of a head ask, with its values at g and its scores behind them
+-- what the queries of a head ask, with its values at g and two rows behind them
 pub queries-fit : {len q k v g out t heads hd : ℕ} (h : ℕ) → HeadsFit len q k v g out t heads hd → h < heads → QueriesAt len q k g (g + t * hd) out t heads hd h
 queries-fit {len} {q} {k} {v} {g} {out} {t} {heads} {hd} h w l =
     let r = w .spare in
@@ -100,6 +79,11 @@ queries-fit {len} {q} {k} {v} {g} {out} {t} {heads} {hd} h w l =
         vout = apart-sub (apart-sym (w .outg)) (omega arith) (omega arith) (omega arith) (omega arith);
       };
       head = l;
+      rowsIn = omega arith;
+      qrows = apart-sub (w .qg) (omega arith) (omega arith) (omega arith) (omega arith);
+      krows = apart-sub (w .kg) (omega arith) (omega arith) (omega arith) (omega arith);
+      vrows = before (omega arith);
+      outrows = apart-sub (w .outg) (omega arith) (omega arith) (omega arith) (omega arith);
     }
 
 module _ (s : List Float) (q k v g out t heads hd : ℕ) (sc : Float) (w : HeadsFit (length s) q k v g out t heads hd) where
@@ -131,7 +115,7 @@ module _ (s : List Float) (q k v g out t heads hd : ℕ) (sc : Float) (w : Heads
       → length u ≡ length s
       → u₁ ≡ put u g (headValues t dim hd (h * hd) (region u v n))
       → here ≡ allFinite (rows t (λ i. headScores t dim hd sc (region u₁ q n) (keysOf t dim (region u₁ k n)) i (h * hd)))
-      → blank zero32 row t u₂ ≡ putRows (blank zero32 row t u₁) t (λ i. out + (i * dim + h * hd))
+      → blank zero32 row (t + t) u₂ ≡ putRows (blank zero32 row (t + t) u₁) t (λ i. out + (i * dim + h * hd))
       (λ i. weighedRow t hd hd 0 (softmaxOf t (headScores t dim hd sc (region u₁ q n) (keysOf t dim (region u₁ k n)) i (h * hd))) (region u₁ g (t * hd)))
       → (ok && here ≡ allFinite (rows (h + 1) (λ j. rows t (λ i. S i j))))
       × (blank zero32 g n u₂ ≡ putRows (blank zero32 g n s) t (λ i. out + i * dim) (λ i. rows (h + 1) (F i)))
@@ -154,11 +138,11 @@ module _ (s : List Float) (q k v g out t heads hd : ℕ) (sc : Float) (w : Heads
       let same : (i : ℕ) → G i ≡ F i h =
       λ i. rw (q₁, k₁, v₁) (together t dim hd o (softmaxOf t (S i h)) (region s v n)) in
       let at : ℕ → ℕ = λ i. out + (i * dim + o) in
-      let T = tab t (λ _. zero32) in
-      let lt = length-tab t (λ _. zero32) in
+      let T = tab (t + t) (λ _. zero32) in
+      let lt = length-tab (t + t) (λ _. zero32) in
       let N = tab n (λ _. zero32) in
       let ln = length-tab n (λ _. zero32) in
-      let rowed : (x : List Float) → blank zero32 g n (blank zero32 row t x) ≡ blank zero32 g n x =
+      let rowed : (x : List Float) → blank zero32 g n (blank zero32 row (t + t) x) ≡ blank zero32 g n x =
       λ x. blank-in zero32 g n row x T (omega arith) (rw lt (omega arith)) in
       let gathered : blank zero32 g n u₁ ≡ blank zero32 g n u = ap (blank zero32 g n) d ∙ blank-in zero32 g n g u H (omega arith) (rw lh (omega arith)) in
       let f′ = fit hd l in
@@ -169,7 +153,7 @@ module _ (s : List Float) (q k v g out t heads hd : ℕ) (sc : Float) (w : Heads
         rw (all-finite-more s q k v g out t heads hd sc h (λ j. rows t (λ i. S i j)), a, e, q₁, k₁),
         sym (rowed u₂)
             ∙ ap (blank zero32 g n) z
-            ∙ sym (puts-put (blank zero32 row t u₁) at G t g N outs)
+            ∙ sym (puts-put (blank zero32 row (t + t) u₁) at G t g N outs)
             ∙ ap (λ x. putRows x t at G) (rowed u₁ ∙ gathered ∙ b)
             ∙ puts-ext _ at at G (λ i. F i h) t (λ _ _. refl) (λ i _. same i)
             ∙ puts-more F hd (length-sumsAt s q k v g out t heads hd sc) (blank zero32 g n s) out dim h t f′

@@ -1,4 +1,4 @@
-// Head by head: a head's values laid together, then each of its queries. What a head's queries read, its keys and its
+// Head by head: a head's values laid together, then its queries, two at once. What a head's queries read, its keys and its
 // values, then stays in the near caches; no sum changes.
 ghost use mathlib.Core.Path.{_≡_};
 ghost use Prim.Native.Nat.{_+_, _*_};
@@ -15,6 +15,7 @@ ghost use Rattle.encoder_attention.specs.inner.Keys.{keysOf};
 ghost use Rattle.encoder_attention.specs.inner.Values.{headValues};
 ghost use Rattle.encoder_attention.specs.inner.Fits.{CopyFits, GatherFits, QueriesAt, HeadsFit};
 use crate::attention::attend_head;
+use crate::pair::attend_pair;
 
 // The n floats at x, over those at y.
 fn copy_floats(s: &mut [f32], x: usize, y: usize, n: usize)
@@ -40,7 +41,7 @@ pub(crate) fn gather(s: &mut [f32], v: usize, g: usize, t: usize, dim: usize, hd
     }
 }
 
-// Every query of head h, whose values lie together at v.
+// Every query of head h, whose values lie together at v: two at once, and the last by itself where their count is odd.
 pub(crate) fn attend_queries(
     s: &mut [f32],
     q: usize,
@@ -56,20 +57,26 @@ pub(crate) fn attend_queries(
 ) -> bool
     requires { ⌜ QueriesAt (length (now s)) q k v row out t heads hd h ⌝ }
     ensures { λ r. ⌜ r ≡ allFinite (rows t (λ i. headScores t (heads * hd) hd scaling (region (now (s .entry)) q (t * (heads * hd))) (keysOf t (heads * hd) (region (now (s .entry)) k (t * (heads * hd)))) i (h * hd))) ⌝ }
-    ensures { λ r. ⌜ blank zero32 row t (now (s .exit)) ≡ putRows (blank zero32 row t (now (s .entry))) t (λ i. out + (i * (heads * hd) + h * hd))
+    ensures { λ r. ⌜ blank zero32 row (t + t) (now (s .exit)) ≡ putRows (blank zero32 row (t + t) (now (s .entry))) t (λ i. out + (i * (heads * hd) + h * hd))
         (λ i. weighedRow t hd hd 0 (softmaxOf t (headScores t (heads * hd) hd scaling (region (now (s .entry)) q (t * (heads * hd))) (keysOf t (heads * hd) (region (now (s .entry)) k (t * (heads * hd)))) i (h * hd))) (region (now (s .entry)) v (t * hd))) ⌝ }
 {
     let mut ok = true;
     let mut i = 0usize;
     while i < t {
-        let here = attend_head(s, q, k, v, row, out, t, heads, hd, i, h, scaling, hd, 0);
-        ok = ok & here;
-        i += 1;
+        if 2 <= t - i {
+            let here = attend_pair(s, q, k, v, row, out, t, heads, hd, i, h, scaling);
+            ok = ok & here;
+            i += 2;
+        } else {
+            let here = attend_head(s, q, k, v, row, out, t, heads, hd, i, h, scaling, hd, 0);
+            ok = ok & here;
+            i += 1;
+        }
     }
     ok
 }
 
-// Every head: its values together at g, its scores behind them.
+// Every head: its values together at g, the scores of two queries behind them.
 pub(crate) fn attend_heads(
     s: &mut [f32],
     q: usize,

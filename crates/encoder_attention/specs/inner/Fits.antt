@@ -52,10 +52,20 @@ pub record TokenAt (len : ℕ) (q k v row out t heads hd i : ℕ) : Type 0 where
   pub fits : AttendFits len q k v (t * (heads * hd)) row out t heads hd
   pub token : i < t
 
--- one head, whose values lie together
+-- one head, whose values lie together, with a second score row behind the first
 pub record QueriesAt (len : ℕ) (q k v row out t heads hd h : ℕ) : Type 0 where
   pub fits : AttendFits len q k v (t * hd) row out t heads hd
   pub head : h < heads
+  pub rowsIn : row + (t + t) ≤ len
+  pub qrows : Apart q (t * (heads * hd)) row (t + t)
+  pub krows : Apart k (t * (heads * hd)) row (t + t)
+  pub vrows : Apart v (t * hd) row (t + t)
+  pub outrows : Apart out (t * (heads * hd)) row (t + t)
+
+-- and two of its queries
+pub record PairAt (len : ℕ) (q k v row out t heads hd i h : ℕ) : Type 0 where
+  pub queries : QueriesAt len q k v row out t heads hd h
+  pub token : i + 1 < t
 
 -- and where the keys stand that are turned there
 pub record KeysFit (len : ℕ) (q k v kt row out t heads hd : ℕ) : Type 0 where
