@@ -20,7 +20,7 @@ use Rattle.number_floats.specs.Constants.{zero32}
 use Rattle.encoder_kernels.specs.Finite.{allFinite}
 use Rattle.encoder_kernels.proofs.Finites.{all-finite-append}
 use Rattle.encoder_linear.specs.Weighed.{weighedRow, weighedPair}
-use Rattle.encoder_linear.specs.inner.Fits.{PairFits}
+use Rattle.encoder_linear.specs.inner.Fits.{WeighPairFits}
 use Rattle.encoder_attention.specs.Attention.{scaled, softmaxOf, headScores}
 use Rattle.encoder_attention.specs.inner.Keys.{keysOf}
 use Rattle.encoder_attention.specs.inner.Fits.{QueriesAt, PairAt}
@@ -195,7 +195,7 @@ module _ (s : List Float) (q k v row out t heads hd h : ℕ) (sc : Float) where
 
 -- what the sums of two queries ask: over the keys, and over the values
 module _ {len q k v row out t heads hd i h : ℕ} (g : PairAt len q k v row out t heads hd i h) where
-  pub scores-fit : PairFits len (q + (i * (heads * hd) + h * hd)) (q + ((i + 1) * (heads * hd) + h * hd)) (k + h * hd * t) row (row + t) hd t t 0
+  pub scores-fit : WeighPairFits len (q + (i * (heads * hd) + h * hd)) (q + ((i + 1) * (heads * hd) + h * hd)) (k + h * hd * t) row (row + t) hd t t 0
   scores-fit =
       let w = g .queries in
       let x = w .fits in
@@ -229,7 +229,7 @@ module _ {len q k v row out t heads hd i h : ℕ} (g : PairAt len q k v row out 
         xy = before (omega arith);
       }
 
-  pub sums-fit : PairFits len row (row + t) v (out + (i * (heads * hd) + h * hd)) (out + ((i + 1) * (heads * hd) + h * hd)) t hd hd 0
+  pub sums-fit : WeighPairFits len row (row + t) v (out + (i * (heads * hd) + h * hd)) (out + ((i + 1) * (heads * hd) + h * hd)) t hd hd 0
   sums-fit =
       let w = g .queries in
       let x = w .fits in

@@ -8,7 +8,7 @@ ghost use Rattle.buffers.specs.Each.{blank};
 ghost use Rattle.number_floats.specs.Constants.{zero32};
 ghost use Rattle.encoder_kernels.specs.Finite.{allFinite};
 ghost use Rattle.encoder_linear.specs.Weighed.{weighedRow};
-ghost use Rattle.encoder_linear.specs.inner.Fits.{PairFits};
+ghost use Rattle.encoder_linear.specs.inner.Fits.{WeighPairFits};
 ghost use Rattle.encoder_attention.specs.Attention.{scaled, headScores, softmaxOf};
 ghost use Rattle.encoder_attention.specs.inner.Keys.{keysOf};
 ghost use Rattle.encoder_attention.specs.inner.Fits.{PairAt};
@@ -29,7 +29,7 @@ pub(crate) fn scores_pair(
     hd: usize,
     scaling: f32,
 )
-    requires { ⌜ PairFits (length (now s)) a b k row (row + t) hd t t 0 ⌝ }
+    requires { ⌜ WeighPairFits (length (now s)) a b k row (row + t) hd t t 0 ⌝ }
     ensures { λ _. ⌜ now (s .exit) ≡ put (put (now (s .entry)) row (scaled t scaling (weighedRow hd t t 0 (region (now (s .entry)) a hd) (region (now (s .entry)) k (hd * t)))))
         (row + t) (scaled t scaling (weighedRow hd t t 0 (region (now (s .entry)) b hd) (region (now (s .entry)) k (hd * t)))) ⌝ }
 {

@@ -10,12 +10,12 @@ use Rattle.buffers.specs.Region.{region, put}
 use Rattle.buffers.specs.inner.Apart.{Apart}
 use Rattle.buffers.proofs.Regions.{put-append, put-comm, length-put, region-put, apart-sub}
 use Rattle.encoder_linear.specs.inner.Lanes.{spread}
-use Rattle.encoder_linear.specs.inner.Fits.{PairFits}
+use Rattle.encoder_linear.specs.inner.Fits.{WeighPairFits}
 use Rattle.encoder_linear.specs.Weighed.{columnOf, weighedRow, weighedPair}
 use Rattle.encoder_linear.proofs.Sums.{length-weighed}
 use Rattle.encoder_linear.proofs.Columns.{lanes-put, weighed-add}
 
-module _ (s : List Float) (a b v x y t dim hd o : ℕ) (g : PairFits (length s) a b v x y t dim hd o) where
+module _ (s : List Float) (a b v x y t dim hd o : ℕ) (g : WeighPairFits (length s) a b v x y t dim hd o) where
   -- the first d sums of each row
   abbrev A : ℕ → List Float
   A d = weighedRow t dim d o (region s a t) (region s v (t * dim))

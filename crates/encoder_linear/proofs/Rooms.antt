@@ -8,8 +8,8 @@ use borrow.Author.Tests.{leb-true, le-leb}
 use Rattle.buffers.specs.inner.Room.{inside, aside}
 use Rattle.buffers.proofs.Regions.{apart-sub}
 use Rattle.buffers.proofs.Rooms.{and-parts, two, aside-says, aside-is}
-use Rattle.encoder_linear.specs.inner.Room.{linearFits, fromFits, weighFits, pairFits}
-use Rattle.encoder_linear.specs.inner.Fits.{LinearFits, FromFits, WeighFits, PairFits}
+use Rattle.encoder_linear.specs.inner.Room.{linearFits, fromFits, weighFits, weighPairFits}
+use Rattle.encoder_linear.specs.inner.Fits.{LinearFits, FromFits, WeighFits, WeighPairFits}
 
 module _ {lens lenw x y n nin nout : ℕ} where
   pub linear-says : linearFits lens lenw x y n nin nout ≡ true → LinearFits lens lenw x y n nin nout
@@ -86,9 +86,9 @@ rest-fits d g h = record {
 }
 
 module _ {len a b v x y t dim hd o : ℕ} where
-  pub pair-says : pairFits len a b v x y t dim hd o ≡ true → PairFits len a b v x y t dim hd o
-  unfolding pairFits
-  pair-says h =
+  pub weigh-pair-says : weighPairFits len a b v x y t dim hd o ≡ true → WeighPairFits len a b v x y t dim hd o
+  unfolding weighPairFits
+  weigh-pair-says h =
       let p = and-parts (weighFits len a v x t dim hd o && weighFits len b v y t dim hd o) ((aside a t y hd && aside b t x hd) && aside x hd y hd) h in
       let q = and-parts (weighFits len a v x t dim hd o) (weighFits len b v y t dim hd o) (p .0) in
       let r = and-parts (aside a t y hd && aside b t x hd) (aside x hd y hd) (p .1) in
@@ -101,7 +101,7 @@ module _ {len a b v x y t dim hd o : ℕ} where
         xy = aside-says x hd y hd (r .1);
       }
 
-  pub pair-fits : PairFits len a b v x y t dim hd o → pairFits len a b v x y t dim hd o ≡ true
-  unfolding pairFits
-  pair-fits f =
+  pub weigh-pair-fits : WeighPairFits len a b v x y t dim hd o → weighPairFits len a b v x y t dim hd o ≡ true
+  unfolding weighPairFits
+  weigh-pair-fits f =
       two (two (weigh-fits (f .first)) (weigh-fits (f .second))) (two (two (aside-is (f .ay)) (aside-is (f .bx))) (aside-is (f .xy)))

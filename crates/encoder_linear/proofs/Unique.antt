@@ -8,7 +8,7 @@ use lib.Ieee.{Float}
 use Rattle.buffers.specs.Region.{region}
 use Rattle.encoder_linear.specs.Linear.{linearOf}
 use Rattle.buffers.specs.inner.Room.{whereFits}
-use Rattle.encoder_linear.specs.inner.Room.{linearFits, fromFits, weighFits, pairFits}
+use Rattle.encoder_linear.specs.inner.Room.{linearFits, fromFits, weighFits, weighPairFits}
 use Rattle.encoder_linear.specs.Weighed.{weighedRow, weighedPair}
 use Rattle.number_floats.proofs.Unique.{one}
 
@@ -34,7 +34,7 @@ pub weigh-unique : (s : List Float) (row v out t dim hd o : ℕ) (s′ s″ : Li
 weigh-unique s row v out t dim hd o s′ s″ = one _
 
 abbrev pub WeighsPair : List Float → ℕ → ℕ → ℕ → ℕ → ℕ → ℕ → ℕ → ℕ → ℕ → List Float → Type 0
-WeighsPair s a b v x y t dim hd o s′ = s′ ≡ cond (pairFits (length s) a b v x y t dim hd o) (weighedPair s a b v x y t dim hd o) s
+WeighsPair s a b v x y t dim hd o s′ = s′ ≡ cond (weighPairFits (length s) a b v x y t dim hd o) (weighedPair s a b v x y t dim hd o) s
 
 pub weigh-pair-unique : (s : List Float) (a b v x y t dim hd o : ℕ) (s′ s″ : List Float) → WeighsPair s a b v x y t dim hd o s′ → WeighsPair s a b v x y t dim hd o s″ → s′ ≡ s″
 weigh-pair-unique s a b v x y t dim hd o s′ s″ = one _

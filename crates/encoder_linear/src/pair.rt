@@ -5,12 +5,12 @@ ghost use Prim.Native.Nat.{_+_, _≤_};
 ghost use lib.ListN.{length};
 ghost use Rattle.buffers.specs.Rows.{tab};
 ghost use Rattle.encoder_linear.specs.Weighed.{columnOf, weighedPair};
-ghost use Rattle.encoder_linear.specs.inner.Room.{pairFits};
-ghost use Rattle.encoder_linear.specs.inner.Fits.{WideFits, PairFits};
+ghost use Rattle.encoder_linear.specs.inner.Room.{weighPairFits};
+ghost use Rattle.encoder_linear.specs.inner.Fits.{WideFits, WeighPairFits};
 use crate::lanes::Two;
 use crate::lanes::add_products;
 use crate::lanes::copy_spread;
-use crate::room::pair_fits;
+use crate::room::weigh_pair_fits;
 use crate::weigh::weigh_rest;
 use buffers::part;
 
@@ -53,7 +53,7 @@ pub(crate) fn pair_wide(
     hd: usize,
     o: usize,
 ) -> usize
-    requires { ⌜ PairFits (length (now s)) a b v x y t dim hd o ⌝ }
+    requires { ⌜ WeighPairFits (length (now s)) a b v x y t dim hd o ⌝ }
     ensures { λ r. ⌜ (r ≤ hd) × (now (s .exit) ≡ weighedPair (now (s .entry)) a b v x y t dim r o) ⌝ }
 {
     let n = t * dim;
@@ -81,7 +81,7 @@ pub(crate) fn pair_all(
     hd: usize,
     o: usize,
 )
-    requires { ⌜ PairFits (length (now s)) a b v x y t dim hd o ⌝ }
+    requires { ⌜ WeighPairFits (length (now s)) a b v x y t dim hd o ⌝ }
     ensures { λ _. ⌜ now (s .exit) ≡ weighedPair (now (s .entry)) a b v x y t dim hd o ⌝ }
 {
     let d = pair_wide(s, a, b, v, x, y, t, dim, hd, o);
@@ -103,10 +103,10 @@ pub fn weigh_pair(
     hd: usize,
     o: usize,
 )
-    ensures { λ _. ⌜ now (s .exit) ≡ cond (pairFits (length (now (s .entry))) a b v x y t dim hd o)
+    ensures { λ _. ⌜ now (s .exit) ≡ cond (weighPairFits (length (now (s .entry))) a b v x y t dim hd o)
         (weighedPair (now (s .entry)) a b v x y t dim hd o) (now (s .entry)) ⌝ }
 {
-    if pair_fits(s.len(), a, b, v, x, y, t, dim, hd, o) {
+    if weigh_pair_fits(s.len(), a, b, v, x, y, t, dim, hd, o) {
         pair_all(s, a, b, v, x, y, t, dim, hd, o);
     }
 }

@@ -1,6 +1,6 @@
 // Whether what a sum is handed fits. No test forms a number that could wrap.
 ghost use mathlib.Core.Path.{_≡_};
-ghost use Rattle.encoder_linear.specs.inner.Room.{linearFits, fromFits, weighFits, pairFits};
+ghost use Rattle.encoder_linear.specs.inner.Room.{linearFits, fromFits, weighFits, weighPairFits};
 use buffers::room::aside;
 use buffers::room::inside;
 use buffers::room::rows_inside;
@@ -56,7 +56,7 @@ pub(crate) fn weigh_fits(
     false
 }
 
-pub(crate) fn pair_fits(
+pub(crate) fn weigh_pair_fits(
     len: usize,
     a: usize,
     b: usize,
@@ -68,7 +68,7 @@ pub(crate) fn pair_fits(
     hd: usize,
     o: usize,
 ) -> bool
-    ensures { λ r. ⌜ r ≡ pairFits len a b v x y t dim hd o ⌝ }
+    ensures { λ r. ⌜ r ≡ weighPairFits len a b v x y t dim hd o ⌝ }
 {
     let each = weigh_fits(len, a, v, x, t, dim, hd, o) & weigh_fits(len, b, v, y, t, dim, hd, o);
     each & ((aside(a, t, y, hd) & aside(b, t, x, hd)) & aside(x, hd, y, hd))

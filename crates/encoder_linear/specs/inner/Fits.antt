@@ -121,7 +121,7 @@ pub record WideFits (lenp lenr lenv o dim : ℕ) : Type 0 where
   pub places : o + 16 ≤ dim
 
 -- two rows of weights, at a and at b, with sums at x and at y
-pub record PairFits (len : ℕ) (a b v x y t dim hd o : ℕ) : Type 0 where
+pub record WeighPairFits (len : ℕ) (a b v x y t dim hd o : ℕ) : Type 0 where
   pub first : WeighFits len a v x t dim hd o
   pub second : WeighFits len b v y t dim hd o
   pub ay : Apart a t y hd

@@ -19,6 +19,6 @@ weighFits len row v out t dim hd o =
     (inside dim o hd && inside len v (t * dim)) && ((inside len row t && inside len out hd) && (aside row t out hd && aside v (t * dim) out hd))
 
 -- and with a second row at b, whose sums go to y
-unfoldable pub pairFits : ℕ → ℕ → ℕ → ℕ → ℕ → ℕ → ℕ → ℕ → ℕ → ℕ → Bool
-pairFits len a b v x y t dim hd o =
+unfoldable pub weighPairFits : ℕ → ℕ → ℕ → ℕ → ℕ → ℕ → ℕ → ℕ → ℕ → ℕ → Bool
+weighPairFits len a b v x y t dim hd o =
     (weighFits len a v x t dim hd o && weighFits len b v y t dim hd o) && ((aside a t y hd && aside b t x hd) && aside x hd y hd)

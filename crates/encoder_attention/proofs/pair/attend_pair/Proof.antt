@@ -6,7 +6,7 @@ use borrow.Author.Needs.{needs}
 use lib.ListN.{length}
 use Rattle.buffers.proofs.Lists.{fit}
 use Rattle.encoder_kernels.specs.Finite.{allFinite}
-use Rattle.encoder_linear.proofs.Rooms.{pair-fits}
+use Rattle.encoder_linear.proofs.Rooms.{weigh-pair-fits}
 use Rattle.encoder_attention.specs.inner.Fits.{PairAt}
 use Rattle.encoder_attention.proofs.Attends.{head-rows}
 use Rattle.encoder_attention.proofs.Pairs.{pair-run, scores-fit, sums-fit}
@@ -114,7 +114,7 @@ returns c =
     let w = c .before .before .weigh-pair in
     let l : length (so .last .0) ≡ length (a .s .now) = so .kept .0 ∙ sc .kept .0 in
     let r = pair-run (a .s .now) (a .q) (a .k) (a .v) (a .row) (a .out) (a .t) (a .heads) (a .hd) (a .h) (a .scaling) (g .queries) (a .i) (g .token)
-    (sc .last .0) (so .last .0) (w .last .0) (sc .ensures) (so .ensures) (rw (l, pair-fits (sums-fit g)) at (w .ensures)) in
+    (sc .last .0) (so .last .0) (w .last .0) (sc .ensures) (so .ensures) (rw (l, weigh-pair-fits (sums-fit g)) at (w .ensures)) in
     (c .before .before .before .before .before .before .before .before .finite .ensures ∙ ap allFinite (c .before .before .before .before .before .before .before .before .before .part .ensures ∙ r .0), r .1)
 
 pub attend-pair-spec : {M : Type 1} → statement M

@@ -7,16 +7,16 @@ use lib.ListN.{length}
 use Rattle.buffers.specs.Region.{region}
 use Rattle.buffers.proofs.Lists.{length-tab}
 use Rattle.encoder_linear.specs.Weighed.{weighedRow, weighedPair}
-use Rattle.encoder_linear.specs.inner.Fits.{PairFits}
+use Rattle.encoder_linear.specs.inner.Fits.{WeighPairFits}
 use Rattle.encoder_linear.proofs.Sums.{length-weighed}
-use Rattle.encoder_linear.proofs.Rooms.{pair-fits}
+use Rattle.encoder_linear.proofs.Rooms.{weigh-pair-fits}
 use Rattle.encoder_attention.specs.Attention.{scaled}
 use Rattle.encoder_attention.proofs.Attends.{length-scaled}
 use Rattle.encoder_attention.proofs.Pairs.{rows-each, rows-then}
 use Rattle.encoder_attention.proofs.pair.scores_pair.Statement.{statement}
 use Rattle.encoder_attention.proofs.pair.scores_pair.Tie as tie
 
-room : {len a b k row t hd : ℕ} → PairFits len a b k row (row + t) hd t t 0 → row + (t + t) ≤ len
+room : {len a b k row t hd : ℕ} → WeighPairFits len a b k row (row + t) hd t t 0 → row + (t + t) ≤ len
 room g = omega (arith, g .second .outIn)
 
 add-next : tie.Need-add-next
@@ -45,7 +45,7 @@ returns c =
     let A = weighedRow (a .hd) (a .t) (a .t) 0 (region (a .s .now) (a .a) (a .hd)) (region (a .s .now) (a .k) (a .hd * a .t)) in
     let C = weighedRow (a .hd) (a .t) (a .t) 0 (region (a .s .now) (a .b) (a .hd)) (region (a .s .now) (a .k) (a .hd * a .t)) in
     rows-then (a .t) (scaled (a .t) (a .scaling)) (length-scaled (a .t) (a .scaling)) (a .s .now) (w .last .0) (n .last .0) A C (a .row) (room (k .pre)) (length-weighed _ _ _ _ _ _) (length-weighed _ _ _ _ _ _)
-    (rw (pair-fits (k .pre)) at (w .ensures))
+    (rw (weigh-pair-fits (k .pre)) at (w .ensures))
     (rows-each (a .t) (scaled (a .t) (a .scaling)) (length-scaled (a .t) (a .scaling)) (w .last .0) (m .last .0) (n .last .0) (a .row) (m .ensures) (n .ensures))
 
 pub scores-pair-spec : {M : Type 1} → statement M
