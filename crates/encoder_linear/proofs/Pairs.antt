@@ -1,5 +1,5 @@
 -- Laws of weighted sums by two rows of weights. Assumes nothing.
-use mathlib.Core.Path.{_≡_, refl, sym, ap, _∙_}
+use mathlib.Core.Path.{_≡_, refl, ap, _∙_}
 use mathlib.Core.List.{List}
 use Prim.Native.Nat.{ℕ, _+_, _*_, _-_, _≤_}
 use native.Mathlib.Omega.{arith}
@@ -8,7 +8,7 @@ use lib.Ieee.{Float, nan}
 use Rattle.buffers.specs.Rows.{tab}
 use Rattle.buffers.specs.Region.{region, put}
 use Rattle.buffers.specs.inner.Apart.{Apart}
-use Rattle.buffers.proofs.Regions.{put-append, put-comm, length-put, region-put, apart-sub}
+use Rattle.buffers.proofs.Regions.{put-append, put-comm, region-put, apart-sub}
 use Rattle.encoder_linear.specs.inner.Lanes.{spread}
 use Rattle.encoder_linear.specs.inner.Fits.{WeighPairFits}
 use Rattle.encoder_linear.specs.Weighed.{columnOf, weighedRow, weighedPair}
@@ -25,10 +25,6 @@ module _ (s : List Float) (a b v x y t dim hd o : ℕ) (g : WeighPairFits (lengt
 
   abbrev pub some : ℕ → List Float
   some d = weighedPair s a b v x y t dim d o
-
-  pub length-some : (d : ℕ) → length (some d) ≡ length s
-  unfolding weighedPair
-  length-some d = length-put (put s x (A d)) y (B d) ∙ length-put s x (A d)
 
   -- what stands apart from both is seen past them
   pub seen : (d : ℕ) → d ≤ hd → (z n : ℕ) → Apart z n x hd → Apart z n y hd → region (some d) z n ≡ region s z n

@@ -1,11 +1,9 @@
 -- `encoder_attention::pair::scores_pair` meets its contract. Assumes nothing.
-use mathlib.Core.Path.{_≡_, _∙_}
+use mathlib.Core.Path.{_∙_}
 use Prim.Native.Nat.{ℕ, _+_, _*_, _≤_}
 use native.Mathlib.Omega.{arith}
 use borrow.Author.Needs.{needs}
-use lib.ListN.{length}
 use Rattle.buffers.specs.Region.{region}
-use Rattle.buffers.proofs.Lists.{length-tab}
 use Rattle.encoder_linear.specs.Weighed.{weighedRow, weighedPair}
 use Rattle.encoder_linear.specs.inner.Fits.{WeighPairFits}
 use Rattle.encoder_linear.proofs.Sums.{length-weighed}

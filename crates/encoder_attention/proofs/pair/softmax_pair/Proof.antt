@@ -1,7 +1,6 @@
 -- `encoder_attention::pair::softmax_pair` meets its contract. Assumes nothing.
 use mathlib.Core.Path.{_∙_}
 use native.Mathlib.Omega.{arith}
-use borrow.Author.Needs.{needs}
 use Rattle.encoder_attention.specs.Attention.{softmaxOf}
 use Rattle.encoder_attention.proofs.Attends.{length-softmax}
 use Rattle.encoder_attention.proofs.Pairs.{rows-each}

@@ -8,9 +8,9 @@ use lib.ListN.{length}
 use Rattle.buffers.specs.Rows.{tab}
 use Rattle.buffers.specs.Region.{put}
 use Rattle.buffers.proofs.Lists.{length-tab}
-use Rattle.buffers.proofs.Regions.{length-region, put-nil}
+use Rattle.buffers.proofs.Regions.{length-region}
 use Rattle.encoder_linear.specs.Weighed.{weighedRow, weighedPair}
-use Rattle.encoder_linear.proofs.Pairs.{length-some, pair-turn}
+use Rattle.encoder_linear.proofs.Pairs.{pair-turn}
 use Rattle.encoder_linear.proofs.pair.pair_wide.Statement.{statement}
 use Rattle.encoder_linear.proofs.pair.pair_wide.Tie as tie
 

@@ -1,42 +1,36 @@
 -- `encoder_linear::weigh::weigh_all` meets its contract: the sums sixteen by sixteen, and the rest behind them. Assumes nothing.
 use borrow.Author.Needs.{needs}
 use Prim.Native.Nat.{ℕ, _+_, _*_, _-_, _≤_}
-use native.Mathlib.Nat.{add-assoc}
 use native.Mathlib.Omega.{arith}
-use mathlib.Core.Path.{_≡_, refl, sym, ap, _∙_}
+use mathlib.Core.Path.{_≡_, refl, ap, _∙_}
 use mathlib.Core.List.{List}
 use lib.ListN.{length}
 use lib.Ieee.{Float}
-use Rattle.buffers.specs.Rows.{tab}
 use Rattle.buffers.specs.Region.{region, put}
-use Rattle.buffers.proofs.Lists.{length-tab, tab-ext, tab-add}
 use Rattle.buffers.proofs.Regions.{put-append, region-put, apart-sub}
 use Rattle.encoder_linear.specs.inner.Fits.{WeighFits}
-use Rattle.encoder_linear.specs.Weighed.{columnOf, weighedRow}
+use Rattle.encoder_linear.specs.Weighed.{weighedRow}
+use Rattle.encoder_linear.proofs.Sums.{length-weighed}
 use Rattle.encoder_linear.proofs.Rooms.{rest-fits}
+use Rattle.encoder_linear.proofs.Columns.{weighed-add}
 use Rattle.encoder_linear.proofs.weigh.weigh_all.Statement.{statement}
 use Rattle.encoder_linear.proofs.weigh.weigh_all.Tie as tie
-use Rattle.encoder_linear.proofs.weigh.weigh_all.Reads as reads
-use Rattle.encoder_linear.proofs.weigh.weigh_all.Lts as lts
-use Rattle.encoder_linear.proofs.weigh.weigh_rest.Reads as weigh-rest-reads
-use Rattle.encoder_linear.proofs.weigh.weigh_wide.Reads as weigh-wide-reads
 
 -- the first d sums, and the others behind them, read past the first
 both : (s u z : List Float) (row v out t dim hd o d : ℕ) → WeighFits (length s) row v out t dim hd o → d ≤ hd
     → u ≡ put s out (weighedRow t dim d o (region s row t) (region s v (t * dim)))
     → z ≡ put u (out + d) (weighedRow t dim (hd - d) (o + d) (region u row t) (region u v (t * dim)))
     → z ≡ put s out (weighedRow t dim hd o (region s row t) (region s v (t * dim)))
-unfolding weighedRow
 both s u z row v out t dim hd o d g h eu ez =
-    let G : ℕ → Float = λ i. columnOf t dim (o + i) (region s row t) (region s v (t * dim)) in
-    let n = length-tab d G in
-    let r = ap (λ x. region x row t) eu ∙ region-put s out (tab d G) row t (rw n (apart-sub (g .rowout) (omega arith) (omega arith) (omega arith) (omega arith))) in
-    let q = ap (λ x. region x v (t * dim)) eu ∙ region-put s out (tab d G) v (t * dim) (rw n (apart-sub (g .vout) (omega arith) (omega arith) (omega arith) (omega arith))) in
+    let p = region s row t in
+    let q = region s v (t * dim) in
+    let W = weighedRow t dim d o p q in
+    let n = length-weighed t dim d o p q in
+    let ep = ap (λ x. region x row t) eu ∙ region-put s out W row t (rw n (apart-sub (g .rowout) (omega arith) (omega arith) (omega arith) (omega arith))) in
+    let eq = ap (λ x. region x v (t * dim)) eu ∙ region-put s out W v (t * dim) (rw n (apart-sub (g .vout) (omega arith) (omega arith) (omega arith) (omega arith))) in
     let k : d + (hd - d) ≡ hd = omega arith in
-    ez ∙ ap (put u (out + d)) (tab-ext (hd - d) _ (λ i. G (d + i)) (λ i l. rw (r, q, add-assoc o d i) refl))
-    ∙ ap (λ x. put x (out + d) (tab (hd - d) (λ i. G (d + i)))) eu
-    ∙ put-append s out (tab d G) (tab (hd - d) (λ i. G (d + i))) (out + d) (rw n refl)
-    ∙ ap (put s out) (sym (tab-add d (hd - d) G) ∙ ap (λ m. tab m G) k)
+    ez ∙ rw (ep, eq, eu)
+    (put-append s out W (weighedRow t dim (hd - d) (o + d) p q) (out + d) (rw n refl) ∙ ap (put s out) (weighed-add t dim o d (hd - d) p q ∙ ap (λ m. weighedRow t dim m o p q) k))
 
 -- src/attention.rt:213:9
 weigh-wide-requires : tie.Need-weigh-wide-requires

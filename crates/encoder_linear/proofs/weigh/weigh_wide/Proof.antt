@@ -1,27 +1,23 @@
 -- `encoder_linear::weigh::weigh_wide` meets its contract: sixteen sums more, read past those before them. Assumes nothing.
 use borrow.Author.Needs.{needs}
-use Prim.Native.Nat.{ℕ, _+_, _*_, _-_, _≤_, _<_}
+use Prim.Native.Nat.{ℕ, _+_, _*_, _-_, _≤_}
 use native.Mathlib.Omega.{arith}
 use mathlib.Core.Path.{_≡_, refl, sym, ap, _∙_}
 use mathlib.Core.List.{List}
-use native.Mathlib.Nat.{add-assoc, zero-add, mul-one}
+use native.Mathlib.Nat.{add-assoc, mul-one}
 use lib.Ieee.{Float, nan}
 use Rattle.buffers.specs.Rows.{tab}
 use Rattle.buffers.specs.Region.{region, put}
-use Rattle.buffers.proofs.Lists.{length-tab, getD-tab, tab-ext, tab-add}
+use Rattle.buffers.proofs.Lists.{length-tab, tab-ext, tab-add}
 use Rattle.buffers.proofs.Regions.{put-append, length-put, region-put, apart-sub, length-region}
 use Rattle.encoder_linear.specs.inner.Lanes.{spread}
 use Rattle.encoder_linear.specs.inner.Fits.{WeighFits}
 use Rattle.encoder_linear.specs.Weighed.{columnOf, weighedRow}
 use Rattle.encoder_linear.proofs.Fills.{spread-one}
+use Rattle.encoder_linear.proofs.Columns.{lanes-put}
 use lib.ListN.{length, getD}
 use Rattle.encoder_linear.proofs.weigh.weigh_wide.Statement.{statement}
 use Rattle.encoder_linear.proofs.weigh.weigh_wide.Tie as tie
-use Rattle.encoder_linear.proofs.weigh.weigh_wide.Reads as reads
-use Rattle.encoder_linear.proofs.weigh.weigh_wide.Lts as lts
-use Rattle.buffers.proofs.part.Reads as part-reads
-use Rattle.encoder_linear.proofs.weigh.wide.Reads as wide-reads
-use Rattle.encoder_linear.proofs.lanes.copy_spread.Reads as copy-spread-reads
 
 -- sixteen sums stored, read past the stores before them
 step : (s b : List Float) (row v out t dim hd o d : ℕ) → WeighFits (length s) row v out t dim hd o → d + 16 ≤ hd
@@ -36,8 +32,7 @@ step s b row v out t dim hd o d g h e =
     let r = region-put s out (tab d G) row t (rw n (apart-sub (g .rowout) (omega arith) (omega arith) (omega arith) (omega arith))) in
     let q = region-put s out (tab d G) v (t * dim) (rw n (apart-sub (g .vout) (omega arith) (omega arith) (omega arith) (omega arith))) in
     let f : b ≡ tab 16 (λ l. G (d + l)) = e ∙ tab-ext 16 _ (λ l. G (d + l)) (λ l k. rw (r, q, add-assoc o d l) refl) in
-    spread-one u (out + d) 16 (λ i. getD b (0 + i * 1) nan)
-    ∙ ap (put u (out + d)) (tab-ext 16 _ (λ l. G (d + l)) (λ l k. rw (f, mul-one l, zero-add l) (getD-tab 16 l (λ l. G (d + l)) nan k)))
+    lanes-put u b (out + d) (λ l. G (d + l)) f
     ∙ put-append s out (tab d G) (tab 16 (λ l. G (d + l))) (out + d) (rw n refl)
     ∙ ap (put s out) (sym (tab-add d 16 G))
 

@@ -11,12 +11,9 @@ use Rattle.buffers.proofs.Lists.{fit, length-tab}
 use Rattle.encoder_linear.specs.Linear.{sumOf}
 use Rattle.encoder_linear.specs.Weighed.{columnOf}
 use Rattle.encoder_linear.proofs.Columns.{begunColumn, column-step}
-use lib.ListN.{length, getD, replicate}
+use lib.ListN.{length, getD}
 use Rattle.encoder_linear.proofs.weigh.wide.Statement.{statement}
 use Rattle.encoder_linear.proofs.weigh.wide.Tie as tie
-use Rattle.encoder_linear.proofs.weigh.wide.Reads as reads
-use Rattle.encoder_linear.proofs.weigh.wide.Lts as lts
-use Rattle.encoder_linear.proofs.lanes.add_products.Reads as add-products-reads
 
 abbrev Inv-loop : tie.InvT-loop
 Inv-loop p v o dim b₀ j₀ a₀ b j a = (j ≤ length p) × (a ≡ j * dim + o) × (b ≡ tab 16 (λ l. sumOf j (λ k. mul binary32 (getD p k nan) (getD v (k * dim + (o + l)) nan))))
