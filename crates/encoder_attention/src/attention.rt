@@ -1,5 +1,5 @@
-// Attention, with one score row for the source's matrix of scores, and the keys turned so that those of one place lie
-// together: then the scores of several keys run side by side, each from +0 upward by itself.
+// Attention, with a score row, or two, for the source's matrix of scores, and the keys turned so that those of one place
+// lie together: then the scores of several keys run side by side, each from +0 upward by itself.
 ghost use mathlib.Core.Path.{_≡_};
 ghost use mathlib.Core.Bool.{_&&_, cond};
 ghost use Prim.Native.Nat.{_+_, _*_, _≤_};

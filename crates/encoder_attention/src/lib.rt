@@ -1,4 +1,4 @@
-// Attention, with one score row for the source's matrix of scores.
+// Attention, with a score row, or two, for the source's matrix of scores.
 pub mod attention;
 mod heads;
 mod pair;
