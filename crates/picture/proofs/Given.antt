@@ -13,11 +13,11 @@ use Rattle.picture_limits.specs.declared.PictureSettings.{PictureSettings}
 use Rattle.picture_samples.specs.Samples.{channelsAllowed, value, byteOf, valueOf, patternOf}
 use Rattle.picture_limits.specs.Places.{patchFloats, picture}
 use Rattle.picture_patches.specs.Patches.{patches}
-use Rattle.picture_restore.specs.Restore.{known, bytesFrom}
-use Rattle.picture_restore.specs.inner.Known.{knownPatches}
+use Rattle.picture_view.specs.Known.{known, bytesFrom}
+use Rattle.picture_view.specs.inner.Known.{knownPatches}
 use Rattle.picture_samples.proofs.Channels.{value-is, allowed-bits, distinct-of}
 use Rattle.picture_samples.proofs.Finds.{Distinct, byte-back}
-use Rattle.picture_restore.proofs.Known.{known-cut}
+use Rattle.picture_view.proofs.Known.{known-cut}
 use Rattle.picture_patches.proofs.Patches.{length-patches, patches-ext}
 use Rattle.picture.proofs.Places.{patch-at, sample-at}
 

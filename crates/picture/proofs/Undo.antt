@@ -23,10 +23,11 @@ use Rattle.picture_samples.specs.Samples.{byteOf, valueOf, patternOf}
 use Rattle.picture_limits.specs.Places.{patchFloats, picture, samplePlace}
 use Rattle.picture_limits.specs.Shape.{gridAllowed}
 use Rattle.picture.specs.Preprocess.{floatsOf, preprocessed, resizedPixel, resizedBytes, patchesOf, patchesLeft}
-use Rattle.picture_restore.specs.Restore.{known, bytesFrom, restored, bytesOf, bytesLeft, bytesOut}
+use Rattle.picture_view.specs.Known.{known, bytesFrom}
+use Rattle.picture_restore.specs.Restore.{restored, bytesOf, bytesLeft, bytesOut}
 use Rattle.picture_samples.proofs.Channels.{value-is}
 use Rattle.picture_samples.proofs.Finds.{pattern-back}
-use Rattle.picture_restore.proofs.Known.{known-at}
+use Rattle.picture_view.proofs.Known.{known-at}
 use Rattle.picture_limits.proofs.Places.{patch-in, place-in-patch, picture-at, length-picture}
 use Rattle.picture_patches.proofs.Patches.{length-patches}
 use Rattle.picture.proofs.Places.{patches-self}

@@ -18,7 +18,8 @@ use Rattle.picture_limits.specs.Shape.{gridAllowed, shaped}
 use Rattle.picture_limits.specs.Places.{patchFloats}
 use Rattle.picture_samples.specs.Samples.{channelsAllowed, valueOf, patternOf}
 use Rattle.picture_limits.proofs.Shapes.{shaped-says}
-use Rattle.picture_restore.specs.Restore.{known, restored}
+use Rattle.picture_view.specs.Known.{known}
+use Rattle.picture_restore.specs.Restore.{restored}
 
 -- where settings, grid and length are in order, the room and then the samples decide
 abbrev pub decided : PictureSettings → List Float → ℕ → ℕ → ℕ → Shape → Restored

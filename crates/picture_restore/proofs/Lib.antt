@@ -1,5 +1,3 @@
-pub mod Known
 pub mod Numbers
 pub mod Ladder
-pub mod Written
-pub mod Views
+pub mod Whole

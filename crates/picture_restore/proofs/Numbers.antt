@@ -15,7 +15,8 @@ use Rattle.picture_limits.specs.Settings.{allowed}
 use Rattle.picture_limits.specs.Shape.{gridAllowed}
 use Rattle.picture_limits.specs.Places.{patchFloats}
 use Rattle.picture_samples.specs.Samples.{channelsAllowed, valueOf, patternOf}
-use Rattle.picture_restore.specs.Restore.{known, restored, restoreNumber, number, height, width, Numbered}
+use Rattle.picture_view.specs.Known.{known}
+use Rattle.picture_restore.specs.Restore.{restored, restoreNumber, number, height, width, Numbered}
 
 -- the ladder of answers and that of numbers, test by test
 record Told (a : Restored) (n h w : ℕ) : Type 0 where

@@ -1,3 +1,1 @@
 pub mod Restore
-pub mod View
-pub mod inner

@@ -1,12 +1,11 @@
 -- What restore answers and writes, for every input. Assumes nothing.
 use mathlib.Core.Path.{_≡_}
-use mathlib.Core.Bool.{Bool, _&&_}
+use mathlib.Core.Bool.{_&&_}
 use mathlib.Core.List.{List}
 use Prim.Native.Nat.{ℕ, _*_}
-use lib.ListN.{length, getD}
+use lib.ListN.{length}
 use lib.Dec.{eqb, leb}
-use lib.Ieee.{Float, nan, binary32, toBits}
-use Rattle.buffers.specs.Rows.{all}
+use lib.Ieee.{Float}
 use Rattle.buffers.specs.Region.{over}
 use Rattle.picture_limits.specs.declared.PictureSettings.{PictureSettings}
 use Rattle.picture_limits.specs.declared.Refusal.the-variants.{Setting, Channel, Output, Grid, PatchesLength, Sample}
@@ -18,19 +17,7 @@ use Rattle.picture_limits.specs.Settings.{allowed}
 use Rattle.picture_limits.specs.Shape.{gridAllowed}
 use Rattle.picture_samples.specs.Samples.{channelsAllowed, valueOf, patternOf}
 use Rattle.picture_limits.specs.Places.{patchFloats}
-use Rattle.picture_spot.specs.Bytes.{knownAt, bytesBy}
-
--- the bits of sample i
-abbrev pub bitsOf : List Float → ℕ → ℕ
-bitsOf l i = toBits binary32 (getD l i nan)
-
--- by a table k: every sample has the bits of a byte in its channel
-unfoldable pub known : (ℕ → ℕ → ℕ) → ℕ → List Float → Bool
-known k p l = all (length l) (knownAt k p (bitsOf l))
-
--- the bytes of the samples, by row, column and channel
-abbrev pub bytesFrom : (ℕ → ℕ → ℕ) → ℕ → List Float → ℕ → ℕ → List ℕ
-bytesFrom k p l gh gw = bytesBy (λ b. b) k p gh gw (bitsOf l)
+use Rattle.picture_view.specs.Known.{known, bytesFrom}
 
 -- ---- restore, by the table of the settings' means and deviations
 

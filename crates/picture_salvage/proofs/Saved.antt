@@ -29,10 +29,11 @@ use Rattle.picture_samples.specs.inner.Clean.{Clean}
 use Rattle.picture_samples.proofs.Channels.{entry-of, allowed-of, clean-of}
 use Rattle.picture_samples.proofs.Finds.{byte-same, missed, pattern-back}
 use Rattle.picture_spot.specs.Bytes.{knownAt}
-use Rattle.picture_restore.proofs.Known.{channel-at}
+use Rattle.picture_view.proofs.Known.{channel-at}
 use Rattle.picture_restore.specs.declared.Restored.{Restored}
-use Rattle.picture_restore.specs.Restore as Res
-use Rattle.picture_restore.specs.Restore.{known, restored, bytesOf}
+use Rattle.picture_view.specs.Known as K
+use Rattle.picture_view.specs.Known.{known}
+use Rattle.picture_restore.specs.Restore.{restored, bytesOf}
 use Rattle.picture_salvage.specs.declared.Salvaged.{Salvaged}
 use Rattle.picture_salvage.specs.Salvage.{bitsOf, bad, badSamples, entryOf, listed, saved, savedFrom, salvaged}
 use Rattle.picture_salvage.specs.Saved.{floatsOf, Agreed, Agree, Came, Back, Listing, Listed, List-says}
@@ -101,7 +102,7 @@ read-same s a c b h l =
         same (toBits binary32 (ofBits binary32 b)) ∙ nan-none t n c h (ofBits binary32 b) q ∙ sym (same b ∙ nan-missed t n c h b (nanBits-is binary32 b ∙ q))
 
 module _ (s : PictureSettings) (l : List ℕ) (a : channelsAllowed (valueOf s) ≡ true) (u : Words l) where
-  bits-same : (i c : ℕ) → i < length l → c < 3 → byteOf (patternOf s) c (Res.bitsOf (floatsOf l) i) ≡ byteOf (patternOf s) c (bitsOf l i)
+  bits-same : (i c : ℕ) → i < length l → c < 3 → byteOf (patternOf s) c (K.bitsOf (floatsOf l) i) ≡ byteOf (patternOf s) c (bitsOf l i)
   bits-same i c h hc =
       ap (λ (v : Float). byteOf (patternOf s) c (toBits binary32 v)) (getD-tab (length l) i (λ j. ofBits binary32 (bitsOf l j)) nan h) ∙ read-same s a c (bitsOf l i) hc (u i)
 
@@ -113,7 +114,7 @@ module _ (s : PictureSettings) (l : List ℕ) (a : channelsAllowed (valueOf s) �
   unfolding known
   known-is =
       let p = s .«patch_size» in
-      ap (λ (n : ℕ). all n (knownAt (patternOf s) p (Res.bitsOf (floatsOf l)))) long
+      ap (λ (n : ℕ). all n (knownAt (patternOf s) p (K.bitsOf (floatsOf l)))) long
       ∙ all-ext (length l) _ _ (λ i h. ap (λ (b : ℕ). ltb b 256) (bits-same i (i / (p * p) % 3) h (mod-lt (i / (p * p)) (omega arith))))
 
   answer : (gh gw room h w n : ℕ) → Accepts s l gh gw room h w n

@@ -33,9 +33,10 @@ use Rattle.picture_patches.specs.Resized.{fits}
 use Rattle.picture_patches.specs.Viewed.{viewOver}
 use Rattle.picture_patches.proofs.Patches.{patches-ext}
 use Rattle.picture_patches.proofs.Fits.{fits-where, view-written}
-use Rattle.picture_restore.specs.Restore.{known, bytesOf}
-use Rattle.picture_restore.specs.View.{viewRow, viewPlace, viewFits, viewBack, viewOut}
-use Rattle.picture_restore.proofs.Known.{known-same}
+use Rattle.picture_view.specs.Known.{known}
+use Rattle.picture_restore.specs.Restore.{bytesOf}
+use Rattle.picture_view.specs.View.{viewRow, viewPlace, viewFits, viewBack, viewOut}
+use Rattle.picture_view.proofs.Known.{known-same}
 use Rattle.picture_tiles.specs.declared.Tiled as D
 use Rattle.picture_tiles.specs.Cut.{Ready, tiles, ownHeight, ownWidth, tileHeight, tileWidth, gridH, gridW}
 use Rattle.picture_tiles.specs.Tile.{tileView, tileAt, found, padded, tileKnown}

@@ -29,9 +29,10 @@ use Rattle.picture_patches.specs.Patches.{patches}
 use Rattle.picture_patches.specs.Viewed.{viewAt}
 use Rattle.picture_patches.proofs.Views.{has-says}
 use Rattle.picture_patches.proofs.Patches.{length-patches, patches-ext}
-use Rattle.picture_restore.specs.Restore.{known, bytesFrom, restored, bytesOf}
-use Rattle.picture_restore.specs.inner.Known.{knownPatches}
-use Rattle.picture_restore.proofs.Known.{known-at, known-cut}
+use Rattle.picture_view.specs.Known.{known, bytesFrom}
+use Rattle.picture_restore.specs.Restore.{restored, bytesOf}
+use Rattle.picture_view.specs.inner.Known.{knownPatches}
+use Rattle.picture_view.proofs.Known.{known-at, known-cut}
 use Rattle.picture.proofs.Places.{sample-at, patches-self}
 use Rattle.picture.specs.Undo.{Asked}
 use Rattle.picture.proofs.Given.{Table, samples, bytes-of}

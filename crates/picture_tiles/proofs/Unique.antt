@@ -9,7 +9,7 @@ use Rattle.number_floats.proofs.Unique.{one}
 use Rattle.picture_limits.specs.declared.PictureSettings.{PictureSettings}
 use Rattle.picture_limits.specs.declared.View.{View}
 use Rattle.picture_patches.specs.Viewed.{viewOver}
-use Rattle.picture_restore.specs.View.{viewBack, viewOut}
+use Rattle.picture_view.specs.View.{viewBack, viewOut}
 use Rattle.picture_tiles.specs.declared.Cutting.{Cutting}
 use Rattle.picture_tiles.specs.declared.Tiled.{Tiled}
 use Rattle.picture_tiles.specs.Answer.{cutOf, tiled, patchesOut, untiled, bytesOut}

@@ -13,7 +13,7 @@ use Rattle.picture_limits.specs.Places.{picture, samplePlace}
 use Rattle.picture_samples.specs.Samples.{value, byteOf}
 use Rattle.picture_patches.specs.Patches.{patches}
 use Rattle.picture_patches.specs.Viewed.{viewAt}
-use Rattle.picture_restore.specs.Restore.{known}
+use Rattle.picture_view.specs.Known.{known}
 use Rattle.picture_tiles.specs.Cut.{top, left, ownHeight, ownWidth, tileHeight, tileWidth, gridH, gridW}
 
 -- what tile i has of the sweep

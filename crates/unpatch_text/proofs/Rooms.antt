@@ -22,7 +22,8 @@ use Rattle.picture_limits.specs.Sides.{kept, resized, gridOf, ghOf, gwOf}
 use Rattle.picture_limits.specs.Places.{patchFloats}
 use Rattle.picture_limits.specs.Shape.{gridAllowed}
 use Rattle.picture.specs.Preprocess.{floatsOf, preprocessed, patchesOf}
-use Rattle.picture_restore.specs.Restore.{known, restored, bytesOf, bytesLeft}
+use Rattle.picture_view.specs.Known.{known}
+use Rattle.picture_restore.specs.Restore.{restored, bytesOf, bytesLeft}
 use Rattle.picture_samples.specs.Samples.{channelsAllowed, valueOf, patternOf}
 use Rattle.picture_limits.proofs.Places.{times, length-picture}
 use Rattle.picture_limits.proofs.Sides.{side-le}

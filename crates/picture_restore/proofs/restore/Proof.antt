@@ -6,10 +6,11 @@ use borrow.Author.Needs.{needs}
 use borrow.Author.Tests.{not-true, not-false}
 use lib.ListN.{length}
 use Rattle.picture_limits.specs.declared.Refusal.the-variants.{Setting, Channel}
-use Rattle.picture_limits.specs.declared.Shape.the-variants.{Unshaped}
+use Rattle.picture_limits.specs.declared.Shape.the-variants.{Shaped, Unshaped}
 use Rattle.picture_restore.specs.declared.Restored.the-variants.{Refused}
 use Rattle.picture_limits.specs.Settings.{allowed}
 use Rattle.picture_limits.specs.Shape.{shaped}
+use Rattle.picture_limits.proofs.Shapes.{shaped-says}
 use Rattle.picture_samples.specs.Samples.{channelsAllowed, valueOf}
 use Rattle.picture_samples.proofs.Channels.{allowed-of}
 use Rattle.picture_restore.specs.Restore.{restored}
@@ -60,7 +61,10 @@ enum-known-found-2 c = search needs
 
 restore-shaped-requires : tie.Need-restore-shaped-requires
 restore-shaped-requires c κs =
-    (sym (c .before .before .before .before .before .shape .ensures) ∙ c .before .before .before .found2 .given .1, (c .before .before .before .before .before .before .before .before .before .samples .ensures, sym (c .before .before .before .before .before .before .before .channels-allowed .ensures) ∙ not-false _ (c .before .before .before .before .before .before .if2 .left)))
+    let a = c .before .before .before .before .before .before .before .before .before .before .before .before .before .before .before .before .args in
+    let e : shaped (a .s) (a .grid-h) (a .grid-w) (length (a .patches .now)) ≡ Shaped (c .before .before .before .found2 .given .0 .0) = sym (c .before .before .before .before .before .shape .ensures) ∙ c .before .before .before .found2 .given .1 in
+    let k = shaped-says (a .s) (a .grid-h) (a .grid-w) (length (a .patches .now)) _ e in
+    (e ∙ ap Shaped (k .tokens), (c .before .before .before .before .before .before .before .before .before .samples .ensures, sym (c .before .before .before .before .before .before .before .channels-allowed .ensures) ∙ not-false _ (c .before .before .before .before .before .before .if2 .left)))
 
 returns-3 : tie.Need-returns-3
 returns-3 c =
@@ -72,7 +76,7 @@ returns-3 c =
     settled (a .s) (a .patches .now) (a .grid-h) (a .grid-w) (length (a .out .now)) (sym e) (rw e)
 
 same-length : tie.Need-same-length
-same-length c = c .before .before .restore-shaped .kept .1 .1 .1 .1 .1 .0
+same-length c = c .before .before .restore-shaped .kept .1 .1 .1 .1 .0
 
 returns-4 : tie.Need-returns-4
 returns-4 c =

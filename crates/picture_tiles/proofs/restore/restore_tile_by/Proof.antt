@@ -13,8 +13,8 @@ use Rattle.picture_limits.proofs.Places.{times}
 use Rattle.picture_limits.proofs.Sides.{allowed-says, sided-says}
 use Rattle.picture_samples.specs.Samples.{channelsAllowed, valueOf, patternOf, entry}
 use Rattle.picture_samples.proofs.Channels.{allowed-of}
-use Rattle.picture_restore.specs.Restore.{known}
-use Rattle.picture_restore.specs.View.{viewOut}
+use Rattle.picture_view.specs.Known.{known}
+use Rattle.picture_view.specs.View.{viewOut}
 use Rattle.picture_tiles.specs.Cut.{Ready, up, inCut, gridH, gridW}
 use Rattle.picture_tiles.specs.Tile.{padded, tileKnown}
 use Rattle.picture_limits.specs.declared.Refusal.the-variants.{Sample}

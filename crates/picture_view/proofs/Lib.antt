@@ -1,0 +1,3 @@
+pub mod Known
+pub mod Written
+pub mod Views
