@@ -19,7 +19,7 @@ use Rattle.encoder_settings.specs.declared.EncoderSettings.{EncoderSetti
 use Rattle.encoder_settings.specs.Weights.{floats, layer}
 use Rattle.encoder_settings.specs.Settings.{ranged, scalingAllowed, allowed}
 use Rattle.encoder_settings.specs.inner.Bounds.{Bounded, Counted}
-use Rattle.encoder_settings.proofs.Weights.{layer-long}
+use Rattle.encoder_settings.proofs.Weights.{layer-long, projector-long}
 
 pub record Ranges (s : EncoderSettings) : Type 0 where
   pub hidden : (4 ≤ s .«hidden_size») × (s .«hidden_size» ≤ 2048)
@@ -28,26 +28,30 @@ pub record Ranges (s : EncoderSettings) : Type 0 where
   pub layers : s .«num_layers» ≤ 48
   pub inner : (1 ≤ s .«intermediate_size») × (s .«intermediate_size» ≤ 8192)
   pub text : (1 ≤ s .«text_hidden_size») × (s .«text_hidden_size» ≤ 8192)
+  pub bias : s .«projector_bias» ≤ 1
 
 pub ranges-say : (s : EncoderSettings) → ranged s ≡ true → Ranges s
 ranges-say s e =
+    let B = leb (s .«projector_bias») 1 in
     let X = within 1 8192 (s .«text_hidden_size») in
     let I = within 1 8192 (s .«intermediate_size») in
     let L = leb (s .«num_layers») 48 in
     let D = within 4 256 (s .«head_dim») in
     let N = within 1 64 (s .«num_heads») in
-    let h = and-parts (within 4 2048 (s .«hidden_size»)) (N && (D && (L && (I && X)))) e in
-    let n = and-parts N (D && (L && (I && X))) (h .1) in
-    let d = and-parts D (L && (I && X)) (n .1) in
-    let l = and-parts L (I && X) (d .1) in
-    let i = and-parts I X (l .1) in
+    let h = and-parts (within 4 2048 (s .«hidden_size»)) (N && (D && (L && (I && (X && B))))) e in
+    let n = and-parts N (D && (L && (I && (X && B)))) (h .1) in
+    let d = and-parts D (L && (I && (X && B))) (n .1) in
+    let l = and-parts L (I && (X && B)) (d .1) in
+    let i = and-parts I (X && B) (l .1) in
+    let x = and-parts X B (i .1) in
     record {
       hidden = within-says _ _ _ (h .0);
       heads = within-says _ _ _ (n .0);
       width = within-says _ _ _ (d .0);
       layers = leb-true _ _ (l .0);
       inner = within-says _ _ _ (i .0);
-      text = within-says _ _ _ (i .1);
+      text = within-says _ _ _ (x .0);
+      bias = leb-true _ _ (x .1);
     }
 
 pub record Allowed (s : EncoderSettings) : Type 0 where
@@ -94,6 +98,8 @@ bounded s a =
       hidden-high = r .hidden .1;
       inner-high = r .inner .1;
       text-high = r .text .1;
+      bias = r .bias;
+      biases = omega (arith, times (s .«projector_bias») x 1 8192 (r .bias) (r .text .1));
       squares = hh;
       outer = hi;
       inner = ih;
@@ -104,6 +110,7 @@ bounded s a =
       merging = times h (h * (m * m)) 2048 32768 (r .hidden .1) hm;
       linear-1 = times x h 8192 2048 (r .text .1) (r .hidden .1);
       linear-2 = times x x 8192 8192 (r .text .1) (r .text .1);
+      projector-is = projector-long h (h * (m * m)) x (s .«projector_bias») (r .bias);
       positions = PP;
       table = times (most (s .picture) * most (s .picture)) (s .«head_dim») 4194304 256 PP (r .width .1);
     }

@@ -5,8 +5,9 @@ use mathlib.Core.Bool.{Bool, true, false, cond}
 use mathlib.Core.List.{List, [], _∷_, _++_, map, append-assoc, append-nil}
 use Prim.Native.Nat.{ℕ, zero, suc, _+_, _*_, _≤_}
 use Prim.Native.String.{String}
-use native.Mathlib.Nat.{suc-mul, zero-mul}
+use native.Mathlib.Nat.{suc-mul, zero-mul, one-mul}
 use native.Mathlib.Omega.{arith}
+use lib.Dec.{eqb}
 use lib.ListN.{length, take, drop}
 use lib.Seq.{drop-drop, take-add, take-all}
 use lib.Text.{eqt}
@@ -17,9 +18,9 @@ use Rattle.buffers.proofs.Lists.{fit, rows-ext}
 use Rattle.buffers.proofs.Regions.{length-region}
 use Rattle.picture_limits.specs.Places.{patchFloats}
 use Rattle.encoder_settings.specs.declared.EncoderSettings.{EncoderSettings}
-use Rattle.encoder_settings.specs.Weights.{Table, floats, cut, named, part, embedding, layer, nthLayer, projector, weights}
+use Rattle.encoder_settings.specs.Weights.{Table, floats, cut, named, part, embedding, layer, nthLayer, projector, hasBias, weights}
 use Rattle.encoder_settings.specs.Settings.{mergeArea, weightFloats}
-use Rattle.encoder_settings.specs.inner.Bounds.{layerSum}
+use Rattle.encoder_settings.specs.inner.Bounds.{layerSum, projectorSum}
 
 -- ---- a part's place is the sum of the lengths before it
 
@@ -47,6 +48,12 @@ stands t name w at n e f = sym (part-is t name w ∙ ap (λ (a : ℕ). region w 
 pub layer-long : (H I : ℕ) → layerSum H I ≡ floats (layer H I)
 layer-long H I = omega arith
 
+-- of a projector whose bias is none or one
+pub projector-long : (H wide X b : ℕ) → b ≤ 1 → projectorSum H wide X b ≡ floats (projector H wide X (eqb b 1))
+projector-long H wide X zero h = let e = zero-mul X in omega (arith, e)
+projector-long H wide X (suc zero) h = let e = one-mul X in omega (arith, e)
+projector-long H wide X (suc (suc b)) h = absurd (omega (arith, h))
+
 -- ---- no name stands twice in a table: what is found under each is its own piece
 
 abbrev byName : Table → List Float → List (String × List Float)
@@ -60,9 +67,10 @@ pub layer-named : (H I : ℕ) (w : List Float) → cut (layer H I) w ≡ byName 
 unfolding cut named
 layer-named H I w = refl
 
-pub projector-named : (H wide X : ℕ) (w : List Float) → cut (projector H wide X) w ≡ byName (projector H wide X) w
+pub projector-named : (H wide X : ℕ) (bias : Bool) (w : List Float) → cut (projector H wide X bias) w ≡ byName (projector H wide X bias) w
 unfolding cut named
-projector-named H wide X w = refl
+projector-named H wide X true w = refl
+projector-named H wide X false w = refl
 
 pub weights-named : (s : EncoderSettings) (w : List Float) → cut (weights s) w ≡ byName (weights s) w
 unfolding cut named
@@ -110,7 +118,7 @@ module _ (s : EncoderSettings) (w : List Float) where
   embeddingParts = embedding H (patchFloats (s .picture .«patch_size»))
 
   abbrev projectorParts : Table
-  projectorParts = projector H (H * mergeArea (s .picture)) (s .«text_hidden_size»)
+  projectorParts = projector H (H * mergeArea (s .picture)) (s .«text_hidden_size») (hasBias s)
 
   -- by their names, in order: the embedding's, those of each layer, the projector's
   abbrev pub allParts : List (String × List Float)

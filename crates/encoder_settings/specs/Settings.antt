@@ -21,7 +21,7 @@ use Rattle.encoder_settings.specs.Weights.{floats, weights}
 abbrev pub ranged : EncoderSettings → Bool
 ranged s =
     within 4 2048 (s .«hidden_size») && (within 1 64 (s .«num_heads») && (within 4 256 (s .«head_dim») && (leb (s .«num_layers») 48
-    && (within 1 8192 (s .«intermediate_size») && within 1 8192 (s .«text_hidden_size»)))))
+    && (within 1 8192 (s .«intermediate_size») && (within 1 8192 (s .«text_hidden_size») && leb (s .«projector_bias») 1)))))
 
 -- finite and above zero
 unfoldable pub scalingAllowed : EncoderSettings → Bool

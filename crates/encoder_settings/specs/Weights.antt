@@ -1,9 +1,10 @@
 -- The weights: one slice, of named parts that stand one behind the other. A norm has H floats; a matrix is row-major, [out, in],
--- and has out * in. H hidden, I intermediate, X text. Assumes nothing.
-use mathlib.Core.Bool.{cond}
+-- and has out * in; a bias has out. H hidden, I intermediate, X text. Assumes nothing.
+use mathlib.Core.Bool.{Bool, true, false, cond}
 use mathlib.Core.List.{List, [], _∷_}
 use Prim.Native.Nat.{ℕ, _+_, _*_}
 use Prim.Native.String.{String}
+use lib.Dec.{eqb}
 use lib.ListN.{take, drop}
 use lib.Text.{eqt}
 use lib.Ieee.{Float}
@@ -50,9 +51,20 @@ layer H I =
 abbrev pub nthLayer : ℕ → ℕ → ℕ → List Float → List Float
 nthLayer H I l w = region w (l * floats (layer H I)) (floats (layer H I))
 
--- with wide floats a merged row
-abbrev pub projector : ℕ → ℕ → ℕ → Table
-projector H wide X = ("norm", H) ∷ ("merging_layer", H * wide) ∷ ("linear_1", X * H) ∷ ("linear_2", X * X) ∷ []
+-- a part that takes a place only where it is there
+abbrev pub ifThere : Bool → String × ℕ → Table → Table
+ifThere true p t = p ∷ t
+ifThere false p t = t
+
+-- with wide floats a merged row, and a bias behind each of the last two matrices or neither
+abbrev pub projector : ℕ → ℕ → ℕ → Bool → Table
+projector H wide X bias =
+    ("norm", H) ∷ ("merging_layer", H * wide) ∷ ("linear_1", X * H) ∷ ifThere bias ("linear_1_bias", X)
+    (("linear_2", X * X) ∷ ifThere bias ("linear_2_bias", X) [])
+
+-- whether the settings say that linear_1 and linear_2 have a bias
+abbrev pub hasBias : EncoderSettings → Bool
+hasBias s = eqb (s .«projector_bias») 1
 
 -- all weights: the embedding's, those of each layer, the projector's
 abbrev pub weights : EncoderSettings → Table
@@ -61,4 +73,4 @@ weights s =
     let m = s .picture .«spatial_merge_size» in
     ("embedding", floats (embedding H (patchFloats (s .picture .«patch_size»))))
     ∷ ("layers", s .«num_layers» * floats (layer H (s .«intermediate_size»)))
-    ∷ ("projector", floats (projector H (H * (m * m)) (s .«text_hidden_size»))) ∷ []
+    ∷ ("projector", floats (projector H (H * (m * m)) (s .«text_hidden_size») (hasBias s))) ∷ []

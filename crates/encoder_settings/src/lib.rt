@@ -13,6 +13,7 @@ pub struct EncoderSettings {
     pub num_layers: usize,
     pub intermediate_size: usize,
     pub text_hidden_size: usize,
+    pub projector_bias: usize,
     pub scaling: f32,
 }
 

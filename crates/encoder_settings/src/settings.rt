@@ -20,7 +20,9 @@ pub(crate) fn in_range(s: EncoderSettings) -> bool
     ((4 <= h) & (h <= 2048))
         & (((1 <= n) & (n <= 64))
             & (((4 <= d) & (d <= 256))
-                & ((s.num_layers <= 48) & (((1 <= i) & (i <= 8192)) & ((1 <= x) & (x <= 8192))))))
+                & ((s.num_layers <= 48)
+                    & (((1 <= i) & (i <= 8192))
+                        & (((1 <= x) & (x <= 8192)) & (s.projector_bias <= 1))))))
 }
 
 pub(crate) fn scale_allowed(s: EncoderSettings) -> bool
@@ -54,7 +56,8 @@ pub(crate) fn weights_needed(s: EncoderSettings) -> usize
     let x = s.text_hidden_size;
     let i = s.intermediate_size;
     let layer = 2 * h + 4 * (h * h) + 2 * (i * h) + h * i;
-    let projector = h + h * (h * (m * m)) + x * h + x * x;
+    let bias = s.projector_bias * x;
+    let projector = h + h * (h * (m * m)) + x * h + bias + x * x + bias;
     h * (3 * (p * p)) + h + s.num_layers * layer + projector
 }
 

@@ -4,12 +4,16 @@ use Prim.Native.Nat.{ℕ, _+_, _*_, _≤_}
 use Rattle.picture_limits.specs.Places.{patchFloats}
 use Rattle.picture_limits.specs.Shape.{most}
 use Rattle.encoder_settings.specs.declared.EncoderSettings.{EncoderSettings}
-use Rattle.encoder_settings.specs.Weights.{floats, layer}
+use Rattle.encoder_settings.specs.Weights.{floats, layer, projector, hasBias}
 use Rattle.encoder_settings.specs.Settings.{mergeArea}
 
 -- a layer's floats, as the code works them out
 abbrev pub layerSum : ℕ → ℕ → ℕ
 layerSum H I = 2 * H + 4 * (H * H) + 2 * (I * H) + H * I
+
+-- and the projector's, whose biases are b
+abbrev pub projectorSum : ℕ → ℕ → ℕ → ℕ → ℕ
+projectorSum H wide X b = H + H * wide + X * H + b * X + X * X + b * X
 
 pub record Bounded (s : EncoderSettings) : Type 0 where
   pub patch-low : 1 ≤ s .picture .«patch_size»
@@ -20,6 +24,8 @@ pub record Bounded (s : EncoderSettings) : Type 0 where
   pub hidden-high : s .«hidden_size» ≤ 2048
   pub inner-high : s .«intermediate_size» ≤ 8192
   pub text-high : s .«text_hidden_size» ≤ 8192
+  pub bias : s .«projector_bias» ≤ 1
+  pub biases : s .«projector_bias» * s .«text_hidden_size» ≤ 8192
   pub squares : s .«hidden_size» * s .«hidden_size» ≤ 4194304
   pub outer : s .«hidden_size» * s .«intermediate_size» ≤ 16777216
   pub inner : s .«intermediate_size» * s .«hidden_size» ≤ 16777216
@@ -30,6 +36,7 @@ pub record Bounded (s : EncoderSettings) : Type 0 where
   pub merging : s .«hidden_size» * (s .«hidden_size» * mergeArea (s .picture)) ≤ 67108864
   pub linear-1 : s .«text_hidden_size» * s .«hidden_size» ≤ 16777216
   pub linear-2 : s .«text_hidden_size» * s .«text_hidden_size» ≤ 67108864
+  pub projector-is : projectorSum (s .«hidden_size») (s .«hidden_size» * mergeArea (s .picture)) (s .«text_hidden_size») (s .«projector_bias») ≡ floats (projector (s .«hidden_size») (s .«hidden_size» * mergeArea (s .picture)) (s .«text_hidden_size») (hasBias s))
   pub positions : most (s .picture) * most (s .picture) ≤ 4194304
   pub table : most (s .picture) * most (s .picture) * s .«head_dim» ≤ 1073741824
 
