@@ -1,4 +1,5 @@
 pub mod Sums
+pub mod Biases
 pub mod Fills
 pub mod Pieces
 pub mod Products

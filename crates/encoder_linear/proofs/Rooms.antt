@@ -4,11 +4,12 @@ use mathlib.Core.Bool.{Bool, true, _&&_}
 use mathlib.Core.Path.{_≡_}
 use Prim.Native.Nat.{ℕ, _+_, _*_, _-_, _≤_}
 use native.Mathlib.Omega.{arith}
-use borrow.Author.Tests.{leb-true, le-leb}
+use borrow.Author.Tests.{leb-true, le-leb, eqb-true, eq-eqb}
+use lib.Dec.{eqb}
 use Rattle.buffers.specs.inner.Room.{inside, aside}
 use Rattle.buffers.proofs.Regions.{apart-sub}
 use Rattle.buffers.proofs.Rooms.{and-parts, two, aside-says, aside-is}
-use Rattle.encoder_linear.specs.inner.Room.{linearFits, fromFits, weighFits, weighPairFits}
+use Rattle.encoder_linear.specs.inner.Room.{linearFits, biasFits, fromFits, weighFits, weighPairFits}
 use Rattle.encoder_linear.specs.inner.Fits.{LinearFits, FromFits, WeighFits, WeighPairFits}
 
 module _ {lens lenw x y n nin nout : ℕ} where
@@ -31,6 +32,15 @@ module _ {lens lenw x y n nin nout : ℕ} where
   linear-fits f =
       let w : 0 + nout * nin ≤ lenw = omega (arith, f .win) in
       two (two (le-leb (x + n * nin) lens (f .xin)) (le-leb (y + n * nout) lens (f .yin))) (two (le-leb (0 + nout * nin) lenw w) (aside-is (f .apart)))
+
+module _ {lens lenw lenb x y n nin nout : ℕ} where
+  pub bias-says : biasFits lens lenw lenb x y n nin nout ≡ true → LinearFits lens lenw x y n nin nout × (lenb ≡ nout)
+  unfolding biasFits
+  bias-says h = let p = and-parts (linearFits lens lenw x y n nin nout) (eqb lenb nout) h in (linear-says (p .0), eqb-true lenb nout (p .1))
+
+  pub bias-fits : LinearFits lens lenw x y n nin nout → lenb ≡ nout → biasFits lens lenw lenb x y n nin nout ≡ true
+  unfolding biasFits
+  bias-fits f e = two (linear-fits f) (eq-eqb lenb nout e)
 
 module _ {lenx lens lenw y n nin nout : ℕ} where
   pub from-says : fromFits lenx lens lenw y n nin nout ≡ true → FromFits lenx lens lenw y n nin nout

@@ -1,5 +1,5 @@
 -- Sums, from +0 upward, each product and each sum rounded once; and the linear layer: row r of the result holds, for
--- each row c of w, the sum of x[r, k] * w[c, k]. Assumes nothing.
+-- each row c of w, the sum of x[r, k] * w[c, k], plus b[c] where the layer carries a bias b. Assumes nothing.
 use mathlib.Core.List.{List}
 use Prim.Native.Nat.{ℕ, zero, suc, _*_}
 use lib.ListN.{length, getD}
@@ -7,7 +7,7 @@ use lib.Ieee.{Float, nan, binary32, add, mul}
 use Rattle.buffers.specs.Rows.{tab}
 use Rattle.buffers.specs.Region.{region}
 use Rattle.number_floats.specs.Constants.{zero32}
-use Rattle.buffers.specs.Each.{eachRow}
+use Rattle.buffers.specs.Each.{eachRow, both}
 
 -- f 0 + .. + f (n - 1)
 unfoldable pub sumOf : ℕ → (ℕ → Float) → Float
@@ -24,3 +24,16 @@ linearRow nin nout w x = tab nout (λ c. dotOf x (region w (c * nin) nin))
 -- n rows of nin by each of the nout rows of w
 unfoldable pub linearOf : ℕ → ℕ → ℕ → List Float → List Float → List Float
 linearOf n nin nout w x = eachRow n nin (λ _. linearRow nin nout w) x
+
+-- each of n rows of nout finished sums plus the bias, one addition each
+unfoldable pub biased : ℕ → ℕ → List Float → List Float → List Float
+biased n nout b y = eachRow n nout (λ _ r. both nan nout (λ s c. add binary32 s c) r b) y
+
+-- what a linear layer carries: no bias, which is not a bias of zeros, or one
+pub data Bias : Type 0 where
+  none : Bias
+  carried : List Float → Bias
+
+unfoldable pub linearBy : Bias → ℕ → ℕ → ℕ → List Float → List Float → List Float
+linearBy none n nin nout w x = linearOf n nin nout w x
+linearBy (carried b) n nin nout w x = biased n nout b (linearOf n nin nout w x)

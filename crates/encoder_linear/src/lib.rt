@@ -1,4 +1,5 @@
 // Sums side by side: the linear layer and weighted sums.
+pub mod bias;
 mod few;
 mod lanes;
 pub mod linear;

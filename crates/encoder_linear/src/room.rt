@@ -1,6 +1,6 @@
 // Whether what a sum is handed fits. No test forms a number that could wrap.
 ghost use mathlib.Core.Path.{_≡_};
-ghost use Rattle.encoder_linear.specs.inner.Room.{linearFits, fromFits, weighFits, weighPairFits};
+ghost use Rattle.encoder_linear.specs.inner.Room.{linearFits, biasFits, fromFits, weighFits, weighPairFits};
 use buffers::room::aside;
 use buffers::room::inside;
 use buffers::room::rows_inside;
@@ -20,6 +20,21 @@ pub(crate) fn linear_fits(
         return rows_inside(lenw, 0, nout, nin) & aside(x, n * nin, y, n * nout);
     }
     false
+}
+
+pub(crate) fn bias_fits(
+    lens: usize,
+    lenw: usize,
+    lenb: usize,
+    x: usize,
+    y: usize,
+    n: usize,
+    nin: usize,
+    nout: usize,
+) -> bool
+    ensures { λ r. ⌜ r ≡ biasFits lens lenw lenb x y n nin nout ⌝ }
+{
+    linear_fits(lens, lenw, x, y, n, nin, nout) & (lenb == nout)
 }
 
 pub(crate) fn from_fits(

@@ -76,6 +76,11 @@ pub record LinearFits (lens lenw x y n nin nout : ℕ) : Type 0 where
   pub win : nout * nin ≤ lenw
   pub apart : Apart x (n * nin) y (n * nout)
 
+-- n rows of d at y, and a row to add to each
+pub record RowsFit (lens lenb y n d : ℕ) : Type 0 where
+  pub yin : y + n * d ≤ lens
+  pub long : lenb ≡ d
+
 -- up to sixteen of them, and n of the products of each sum
 pub record BlockFits (lens lenw x y r nin nout : ℕ) : Type 0 where
   pub some : 0 < r

@@ -1,12 +1,17 @@
 -- Whether what a sum is handed fits. Assumes nothing.
 use mathlib.Core.Bool.{Bool, _&&_}
 use Prim.Native.Nat.{ℕ, _*_}
+use lib.Dec.{eqb}
 use Rattle.buffers.specs.inner.Room.{inside, aside}
 
 -- n rows of nin at x, by nout rows of weights, to y
 unfoldable pub linearFits : ℕ → ℕ → ℕ → ℕ → ℕ → ℕ → ℕ → Bool
 linearFits lens lenw x y n nin nout =
     (inside lens x (n * nin) && inside lens y (n * nout)) && (inside lenw 0 (nout * nin) && aside x (n * nin) y (n * nout))
+
+-- and with a bias
+unfoldable pub biasFits : ℕ → ℕ → ℕ → ℕ → ℕ → ℕ → ℕ → ℕ → Bool
+biasFits lens lenw lenb x y n nin nout = linearFits lens lenw x y n nin nout && eqb lenb nout
 
 -- the first n rows of another slice, to y
 unfoldable pub fromFits : ℕ → ℕ → ℕ → ℕ → ℕ → ℕ → ℕ → Bool
