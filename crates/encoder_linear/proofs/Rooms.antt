@@ -1,7 +1,7 @@
 -- Laws of what fits: a test that passes gives what the inner functions ask, and what they ask passes the test.
 -- Assumes nothing.
-use mathlib.Core.Bool.{Bool, true, _&&_}
-use mathlib.Core.Path.{_≡_}
+use mathlib.Core.Bool.{Bool, true, false, _&&_}
+use mathlib.Core.Path.{_≡_, refl, ap, _∙_}
 use Prim.Native.Nat.{ℕ, _+_, _*_, _-_, _≤_}
 use native.Mathlib.Omega.{arith}
 use borrow.Author.Tests.{leb-true, le-leb, eqb-true, eq-eqb}
@@ -38,9 +38,14 @@ module _ {lens lenw lenb x y n nin nout : ℕ} where
   unfolding biasFits
   bias-says h = let p = and-parts (linearFits lens lenw x y n nin nout) (eqb lenb nout) h in (linear-says (p .0), eqb-true lenb nout (p .1))
 
-  pub bias-fits : LinearFits lens lenw x y n nin nout → lenb ≡ nout → biasFits lens lenw lenb x y n nin nout ≡ true
-  unfolding biasFits
-  bias-fits f e = two (linear-fits f) (eq-eqb lenb nout e)
+and-true : (a : Bool) → a && true ≡ a
+and-true true = refl
+and-true false = refl
+
+-- a bias as long as a row asks nothing more
+pub bias-same : (lens lenw x y n nin nout : ℕ) → biasFits lens lenw nout x y n nin nout ≡ linearFits lens lenw x y n nin nout
+unfolding biasFits
+bias-same lens lenw x y n nin nout = ap (λ (b : Bool). linearFits lens lenw x y n nin nout && b) (eq-eqb nout nout refl) ∙ and-true (linearFits lens lenw x y n nin nout)
 
 module _ {lenx lens lenw y n nin nout : ℕ} where
   pub from-says : fromFits lenx lens lenw y n nin nout ≡ true → FromFits lenx lens lenw y n nin nout

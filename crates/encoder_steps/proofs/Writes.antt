@@ -14,8 +14,8 @@ use Rattle.buffers.specs.inner.Apart.{Apart}
 use Rattle.buffers.specs.inner.Room.{inside, whereFits}
 use Rattle.buffers.proofs.Regions.{length-put, region-put, region-put-same}
 use Rattle.buffers.proofs.Rooms.{two}
-use Rattle.encoder_linear.specs.Linear.{linearOf}
-use Rattle.encoder_linear.proofs.Sums.{length-linear}
+use Rattle.encoder_linear.specs.Linear.{linearOf, carried, linearBy}
+use Rattle.encoder_linear.proofs.Sums.{length-linear, length-linear-by}
 use Rattle.encoder_linear.specs.inner.Fits.{FromFits}
 use Rattle.encoder_linear.specs.inner.Room.{fromFits}
 use Rattle.encoder_linear.proofs.Rooms.{linear-fits, from-fits}
@@ -33,7 +33,7 @@ use Rattle.encoder_kernels.proofs.Lengths.{length-norm}
 use Rattle.encoder_kernels.proofs.Rooms.{norm-fits, rotate-fits}
 use Rattle.encoder_kernels.proofs.Rotated.{length-rotate}
 use Rattle.encoder_steps.specs.Run.{Run, stopped, went, answer, thenRun}
-use Rattle.encoder_steps.specs.inner.Step.{finiteAt, linearAtFits, LinearAt, Tried, Wrote}
+use Rattle.encoder_steps.specs.inner.Step.{finiteAt, linearAtFits, biasAtFits, LinearAt, Tried, Wrote}
 
 pub answer-then : (a b : Bool) (l m : List Float) (f : List Float → Run) → f l ≡ answer b m → answer (a && b) m ≡ thenRun (answer a l) f
 answer-then true b l m f e = sym e
@@ -108,6 +108,17 @@ module _ {s t : List Float} {ok r : Bool} where
       tried (linearAtFits (length s) (length w) x y n nin nout at) (linearOf n nin nout m l) y (n * nout)
       (two (le-leb (at + nout * nin) (length w) (f .wIn)) (linear-fits (record { xin = f .xIn; yin = f .yIn; win = le-refl (nout * nin); apart = f .apart })))
       (length-linear n nin nout m l) (f .yIn)
+
+  pub linear-bias-wrote : (w : List Float) (x y n nin nout at b : ℕ) → LinearAt (length s) (length w) x y n nin nout at → b + nout ≤ length w
+      → Tried (biasAtFits (length s) (length w) x y n nin nout at b) s t y (n * nout) (linearBy (carried (region w b nout)) n nin nout (region w at (nout * nin)) (region s x (n * nin))) ok r
+      → Wrote s t y (linearBy (carried (region w b nout)) n nin nout (region w at (nout * nin)) (region s x (n * nin))) ok r
+  unfolding biasAtFits
+  linear-bias-wrote w x y n nin nout at b f h =
+      let m = region w at (nout * nin) in
+      let l = region s x (n * nin) in
+      tried (biasAtFits (length s) (length w) x y n nin nout at b) (linearBy (carried (region w b nout)) n nin nout m l) y (n * nout)
+      (two (two (le-leb (at + nout * nin) (length w) (f .wIn)) (le-leb (b + nout) (length w) h)) (linear-fits (record { xin = f .xIn; yin = f .yIn; win = le-refl (nout * nin); apart = f .apart })))
+      (length-linear-by (carried (region w b nout)) n nin nout m l) (f .yIn)
 
   pub linear-from-wrote : (x w : List Float) (y n nin nout : ℕ) → FromFits (length x) (length s) (length w) y n nin nout
       → FromTried x w y n nin nout s t ok r → Wrote s t y (linearOf n nin nout w x) ok r

@@ -5,14 +5,14 @@ ghost use Prim.Native.Nat.{_+_, _*_};
 ghost use lib.ListN.{length};
 ghost use Rattle.buffers.specs.Region.{region};
 ghost use Rattle.buffers.specs.inner.Room as R;
-ghost use Rattle.encoder_linear.specs.Linear.{linearOf};
+ghost use Rattle.encoder_linear.specs.Linear.{linearOf, carried, linearBy};
 ghost use Rattle.encoder_linear.specs.inner.Room.{fromFits};
 ghost use Rattle.encoder_elements.specs.Element.{added, gated, gelued, rounded};
 ghost use Rattle.encoder_elements.specs.inner.Room.{pairFits};
 ghost use Rattle.encoder_kernels.specs.Norm.{normOf};
 ghost use Rattle.encoder_kernels.specs.Rotate.{rotateOf};
 ghost use Rattle.encoder_kernels.specs.inner.Room.{normFits, rotateFits};
-ghost use Rattle.encoder_steps.specs.inner.Step.{finiteAt, linearAtFits, Tried};
+ghost use Rattle.encoder_steps.specs.inner.Step.{finiteAt, linearAtFits, biasAtFits, Tried};
 use buffers::part;
 use buffers::room::inside;
 use buffers::room::rows_inside;
@@ -23,6 +23,7 @@ use encoder_elements::element::truncate_to_bf16_inplace;
 use encoder_kernels::finite::finite;
 use encoder_kernels::norm::rms_norm;
 use encoder_kernels::rotate::rotate;
+use encoder_linear::bias::linear_forward;
 use encoder_linear::linear::linear_from;
 use encoder_linear::linear::linear_no_bias_forward;
 
@@ -73,6 +74,30 @@ pub fn linear_finite(
 {
     if rows_inside(w.len(), at, nout, nin) {
         linear_no_bias_forward(s, x, y, n, nin, nout, part(w, at, nout * nin));
+        return ok & finite_rows(s, y, n, nout);
+    }
+    ok & finite_rows(s, y, n, nout)
+}
+
+// A linear layer with a bias, which stands at place b of the weights.
+pub fn linear_bias_finite(
+    s: &mut [f32],
+    x: usize,
+    y: usize,
+    n: usize,
+    nin: usize,
+    nout: usize,
+    w: &[f32],
+    at: usize,
+    b: usize,
+    ok: bool,
+) -> bool
+    ensures { λ r. ⌜ Tried (biasAtFits (length (now (s .entry))) (length (now (w .entry))) x y n nin nout at b) (now (s .entry)) (now (s .exit)) y (n * nout)
+        (linearBy (carried (region (now (w .entry)) b nout)) n nin nout (region (now (w .entry)) at (nout * nin)) (region (now (s .entry)) x (n * nin))) ok r ⌝ }
+{
+    if rows_inside(w.len(), at, nout, nin) & inside(w.len(), b, nout) {
+        let m = part(w, at, nout * nin);
+        linear_forward(s, x, y, n, nin, nout, m, part(w, b, nout));
         return ok & finite_rows(s, y, n, nout);
     }
     ok & finite_rows(s, y, n, nout)

@@ -19,6 +19,10 @@ finiteAt s y n = inside (length s) y n && allFinite (region s y n)
 unfoldable pub linearAtFits : ℕ → ℕ → ℕ → ℕ → ℕ → ℕ → ℕ → ℕ → Bool
 linearAtFits lens lenw x y n nin nout at = inside lenw at (nout * nin) && linearFits lens (nout * nin) x y n nin nout
 
+-- and with a bias at place b
+unfoldable pub biasAtFits : ℕ → ℕ → ℕ → ℕ → ℕ → ℕ → ℕ → ℕ → ℕ → Bool
+biasAtFits lens lenw x y n nin nout at b = (inside lenw at (nout * nin) && inside lenw b nout) && linearFits lens (nout * nin) x y n nin nout
+
 -- what that asks
 pub record LinearAt (lens lenw x y rows nin nout at : ℕ) : Type 0 where
   pub xIn : x + rows * nin ≤ lens
