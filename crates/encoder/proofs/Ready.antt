@@ -173,12 +173,13 @@ module _ (s : EncoderSettings) (gh gw lenx lenw lenc lenn out lens t o : ℕ) (r
         apart = before (omega (arith, e));
       }
 
-  project-fits : ProjFits t (z .hidden) o (countsOf s z .merged) (s .«text_hidden_size») lens (lenw - (countsOf s z .embedding + countsOf s z .layers)) m gh gw (regionsOf z (o * s .«text_hidden_size») .linear)
+  project-fits : ProjFits t (z .hidden) o (countsOf s z .merged) (s .«text_hidden_size») (s .«projector_bias») lens (lenw - (countsOf s z .embedding + countsOf s z .layers)) m gh gw (regionsOf z (o * s .«text_hidden_size») .linear)
   project-fits =
       let f : o * (z .hidden * (m * m)) ≡ t * z .hidden = merged in
       record {
         small = r .bounds .hidden-high;
-        weights = omega (arith, l .weights-are, r .bounds .layers-are);
+        bias = r .bounds .bias;
+        weights = omega (arith, l .weights-are, r .bounds .layers-are, r .bounds .projector-is);
         same = ap (λ (k : ℕ). k * z .hidden) (sym (r .tokens-are));
         count = count;
         wide-is = refl;

@@ -9,21 +9,21 @@ use lib.ListN.{length}
 use lib.Ieee.{Float}
 use Rattle.buffers.specs.Region.{region, over, copied}
 use Rattle.encoder_settings.specs.declared.EncoderSettings.{EncoderSettings}
-use Rattle.encoder_settings.specs.Weights.{floats, part, embedding, layer, projector, weights}
+use Rattle.encoder_settings.specs.Weights.{floats, part, embedding, layer, projector, hasBias, weights}
 use Rattle.encoder_settings.specs.Settings.{mergeArea, weightFloats}
 use Rattle.encoder_settings.proofs.Weights.{stands}
 use Rattle.picture_limits.specs.Places.{patchFloats}
 use Rattle.encoder_blocks.specs.declared.Sizes.{Sizes}
 use Rattle.encoder.specs.declared.Counts.{Counts}
 use Rattle.encoder.specs.declared.Regions.{Regions}
-use Rattle.encoder_linear.proofs.Sums.{length-linear}
+use Rattle.encoder_linear.proofs.Sums.{length-linear-by}
 use Rattle.encoder_elements.specs.Element.{gelued}
 use Rattle.encoder_steps.specs.Run.{Run, went, stagesFinite, answer, examined, thenRun}
 use Rattle.encoder_steps.proofs.Writes.{answer-then, answer-went, then-went}
 use Rattle.encoder.specs.Embed.{embedRun}
 use Rattle.encoder_blocks.specs.Layers.{layersRun}
 use Rattle.encoder.specs.Merge.{mergeOf}
-use Rattle.encoder.specs.Project.{projNorm, mergingLayer, linear1, linear2, projectRun}
+use Rattle.encoder.specs.Project.{biasOf, projNorm, mergingLayer, linear1, linear2, projectRun}
 use Rattle.encoder_blocks.specs.inner.Live.{hAt}
 use Rattle.encoder.specs.inner.Live.{regionsOf, countsOf}
 use Rattle.encoder.specs.Stages.{sizesOf, runOf}
@@ -49,12 +49,12 @@ module _ (s : EncoderSettings) (gh gw t o : ℕ) (w cos sin x : List Float) wher
       → ok ≡ stagesFinite true (x ∷ w ∷ cos ∷ sin ∷ [])
       → answer a (hAt z s₁) ≡ embedRun z (p .patch) v₁ x
       → answer b (hAt z s₂) ≡ layersRun z v₂ cos sin (s .«num_layers») (hAt z s₁)
-      → answer c (region s₃ (q .linear + e) e) ≡ projectRun t (z .hidden) o (p .merged) (s .«text_hidden_size») (s .picture .«spatial_merge_size») gh gw v₃ (region s₂ 0 (t * z .hidden))
+      → answer c (region s₃ (q .linear + e) e) ≡ projectRun t (z .hidden) o (p .merged) (s .«text_hidden_size») (hasBias s) (s .picture .«spatial_merge_size») gh gw v₃ (region s₂ 0 (t * z .hidden))
       → answer (((ok && a) && b) && c) (region s₃ (q .linear + e) e) ≡ runOf s gh gw t o w cos sin x
   unfolding runOf
   run-of v₁ v₂ v₃ s₁ s₂ s₃ ok a b c f₁ f₂ f₃ d₁ d₂ d₃ i g l k =
       let T = weights s in
-      let P : List Float → List Float → Run = λ u m. projectRun t (z .hidden) o (p .merged) (s .«text_hidden_size») (s .picture .«spatial_merge_size») gh gw u m in
+      let P : List Float → List Float → Run = λ u m. projectRun t (z .hidden) o (p .merged) (s .«text_hidden_size») (hasBias s) (s .picture .«spatial_merge_size») gh gw u m in
       let E : List Float → List Float → Run = λ u m. embedRun z (p .patch) u m in
       let L : List Float → List Float → Run = λ u m. layersRun z u cos sin (s .«num_layers») m in
       let g₁ = d₁ ∙ stands T "embedding" w 0 (p .embedding) (omega arith) (omega (arith, f₁)) in
@@ -73,15 +73,15 @@ pub copied-over : (ys old : List Float) → length ys ≤ length old → copied 
 unfolding copied
 copied-over ys old h = rw (le-leb (length ys) (length old) h)
 
-project-long : (t dim o wide text merge gh gw : ℕ) (w h l : List Float) → projectRun t dim o wide text merge gh gw w h ≡ went l → length l ≡ o * text
+project-long : (t dim o wide text : ℕ) (bias : Bool) (merge gh gw : ℕ) (w h l : List Float) → projectRun t dim o wide text bias merge gh gw w h ≡ went l → length l ≡ o * text
 unfolding projectRun linear2
-project-long t dim o wide text merge gh gw w h l e =
-    let x = projNorm t dim o wide text w h in
-    let a = mergingLayer t dim o wide text w (mergeOf merge gh gw dim x) in
-    let b = linear1 t dim o wide text w a in
+project-long t dim o wide text bias merge gh gw w h l e =
+    let x = projNorm t dim o wide text bias w h in
+    let a = mergingLayer t dim o wide text bias w (mergeOf merge gh gw dim x) in
+    let b = linear1 t dim o wide text bias w a in
     let c = gelued (o * text) b in
-    let d = linear2 t dim o wide text w c in
-    ap length (sym (answer-went (stagesFinite true (x ∷ a ∷ b ∷ c ∷ d ∷ [])) d l e)) ∙ length-linear o text text (part (projector dim wide text) "linear_2" w) c
+    let d = linear2 t dim o wide text bias w c in
+    ap length (sym (answer-went (stagesFinite true (x ∷ a ∷ b ∷ c ∷ d ∷ [])) d l e)) ∙ length-linear-by (biasOf bias (projector dim wide text bias) "linear_2_bias" w) o text text (part (projector dim wide text bias) "linear_2" w) c
 
 -- o rows of the text size
 pub vectors-long : (s : EncoderSettings) (gh gw t o : ℕ) (w cos sin x l : List Float) → runOf s gh gw t o w cos sin x ≡ went l → length l ≡ o * s .«text_hidden_size»
@@ -91,6 +91,6 @@ vectors-long s gh gw t o w cos sin x l e =
     let T = weights s in
     let r = thenRun (thenRun (examined (x ∷ w ∷ cos ∷ sin ∷ []) x) (embedRun z (patchFloats (s .picture .«patch_size»)) (part T "embedding" w))) (layersRun z (part T "layers" w) cos sin (s .«num_layers»)) in
     let wide = z .hidden * mergeArea (s .picture) in
-    let f = projectRun t (z .hidden) o wide (s .«text_hidden_size») (s .picture .«spatial_merge_size») gh gw (part T "projector" w) in
+    let f = projectRun t (z .hidden) o wide (s .«text_hidden_size») (hasBias s) (s .picture .«spatial_merge_size») gh gw (part T "projector" w) in
     let g = then-went r f l e in
-    project-long t (z .hidden) o wide (s .«text_hidden_size») (s .picture .«spatial_merge_size») gh gw (part T "projector" w) (g .0) l (g .1)
+    project-long t (z .hidden) o wide (s .«text_hidden_size») (hasBias s) (s .picture .«spatial_merge_size») gh gw (part T "projector" w) (g .0) l (g .1)

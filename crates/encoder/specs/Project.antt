@@ -1,27 +1,38 @@
--- The projector: norm, spatial merge, merging layer, linear_1, gelu, linear_2. w is its part of the weights. Assumes nothing.
+-- The projector: norm, spatial merge, merging layer, linear_1, gelu, linear_2, the two last with a bias or without. w is its
+-- part of the weights. Assumes nothing.
+use mathlib.Core.Bool.{Bool, true, false}
 use mathlib.Core.List.{List, [], _∷_}
 use Prim.Native.Nat.{ℕ, _*_}
+use Prim.Native.String.{String}
 use lib.Ieee.{Float}
-use Rattle.encoder_settings.specs.Weights.{part, projector}
-use Rattle.encoder_linear.specs.Linear.{linearOf}
+use Rattle.encoder_settings.specs.Weights.{Table, part, projector}
+use Rattle.encoder_linear.specs.Linear.{linearOf, Bias, none, carried, linearBy}
 use Rattle.encoder_kernels.specs.Norm.{normOf}
 use Rattle.encoder_elements.specs.Element.{gelued}
 use Rattle.encoder.specs.Merge.{mergeOf}
 use Rattle.encoder_steps.specs.Run.{Run, examined}
 
--- t tokens of dim; o output tokens, whose merged rows have wide floats; text
-module _ (t dim o wide text : ℕ) where
+-- the bias of that name, where the table has one
+abbrev pub biasOf : Bool → Table → String → List Float → Bias
+biasOf true T name w = carried (part T name w)
+biasOf false T name w = none
+
+-- t tokens of dim; o output tokens, whose merged rows have wide floats; text; whether there is a bias
+module _ (t dim o wide text : ℕ) (bias : Bool) where
+  abbrev parts : Table
+  parts = projector dim wide text bias
+
   unfoldable pub projNorm : List Float → List Float → List Float
-  projNorm w h = normOf t dim (part (projector dim wide text) "norm" w) h
+  projNorm w h = normOf t dim (part parts "norm" w) h
 
   unfoldable pub mergingLayer : List Float → List Float → List Float
-  mergingLayer w g = linearOf o wide dim (part (projector dim wide text) "merging_layer" w) g
+  mergingLayer w g = linearOf o wide dim (part parts "merging_layer" w) g
 
   unfoldable pub linear1 : List Float → List Float → List Float
-  linear1 w a = linearOf o dim text (part (projector dim wide text) "linear_1" w) a
+  linear1 w a = linearBy (biasOf bias parts "linear_1_bias" w) o dim text (part parts "linear_1" w) a
 
   unfoldable pub linear2 : List Float → List Float → List Float
-  linear2 w b = linearOf o text text (part (projector dim wide text) "linear_2" w) b
+  linear2 w b = linearBy (biasOf bias parts "linear_2_bias" w) o text text (part parts "linear_2" w) b
 
   unfoldable pub projectRun : ℕ → ℕ → ℕ → List Float → List Float → Run
   projectRun merge gh gw w h =

@@ -6,7 +6,7 @@ use lib.Ieee.{Float}
 use Rattle.picture_limits.specs.Places.{patchFloats}
 use Rattle.picture_limits.specs.Shape.{most}
 use Rattle.encoder_settings.specs.declared.EncoderSettings.{EncoderSettings}
-use Rattle.encoder_settings.specs.Weights.{part, weights}
+use Rattle.encoder_settings.specs.Weights.{part, hasBias, weights}
 use Rattle.encoder_settings.specs.Settings.{mergeArea}
 use Rattle.encoder_blocks.specs.declared.Sizes.{Sizes}
 use Rattle.encoder_steps.specs.Run.{Run, examined, thenRun}
@@ -35,7 +35,7 @@ runOf s gh gw t o w cos sin x =
     thenRun (thenRun (thenRun (examined (x ∷ w ∷ cos ∷ sin ∷ []) x)
     (embedRun z (patchFloats (s .picture .«patch_size»)) (part (weights s) "embedding" w)))
     (layersRun z (part (weights s) "layers" w) cos sin (s .«num_layers»)))
-    (projectRun t (z .hidden) o (z .hidden * mergeArea (s .picture)) (s .«text_hidden_size») (s .picture .«spatial_merge_size») gh gw (part (weights s) "projector" w))
+    (projectRun t (z .hidden) o (z .hidden * mergeArea (s .picture)) (s .«text_hidden_size») (hasBias s) (s .picture .«spatial_merge_size») gh gw (part (weights s) "projector" w))
 
 abbrev pub forwardRun : EncoderSettings → ℕ → ℕ → List Float → List Float → List Float → List Float → Run
 forwardRun s gh gw = runOf s gh gw (gh * gw) (gh * gw / mergeArea (s .picture))

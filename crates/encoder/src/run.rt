@@ -59,6 +59,7 @@ pub(crate) fn encode(
         o,
         p.merged,
         s.text_hidden_size,
+        s.projector_bias,
         q.spatial_merge_size,
         gh,
         gw,

@@ -7,8 +7,9 @@ use Rattle.encoder_blocks.specs.Sizes.{nOf, mOf}
 use Rattle.encoder_blocks.specs.inner.Fits.{LayersFits}
 use Rattle.encoder_settings.specs.declared.EncoderSettings.{EncoderSettings}
 use Rattle.picture_limits.specs.Places.{patchFloats}
-use Rattle.encoder_settings.specs.Weights.{floats, embedding, layer, projector}
+use Rattle.encoder_settings.specs.Weights.{floats, embedding, layer}
 use Rattle.encoder_settings.specs.Settings.{mergeArea, weightFloats}
+use Rattle.encoder_settings.specs.inner.Bounds.{projectorSum}
 use Rattle.encoder.specs.inner.Live.{regionsOf, countsOf}
 use Rattle.encoder.specs.Stages.{sizesOf}
 
@@ -37,10 +38,11 @@ pub record MergeFits (lens x y total merge gh gw dim : ℕ) : Type 0 where
   pub yIn : y + total ≤ lens
   pub apart : Apart x (gh * gw * dim) y total
 
--- the projector on h at 0, its result at at + o * text
-pub record ProjFits (t dim o wide text lens lenw merge gh gw at : ℕ) : Type 0 where
+-- the projector on h at 0, its result at at + o * text; b is its projector_bias
+pub record ProjFits (t dim o wide text b lens lenw merge gh gw at : ℕ) : Type 0 where
   pub small : dim ≤ 2048
-  pub weights : floats (projector dim wide text) ≤ lenw
+  pub bias : b ≤ 1
+  pub weights : projectorSum dim wide text b ≤ lenw
   pub same : gh * gw * dim ≡ t * dim
   pub count : gh / merge * (gw / merge) ≡ o
   pub wide-is : wide ≡ dim * (merge * merge)
@@ -85,6 +87,6 @@ pub record RunFits (s : EncoderSettings) (gh gw t o lenx lenw lenc lenn lens : �
   pub weights-is : lenw ≡ weightFloats s
   pub embeds : EmbedFits (sizesOf s t gw) lenx lens (countsOf s (sizesOf s t gw) .embedding) (countsOf s (sizesOf s t gw) .patch)
   pub layers : LayersFits (sizesOf s t gw) lens (countsOf s (sizesOf s t gw) .layers) lenc lenn (regionsOf (sizesOf s t gw) (o * s .«text_hidden_size») .row) (s .«num_layers»)
-  pub projects : ProjFits t (s .«hidden_size») o (countsOf s (sizesOf s t gw) .merged) (s .«text_hidden_size») lens
+  pub projects : ProjFits t (s .«hidden_size») o (countsOf s (sizesOf s t gw) .merged) (s .«text_hidden_size») (s .«projector_bias») lens
       (lenw - (countsOf s (sizesOf s t gw) .embedding + countsOf s (sizesOf s t gw) .layers))
       (s .picture .«spatial_merge_size») gh gw (regionsOf (sizesOf s t gw) (o * s .«text_hidden_size») .linear)

@@ -1,10 +1,15 @@
--- What stands behind a block's regions in the scratch, and how the weights are cut.
+-- What stands behind a block's regions in the scratch, how the weights are cut, and where a bias stands.
 -- Assumes nothing.
+use mathlib.Core.Bool.{Bool, true, false}
+use mathlib.Core.List.{List}
 use Prim.Native.Nat.{ℕ, _+_, _*_}
+use lib.Ieee.{Float}
+use Rattle.buffers.specs.Region.{region}
 use Rattle.picture_limits.specs.Places.{patchFloats}
 use Rattle.encoder_settings.specs.declared.EncoderSettings.{EncoderSettings}
 use Rattle.encoder_settings.specs.Settings.{mergeArea}
 use Rattle.encoder_settings.specs.inner.Bounds.{layerSum}
+use Rattle.encoder_linear.specs.Linear.{Bias, none, carried}
 use Rattle.encoder_blocks.specs.declared.Sizes.{Sizes}
 use Rattle.encoder_blocks.specs.Sizes.{nOf, mOf}
 use Rattle.encoder.specs.declared.Counts.{Counts}
@@ -23,3 +28,8 @@ countsOf s z =
       layers = s .«num_layers» * layerSum (z .hidden) (z .inter);
       merged = z .hidden * mergeArea (s .picture);
     }
+
+-- a bias of n floats at at, where there is one
+abbrev pub biasAt : Bool → List Float → ℕ → ℕ → Bias
+biasAt true w at n = carried (region w at n)
+biasAt false w at n = none
