@@ -27,7 +27,7 @@ unfoldable pub placeFrom : Read → ℕ
 placeFrom r = cond (r .whole && smallOf (r .list)) (countedAt (runOf (r .list)) (r .list)) differs
 
 abbrev pub placeOf : List ℕ → ℕ
-placeOf line = placeFrom (readOf 26 line)
+placeOf line = placeFrom (readOf 27 line)
 
 -- the counts after each of the lines
 unfoldable pub tally : List ℕ → List (List ℕ) → List ℕ

@@ -27,7 +27,7 @@ answerOf s gh gw w cos sin x scratch out =
     (floatHash (outOf s gh gw w cos sin x (length scratch) out))
     (floatHash (scratchOf s gh gw w cos sin x (length out) scratch))
 
--- ---- a record of 26 numbers
+-- ---- a record of 27 numbers
 
 abbrev pub at : List ℕ → ℕ → ℕ
 at v k = getD v k 0
@@ -50,6 +50,7 @@ settingsOf v =
       «num_layers» = at v 6;
       «intermediate_size» = at v 7;
       «text_hidden_size» = at v 8;
+      «projector_bias» = at v 26;
       scaling = ofBits binary32 (at v 9 % 4294967296);
     }
 

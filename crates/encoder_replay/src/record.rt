@@ -9,7 +9,7 @@ use libc::STDOUT_FILENO;
 use replay::line::read_line;
 
 // Where a record's call is counted: by its number, and past these where it differs.
-fn place_of(a: Answer, v: &[usize; 26]) -> usize
+fn place_of(a: Answer, v: &[usize; 27]) -> usize
     ensures { λ r. ⌜ (r ≡ countedAt a (now (v .entry))) × (r < 14) ⌝ }
 {
     let same = (a.number == v[21]) & (a.tokens == v[22]) & (a.out == v[23]) & (a.scratch == v[24]);
@@ -48,7 +48,7 @@ fn bad(line: &[u8]) -> usize
 }
 
 // Whether the lengths of a record fit the buffers.
-fn small(v: &[usize; 26]) -> bool
+fn small(v: &[usize; 27]) -> bool
     ensures { λ r. ⌜ r ≡ smallOf (now (v .entry)) ⌝ }
 {
     (v[12] <= 1024)
@@ -62,7 +62,7 @@ fn small(v: &[usize; 26]) -> bool
 pub(crate) fn judge(line: &[u8]) -> usize
     ensures { λ r. ⌜ (r ≡ placeOf (now (line .entry))) × (r < 14) ⌝ }
 {
-    let mut v = [0usize; 26];
+    let mut v = [0usize; 27];
     if !read_line(line, &mut v) {
         return bad(line);
     }

@@ -1,4 +1,4 @@
-// A record's call. v holds its 26 numbers, in the order that main.rt lists.
+// A record's call. v holds its 27 numbers, in the order that main.rt lists.
 ghost use mathlib.Core.Path.{_≡_};
 ghost use lib.ListN.{length};
 ghost use Rattle.encoder_replay.specs.Run.{answerOf, settingsOf, inputsFrom, callOf, runOf};
@@ -60,7 +60,7 @@ fn encode(
 }
 
 // Means and deviations of 0, which preprocess refuses and forward never reads.
-fn settings(v: &[usize; 26]) -> EncoderSettings
+fn settings(v: &[usize; 27]) -> EncoderSettings
     ensures { λ r. ⌜ r ≡ settingsOf (now (v .entry)) ⌝ }
 {
     let p = PictureSettings {
@@ -79,12 +79,13 @@ fn settings(v: &[usize; 26]) -> EncoderSettings
         num_layers: v[6],
         intermediate_size: v[7],
         text_hidden_size: v[8],
+        projector_bias: v[26],
         scaling: number_floats::pattern::f32_of_bits((v[9] % 4294967296) as u32),
     }
 }
 
 // The inputs of a record's seed, once they are damaged.
-fn inputs(v: &[usize; 26], cells: &mut [f32])
+fn inputs(v: &[usize; 27], cells: &mut [f32])
     ensures { λ _. ⌜ now (cells .exit) ≡ inputsFrom (now (v .entry)) (length (now (cells .entry))) ⌝ }
 {
     fill_units(v[18], cells);
@@ -92,7 +93,7 @@ fn inputs(v: &[usize; 26], cells: &mut [f32])
 }
 
 // The call over the front of each buffer.
-fn call(v: &[usize; 26], cells: &[f32], scratch: &mut [f32], out: &mut [f32]) -> Answer
+fn call(v: &[usize; 27], cells: &[f32], scratch: &mut [f32], out: &mut [f32]) -> Answer
     requires { ⌜ Small (now v) ⌝ }
     requires { ⌜ Room (length (now cells)) (length (now scratch)) (length (now out)) ⌝ }
     ensures { λ r. ⌜ r ≡ callOf (now (v .entry)) (now (cells .entry)) (now (scratch .entry)) (now (out .entry)) ⌝ }
@@ -116,7 +117,7 @@ fn call(v: &[usize; 26], cells: &[f32], scratch: &mut [f32], out: &mut [f32]) ->
     )
 }
 
-pub(crate) fn run(v: &[usize; 26]) -> Answer
+pub(crate) fn run(v: &[usize; 27]) -> Answer
     requires { ⌜ Small (now v) ⌝ }
     ensures { λ r. ⌜ r ≡ runOf (now (v .entry)) ⌝ }
 {

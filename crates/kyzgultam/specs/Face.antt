@@ -51,6 +51,7 @@ innerEncoder s =
       «num_layers» = s .«num_layers»;
       «intermediate_size» = s .«intermediate_size»;
       «text_hidden_size» = s .«text_hidden_size»;
+      «projector_bias» = s .«projector_bias»;
       scaling = s .scaling;
     }
 

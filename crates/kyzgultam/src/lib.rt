@@ -56,6 +56,7 @@ pub struct EncoderSettings {
     pub num_layers: usize,
     pub intermediate_size: usize,
     pub text_hidden_size: usize,
+    pub projector_bias: usize,
     pub scaling: f32,
 }
 
@@ -102,6 +103,7 @@ fn encoder_settings(s: EncoderSettings) -> encoder_settings::EncoderSettings
         num_layers: s.num_layers,
         intermediate_size: s.intermediate_size,
         text_hidden_size: s.text_hidden_size,
+        projector_bias: s.projector_bias,
         scaling: s.scaling,
     }
 }

@@ -33,6 +33,9 @@ element-copy-out-t27 c = search needs
 element-copy-out-t30 : tie.Need-element-copy-out-t30
 element-copy-out-t30 c = search needs
 
+element-copy-out-t33 : tie.Need-element-copy-out-t33
+element-copy-out-t33 c = search needs
+
 element-copy-out-f32-of-bits : tie.Need-element-copy-out-f32-of-bits
 element-copy-out-f32-of-bits c = search needs
 
@@ -59,6 +62,7 @@ settings-spec =
     element-copy-out-t14-2
     element-copy-out-t27
     element-copy-out-t30
+    element-copy-out-t33
     element-copy-out-f32-of-bits
     cast-f32-of-bits
     f32-of-bits-requires
