@@ -16,7 +16,7 @@ use Rattle.buffers.proofs.Regions.{put-append, put-put, put-comm, put-split, re
 use Rattle.buffers.proofs.Lists.{fit, length-tab, tab-add, length-rows}
 use Rattle.buffers.proofs.Steps.{blank-region}
 use Rattle.encoder_kernels.specs.Finite.{allFinite}
-use Rattle.encoder_kernels.proofs.Finites.{all-finite-append}
+use Rattle.encoder_kernels.proofs.Finites.{all-finite-append, all-finite-rows}
 
 module _ {A : Type 0} where
   -- a write apart from the pieces may come before them
@@ -126,11 +126,6 @@ all-swap : (n m : ℕ) (f : ℕ → ℕ → Bool) → all n (λ i. all m (f i)) 
 unfolding all
 all-swap zero m f = all-true m
 all-swap (suc n) m f = ap (λ b. b && all m (f n)) (all-swap n m f) ∙ all-and m (λ j. all n (λ i. f i j)) (f n)
-
-all-finite-rows : (n : ℕ) (f : ℕ → List Float) → allFinite (rows n f) ≡ all n (λ i. allFinite (f i))
-unfolding rows all allFinite
-all-finite-rows zero f = refl
-all-finite-rows (suc n) f = all-finite-append (rows n f) (f n) ∙ ap (λ b. b && allFinite (f n)) (all-finite-rows n f)
 
 all-finites : (n m : ℕ) (f : ℕ → ℕ → List Float) → allFinite (rows n (λ i. rows m (f i))) ≡ all n (λ i. all m (λ j. allFinite (f i j)))
 unfolding rows all allFinite

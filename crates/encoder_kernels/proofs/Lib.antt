@@ -3,3 +3,4 @@ pub mod Finites
 pub mod Rotated
 pub mod Rooms
 pub mod Unique
+pub mod Biases
