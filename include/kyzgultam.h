@@ -9,7 +9,7 @@
  * Where two versions differ in the first or the second number, an answer may have other bits: docs/DIFFERENCES.md says
  * which. So an archive keeps this beside what it stores. `kz --version` prints it too.
  */
-#define KZ_VERSION "0.2.0"
+#define KZ_VERSION "0.3.0"
 
 #ifdef __cplusplus
 extern "C" {
@@ -174,6 +174,7 @@ struct kz_encoder_settings {
     size_t num_layers;        /* 0..48 */
     size_t intermediate_size; /* 1..8192 */
     size_t text_hidden_size;  /* 1..8192 */
+    size_t projector_bias;    /* 0 or 1: 1 where linear_1 and linear_2 have a bias */
     float scaling;            /* finite and above zero */
 };
 
@@ -191,9 +192,10 @@ struct kz_lengths_report {
  * The token vectors of patches. With t = grid_h * grid_w, o = t / merge^2, H, I and X the hidden, intermediate and
  * text sizes, P = image size / patch: the weights are patch_conv, ln_pre; for each layer attention_norm, q, k, v, o,
  * ffn_norm, gate, up, down; then the projector's norm, merging_layer, linear_1, linear_2; matrices row-major, [out,
- * in]. Each table has P * P * head_dim floats, the row of (h, w) at h * P + w. The scratch has at least 7*t*H +
- * 2*t*I + t + 2*o*X floats; after 0 and 12 all of it is +0, after any other number it is as it was. The output has
- * at least o * X floats. kz_lengths tells all of these lengths.
+ * in]. With a projector_bias of 1 a bias of X floats stands right behind linear_1 and another behind linear_2, each
+ * added to its layer's finished sums; with 0 neither takes a place. Each table has P * P * head_dim floats, the row of
+ * (h, w) at h * P + w. The scratch has at least 7*t*H + 2*t*I + t + 2*o*X floats; after 0 and 12 all of it is +0, after
+ * any other number it is as it was. The output has at least o * X floats. kz_lengths tells all of these lengths.
  * Refused with 1, 6, 7, 9, 10, 5, 11, 12.
  */
 struct kz_forward_report kz_forward(struct kz_encoder_settings settings, const float *patches, size_t patches_len,

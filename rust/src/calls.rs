@@ -150,7 +150,7 @@ pub fn forward(
 ) -> Result<usize, Refusal> {
     let report = unsafe {
         face::kz_forward(
-            *settings,
+            settings.into(),
             patches.as_ptr(),
             patches.len(),
             grid_h,
@@ -179,7 +179,7 @@ pub fn forward(
 /// # let settings = EncoderSettings {
 /// #     picture: PictureSettings::new(2, 1, 8),
 /// #     hidden_size: 4, num_heads: 1, head_dim: 4, num_layers: 0, intermediate_size: 1,
-/// #     text_hidden_size: 3, scaling: 0.5,
+/// #     text_hidden_size: 3, projector_bias: false, scaling: 0.5,
 /// # };
 /// # let weights = vec![0.5; settings.weights_len()?];
 /// # let (cos, sin) = (vec![1.0; settings.tables_len()?], vec![0.0; settings.tables_len()?]);

@@ -1,6 +1,35 @@
 //! The C declarations of include/kyzgultam.h.
 
-use crate::{EncoderSettings, PictureSettings};
+use crate::PictureSettings;
+
+#[repr(C)]
+pub struct EncoderSettings {
+    pub picture: PictureSettings,
+    pub hidden_size: usize,
+    pub num_heads: usize,
+    pub head_dim: usize,
+    pub num_layers: usize,
+    pub intermediate_size: usize,
+    pub text_hidden_size: usize,
+    pub projector_bias: usize,
+    pub scaling: f32,
+}
+
+impl From<&crate::EncoderSettings> for EncoderSettings {
+    fn from(s: &crate::EncoderSettings) -> Self {
+        EncoderSettings {
+            picture: s.picture,
+            hidden_size: s.hidden_size,
+            num_heads: s.num_heads,
+            head_dim: s.head_dim,
+            num_layers: s.num_layers,
+            intermediate_size: s.intermediate_size,
+            text_hidden_size: s.text_hidden_size,
+            projector_bias: s.projector_bias.into(),
+            scaling: s.scaling,
+        }
+    }
+}
 
 #[repr(C)]
 pub struct PreprocessReport {

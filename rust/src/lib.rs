@@ -31,6 +31,7 @@
 //!     num_layers: 1,
 //!     intermediate_size: 24,
 //!     text_hidden_size: 10,
+//!     projector_bias: false,
 //!     scaling: 8f32.powf(-0.5),
 //! };
 //! let lengths = settings.lengths(grid.grid_h, grid.grid_w)?;

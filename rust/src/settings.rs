@@ -53,7 +53,6 @@ pub struct PictureSettings {
 }
 
 /// The sizes of an encoder. The default is the one that the Rust takes where a config says nothing.
-#[repr(C)]
 #[derive(Clone, Copy, Debug, PartialEq)]
 pub struct EncoderSettings {
     /// How a picture is resized and cut.
@@ -70,6 +69,9 @@ pub struct EncoderSettings {
     pub intermediate_size: usize,
     /// 1..8192.
     pub text_hidden_size: usize,
+    /// Whether linear_1 and linear_2 have a bias; in the Rust neither has. Without, it takes no place in the weights,
+    /// where a bias of zeros does.
+    pub projector_bias: bool,
     /// The attention scale, finite and above zero: `head_dim` to the power −0.5 in the Rust.
     pub scaling: f32,
 }
@@ -105,6 +107,7 @@ impl Default for EncoderSettings {
             num_layers: 24,
             intermediate_size: 4096,
             text_hidden_size: 5120,
+            projector_bias: false,
             scaling: 0.125,
         }
     }
@@ -233,7 +236,7 @@ impl EncoderSettings {
     /// ```
     pub fn lengths(&self, grid_h: usize, grid_w: usize) -> Result<Lengths, Refusal> {
         // Safe, since the call takes any numbers and touches no memory.
-        let report = unsafe { face::kz_lengths(*self, grid_h, grid_w) };
+        let report = unsafe { face::kz_lengths(self.into(), grid_h, grid_w) };
         Refusal::check(report.number)?;
         Ok(Lengths {
             patches: report.patches,
@@ -254,7 +257,20 @@ impl EncoderSettings {
     /// size is below patch × merge, no call of [`forward`](crate::forward) can be accepted.
     ///
     /// They are, in this order: patch_conv, ln_pre; for each layer attention_norm, q, k, v, o, ffn_norm, gate, up,
-    /// down; then the projector's norm, merging_layer, linear_1, linear_2. Matrices are row-major, `[out, in]`.
+    /// down; then the projector's norm, merging_layer, linear_1, linear_2. Matrices are row-major, `[out, in]`. With
+    /// [`projector_bias`](Self::projector_bias) a bias of `text_hidden_size` floats stands right behind linear_1 and
+    /// another behind linear_2, each added to its layer's finished sums:
+    ///
+    /// ```
+    /// # fn main() -> Result<(), kyzgultam::Refusal> {
+    /// use kyzgultam::EncoderSettings;
+    ///
+    /// let without = EncoderSettings::default();
+    /// let with = EncoderSettings { projector_bias: true, ..without };
+    /// assert_eq!(with.weights_len()?, without.weights_len()? + 2 * without.text_hidden_size);
+    /// # Ok(())
+    /// # }
+    /// ```
     pub fn weights_len(&self) -> Result<usize, Refusal> {
         Ok(self.smallest()?.weights)
     }

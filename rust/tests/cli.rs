@@ -73,6 +73,7 @@ fn usage() {
         ("patches a.ppm -o out --settings std=0.25", "--settings: std=0.25: a list"),
         ("encode a.ppm -o out --settings colour=1", "--settings: colour=1"),
         ("encode a.ppm -o out --settings scale=wide", "--settings: scale=wide"),
+        ("encode a.ppm -o out --settings bias=yes", "--settings: bias=yes"),
         ("encode a.ppm b/a.ppm -o out", "same file"),
         ("patches a.ppm", "-o DIR is missing"),
         ("patches -o out", "no SWEEP.ppm"),
@@ -322,6 +323,7 @@ fn encode_is_forward() {
         num_layers: 1,
         intermediate_size: 5,
         text_hidden_size: 3,
+        projector_bias: false,
         scaling: 0.5,
     };
     assert_eq!(settings.weights_len(), Ok(WEIGHTS));
@@ -338,6 +340,35 @@ fn encode_is_forward() {
     folder.done(&format!("encode a.ppm -o second {LIST}"));
     assert_eq!(folder.get("first/a.tokens.npy"), folder.get("second/a.tokens.npy"));
     assert_ne!(folder.get("first/a.tokens.npy"), folder.get("out/a.tokens.npy"));
+}
+
+#[test]
+fn encode_with_a_bias() {
+    let folder = Folder::new("bias");
+    sweep(&folder, "a.ppm", 8, 12, 5);
+    let tokens = |out: &str, words: &str| {
+        folder.done(&format!("encode a.ppm -o {out} {words}"));
+        folder.get(&format!("{out}/a.tokens.npy"))
+    };
+    // Built in is none, and one from the seed where it is asked for.
+    let none = tokens("none", LIST);
+    assert_eq!(tokens("without", &format!("{LIST},bias=0")), none);
+    assert_ne!(tokens("with", &format!("{LIST},bias=1")), none);
+
+    // The weights of a file hold both, or neither.
+    let weights = Random(6).floats(WEIGHTS + 6, 0.3);
+    folder.put("w", &plain(&weights[..WEIGHTS]));
+    folder.put("b", &plain(&weights));
+    assert_ne!(tokens("w_out", &format!("--weights w {LIST}")), tokens("b_out", &format!("--weights b {LIST},bias=1")));
+    let bytes = (4 * (WEIGHTS + 6)).to_string();
+    folder.fails(1, &format!("encode a.ppm -o out --weights w {LIST},bias=1"), &["w: ", "number 9", &bytes]);
+    folder.fails(1, &format!("encode a.ppm -o out --weights b {LIST}"), &["b: ", "number 9"]);
+    for bias in [2, usize::MAX] {
+        let refused = ["--settings: refused, number 1: ", "`kz encode --help`"];
+        folder.fails(1, &format!("encode a.ppm -o out {LIST},bias={bias}"), &refused);
+        folder.fails(1, &format!("bench --size 8x8 {LIST},bias={bias}"), &refused);
+    }
+    assert!(folder.done(&format!("bench --size 8x8 {LIST},bias=1")).contains(" with bias, "));
 }
 
 #[test]

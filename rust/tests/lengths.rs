@@ -33,7 +33,8 @@ fn stated(s: &EncoderSettings, grid_h: usize, grid_w: usize) -> Result<Lengths, 
     let t = grid_h * grid_w;
     let o = t / (m * m);
     let layer = 2 * h + 4 * h * h + 3 * h * i;
-    let projector = h + h * h * m * m + x * h + x * x;
+    let bias = if s.projector_bias { x } else { 0 };
+    let projector = h + h * h * m * m + (x * h + bias) + (x * x + bias);
     Ok(Lengths {
         patches: t * 3 * p * p,
         weights: h * 3 * p * p + h + s.num_layers * layer + projector,
@@ -79,6 +80,7 @@ fn any(random: &mut Random) -> EncoderSettings {
         num_layers: random.from(0, 48),
         intermediate_size: random.from(1, 8192),
         text_hidden_size: random.from(1, 8192),
+        projector_bias: random.from(0, 1) == 1,
         scaling: 0.5,
     }
 }
@@ -148,11 +150,12 @@ fn the_largest() {
         num_layers: 48,
         intermediate_size: 8192,
         text_hidden_size: 8192,
+        projector_bias: true,
         scaling: 0.0625,
     };
     let lengths = Lengths {
         patches: 12_582_912,
-        weights: 3_309_512_704,
+        weights: 3_309_529_088,
         tables: 1_073_741_824,
         scratch: 197_572_689_920,
         out: 34_359_738_368,

@@ -18,6 +18,7 @@ const ENCODER: EncoderSettings = EncoderSettings {
     num_layers: 1,
     intermediate_size: 5,
     text_hidden_size: 3,
+    projector_bias: false,
     scaling: 0.5,
 };
 

@@ -181,6 +181,7 @@ fn token_vectors() {
             num_layers: v[6],
             intermediate_size: v[7],
             text_hidden_size: v[8],
+            projector_bias: false,
             scaling: f32::from_bits(v[9] as u32),
         };
         let cells = damaged(states(v[18] as u32).map(unit).take(8192).collect(), v[19], v[20]);

@@ -120,6 +120,7 @@ fn tokens_are_those_of_each_tile() {
         num_layers: 1,
         intermediate_size: 5,
         text_hidden_size: 3,
+        projector_bias: false,
         scaling: 0.5,
     };
     let (cos, sin) = tables.split_at(TABLE);

@@ -648,7 +648,7 @@ enum {
 };
 
 static void forward(void) {
-    const struct kz_encoder_settings good = {KZ_PICTURE_SETTINGS(2, 2, 8), 4, 1, 4, 1, 5, 3, 0.5f};
+    const struct kz_encoder_settings good = {KZ_PICTURE_SETTINGS(2, 2, 8), 4, 1, 4, 1, 5, 3, 0, 0.5f};
     float weights[WEIGHTS], rope_cos[TABLE], rope_sin[TABLE], scratch[SCRATCH + TAIL], out[TOKENS + TAIL];
     float first[TOKENS];
     struct kz_forward_report r;
@@ -722,9 +722,78 @@ static void forward(void) {
     }
 }
 
+/* With a bias of linear_1 and of linear_2, each behind its matrix. */
+static void projector_bias(void) {
+    enum { BIAS_1 = WEIGHTS - 3 * 3, BIAS_2 = WEIGHTS + 3, BIASED = WEIGHTS + 2 * 3 };
+    struct kz_encoder_settings s = {KZ_PICTURE_SETTINGS(2, 2, 8), 4, 1, 4, 1, 5, 3, 1, 0.5f};
+    const struct kz_encoder_settings without = {KZ_PICTURE_SETTINGS(2, 2, 8), 4, 1, 4, 1, 5, 3, 0, 0.5f};
+    const size_t none[] = {2, 3, (size_t)1 << 32, ((size_t)1 << 32) + 1, SIZE_MAX};
+    float weights[BIASED], plain[WEIGHTS], rope_cos[TABLE], rope_sin[TABLE], scratch[SCRATCH], out[TOKENS];
+    float first[TOKENS], sums[TOKENS];
+    struct kz_forward_report r;
+
+    for (size_t i = 0; i < BIASED; i++) weights[i] = (float)(int)(i * 37 % 41) / 82.0f - 0.2f;
+    for (size_t i = 0; i < TABLE; i++) {
+        rope_cos[i] = 0.8f;
+        rope_sin[i] = 0.6f;
+    }
+    /* Zeros for linear_1's: linear_2's is then added to the vectors without a bias, once each. */
+    for (size_t k = 0; k < 3; k++) weights[BIAS_1 + k] = 0;
+    memcpy(plain, weights, BIAS_1 * sizeof *plain);
+    memcpy(plain + BIAS_1, weights + BIAS_1 + 3, 9 * sizeof *plain);
+    r = kz_forward(without, patches, FLOATS, 2, 4, plain, WEIGHTS, rope_cos, TABLE, rope_sin, TABLE, scratch, SCRATCH,
+                   sums, TOKENS);
+    EXPECT(r.number == KZ_ACCEPTED && r.tokens == 2);
+    r = kz_forward(s, patches, FLOATS, 2, 4, weights, BIASED, rope_cos, TABLE, rope_sin, TABLE, scratch, SCRATCH, first,
+                   TOKENS);
+    EXPECT(r.number == KZ_ACCEPTED && r.tokens == 2 && zeroed(scratch, SCRATCH));
+    for (size_t i = 0; i < TOKENS; i++) EXPECT(first[i] == sums[i] + weights[BIAS_2 + i % 3] && first[i] != sums[i]);
+    weights[BIAS_1] = 0.25f;
+    r = kz_forward(s, patches, FLOATS, 2, 4, weights, BIASED, rope_cos, TABLE, rope_sin, TABLE, scratch, SCRATCH, out,
+                   TOKENS);
+    EXPECT(r.number == KZ_ACCEPTED && memcmp(first, out, sizeof first) != 0);
+    EXPECT(kz_lengths(s, 2, 4).weights == BIASED && kz_lengths(s, 2, 4).scratch == SCRATCH);
+
+    /* 9: the biases missing, or one, or one float; and there where the setting tells of none. */
+    for (size_t len = 0; len < BIASED; len++) {
+        mark_all(out, TOKENS);
+        r = kz_forward(s, patches, FLOATS, 2, 4, weights, len, rope_cos, TABLE, rope_sin, TABLE, scratch, SCRATCH, out,
+                       TOKENS);
+        EXPECT(r.number == KZ_WEIGHTS_LENGTH && r.tokens == 0 && marked(out, 0, TOKENS));
+    }
+    r = kz_forward(without, patches, FLOATS, 2, 4, weights, BIASED, rope_cos, TABLE, rope_sin, TABLE, scratch, SCRATCH,
+                   out, TOKENS);
+    EXPECT(r.number == KZ_WEIGHTS_LENGTH && r.tokens == 0 && marked(out, 0, TOKENS));
+
+    /* 12: each float of the biases is examined. */
+    for (size_t i = BIAS_1; i < BIASED; i = i == BIAS_1 + 2 ? BIAS_2 : i + 1) {
+        float kept = weights[i];
+        weights[i] = NAN;
+        mark_all(scratch, SCRATCH);
+        r = kz_forward(s, patches, FLOATS, 2, 4, weights, BIASED, rope_cos, TABLE, rope_sin, TABLE, scratch, SCRATCH,
+                       out, TOKENS);
+        EXPECT(r.number == KZ_NOT_FINITE && r.tokens == 0 && marked(out, 0, TOKENS) && zeroed(scratch, SCRATCH));
+        weights[i] = kept;
+    }
+
+    /* 1, before all others. */
+    for (size_t i = 0; i < sizeof none / sizeof *none; i++) {
+        struct kz_lengths_report l;
+        s.projector_bias = none[i];
+        mark_all(scratch, SCRATCH);
+        r = kz_forward(s, patches, FLOATS, 2, 4, weights, BIASED, rope_cos, TABLE, rope_sin, TABLE, scratch, SCRATCH,
+                       out, TOKENS);
+        EXPECT(r.number == KZ_SETTING && r.tokens == 0 && marked(out, 0, TOKENS) && marked(scratch, 0, SCRATCH));
+        r = kz_forward(s, patches, 0, 0, 5, NULL, 0, NULL, 0, NULL, 0, NULL, 0, NULL, 0);
+        EXPECT(r.number == KZ_SETTING && r.tokens == 0);
+        l = kz_lengths(s, 2, 4);
+        EXPECT(l.number == KZ_SETTING && l.weights == 0 && l.out == 0);
+    }
+}
+
 static void lengths(void) {
-    const struct kz_encoder_settings good = {KZ_PICTURE_SETTINGS(2, 2, 8), 4, 1, 4, 1, 5, 3, 0.5f};
-    const struct kz_encoder_settings largest = {KZ_PICTURE_SETTINGS(1, 1, 2048), 2048, 8, 256, 48, 8192, 8192, 0.5f};
+    const struct kz_encoder_settings good = {KZ_PICTURE_SETTINGS(2, 2, 8), 4, 1, 4, 1, 5, 3, 0, 0.5f};
+    const struct kz_encoder_settings largest = {KZ_PICTURE_SETTINGS(1, 1, 2048), 2048, 8, 256, 48, 8192, 8192, 1, 0.5f};
     const size_t t = 2048 * 2048, h = 2048, i = 8192, x = 8192;
     struct kz_lengths_report r = kz_lengths(good, 2, 4);
 
@@ -746,7 +815,7 @@ static void lengths(void) {
     /* More than 32 bits can count. */
     r = kz_lengths(largest, 2048, 2048);
     EXPECT(r.number == KZ_ACCEPTED && r.patches == t * 3);
-    EXPECT(r.weights == h * 3 + h + 48 * (2 * h + 4 * h * h + 3 * h * i) + h + h * h + x * h + x * x);
+    EXPECT(r.weights == h * 3 + h + 48 * (2 * h + 4 * h * h + 3 * h * i) + h + h * h + x * h + x + x * x + x);
     EXPECT(r.tables == t * 256 && r.scratch == 7 * t * h + 2 * t * i + t + 2 * t * x && r.out == t * x);
 
     struct {
@@ -754,25 +823,25 @@ static void lengths(void) {
         struct kz_encoder_settings settings;
         size_t grid_h, grid_w;
     } calls[] = {
-        {KZ_SETTING, {KZ_PICTURE_SETTINGS(0, 2, 8), 4, 1, 4, 1, 5, 3, 0.5f}, 2, 4},
-        {KZ_SETTING, {KZ_PICTURE_SETTINGS(2, 5, 8), 4, 1, 4, 1, 5, 3, 0.5f}, 2, 4},
-        {KZ_SETTING, {KZ_PICTURE_SETTINGS(2, 2, SIZE_MAX), 4, 1, 4, 1, 5, 3, 0.5f}, 2, 4},
-        {KZ_SETTING, {ruled(0), 4, 1, 4, 1, 5, 3, 0.5f}, 2, 4},
-        {KZ_SETTING, {ruled(3), 4, 1, 4, 1, 5, 3, 0.5f}, 2, 4},
-        {KZ_SETTING, {ruled(SIZE_MAX), 4, 1, 4, 1, 5, 3, 0.5f}, 0, 5},
-        {KZ_SETTING, {KZ_PICTURE_SETTINGS(2, 2, 8), 8, 1, 4, 1, 5, 3, 0.5f}, 2, 4},
-        {KZ_SETTING, {KZ_PICTURE_SETTINGS(2, 2, 8), 4, 0, 4, 1, 5, 3, 0.5f}, 2, 4},
-        {KZ_SETTING, {KZ_PICTURE_SETTINGS(2, 2, 8), 6, 1, 6, 1, 5, 3, 0.5f}, 2, 4},
-        {KZ_SETTING, {KZ_PICTURE_SETTINGS(2, 2, 8), 4, 1, 4, 49, 5, 3, 0.5f}, 0, 5},
-        {KZ_SETTING, {KZ_PICTURE_SETTINGS(2, 2, 8), 4, 1, 4, 1, 8193, 3, 0.5f}, 2, 4},
-        {KZ_SETTING, {KZ_PICTURE_SETTINGS(2, 2, 8), 4, 1, 4, 1, 5, 0, 0.5f}, 2, 4},
-        {KZ_SETTING, {KZ_PICTURE_SETTINGS(2, 2, 8), 4, 1, 4, 1, 5, 3, 0.0f}, 2, 4},
-        {KZ_GRID, {KZ_PICTURE_SETTINGS(2, 2, 8), 4, 1, 4, 1, 5, 3, 0.5f}, 0, 4},
-        {KZ_GRID, {KZ_PICTURE_SETTINGS(2, 2, 8), 4, 1, 4, 1, 5, 3, 0.5f}, 2, 6},
-        {KZ_GRID, {KZ_PICTURE_SETTINGS(2, 2, 8), 4, 1, 4, 1, 5, 3, 0.5f}, 3, 4},
-        {KZ_GRID, {KZ_PICTURE_SETTINGS(2, 2, 8), 4, 1, 4, 1, 5, 3, 0.5f}, SIZE_MAX - 1, SIZE_MAX - 1},
-        {KZ_GRID, {KZ_PICTURE_SETTINGS(2, 2, 3), 4, 1, 4, 1, 5, 3, 0.5f}, 2, 2},
-        {KZ_GRID, {with(3, NAN, 0), 4, 1, 4, 1, 5, 3, 0.5f}, 3, 4},
+        {KZ_SETTING, {KZ_PICTURE_SETTINGS(0, 2, 8), 4, 1, 4, 1, 5, 3, 0, 0.5f}, 2, 4},
+        {KZ_SETTING, {KZ_PICTURE_SETTINGS(2, 5, 8), 4, 1, 4, 1, 5, 3, 0, 0.5f}, 2, 4},
+        {KZ_SETTING, {KZ_PICTURE_SETTINGS(2, 2, SIZE_MAX), 4, 1, 4, 1, 5, 3, 0, 0.5f}, 2, 4},
+        {KZ_SETTING, {ruled(0), 4, 1, 4, 1, 5, 3, 0, 0.5f}, 2, 4},
+        {KZ_SETTING, {ruled(3), 4, 1, 4, 1, 5, 3, 0, 0.5f}, 2, 4},
+        {KZ_SETTING, {ruled(SIZE_MAX), 4, 1, 4, 1, 5, 3, 0, 0.5f}, 0, 5},
+        {KZ_SETTING, {KZ_PICTURE_SETTINGS(2, 2, 8), 8, 1, 4, 1, 5, 3, 0, 0.5f}, 2, 4},
+        {KZ_SETTING, {KZ_PICTURE_SETTINGS(2, 2, 8), 4, 0, 4, 1, 5, 3, 0, 0.5f}, 2, 4},
+        {KZ_SETTING, {KZ_PICTURE_SETTINGS(2, 2, 8), 6, 1, 6, 1, 5, 3, 0, 0.5f}, 2, 4},
+        {KZ_SETTING, {KZ_PICTURE_SETTINGS(2, 2, 8), 4, 1, 4, 49, 5, 3, 0, 0.5f}, 0, 5},
+        {KZ_SETTING, {KZ_PICTURE_SETTINGS(2, 2, 8), 4, 1, 4, 1, 8193, 3, 0, 0.5f}, 2, 4},
+        {KZ_SETTING, {KZ_PICTURE_SETTINGS(2, 2, 8), 4, 1, 4, 1, 5, 0, 0, 0.5f}, 2, 4},
+        {KZ_SETTING, {KZ_PICTURE_SETTINGS(2, 2, 8), 4, 1, 4, 1, 5, 3, 0, 0.0f}, 2, 4},
+        {KZ_GRID, {KZ_PICTURE_SETTINGS(2, 2, 8), 4, 1, 4, 1, 5, 3, 0, 0.5f}, 0, 4},
+        {KZ_GRID, {KZ_PICTURE_SETTINGS(2, 2, 8), 4, 1, 4, 1, 5, 3, 0, 0.5f}, 2, 6},
+        {KZ_GRID, {KZ_PICTURE_SETTINGS(2, 2, 8), 4, 1, 4, 1, 5, 3, 0, 0.5f}, 3, 4},
+        {KZ_GRID, {KZ_PICTURE_SETTINGS(2, 2, 8), 4, 1, 4, 1, 5, 3, 0, 0.5f}, SIZE_MAX - 1, SIZE_MAX - 1},
+        {KZ_GRID, {KZ_PICTURE_SETTINGS(2, 2, 3), 4, 1, 4, 1, 5, 3, 0, 0.5f}, 2, 2},
+        {KZ_GRID, {with(3, NAN, 0), 4, 1, 4, 1, 5, 3, 0, 0.5f}, 3, 4},
     };
     for (size_t k = 0; k < sizeof calls / sizeof *calls; k++) {
         r = kz_lengths(calls[k].settings, calls[k].grid_h, calls[k].grid_w);
@@ -822,6 +891,7 @@ int main(void) {
     restore_tile();
     patch();
     forward();
+    projector_bias();
     lengths();
     number();
     packed();

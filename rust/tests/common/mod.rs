@@ -67,6 +67,7 @@ impl Random {
             num_layers: self.from(0, 2),
             intermediate_size: self.from(1, 20),
             text_hidden_size: self.from(1, 20),
+            projector_bias: self.from(0, 1) == 1,
             scaling: 0.5,
         }
     }

@@ -99,13 +99,14 @@ fn alone(given: &Given) -> Result<(), Fail> {
     let model = Model::read(given)?;
     let s = model.settings;
     say(format_args!(
-        "hidden {}, {} heads of {}, {} layers, intermediate {}, text {}, patch {}, merge {}, image {}, rule {}",
+        "hidden {}, {} heads of {}, {} layers, intermediate {}, text {}{}, patch {}, merge {}, image {}, rule {}",
         s.hidden_size,
         s.num_heads,
         s.head_dim,
         s.num_layers,
         s.intermediate_size,
         s.text_hidden_size,
+        if s.projector_bias { " with bias" } else { "" },
         s.picture.patch_size,
         s.picture.spatial_merge_size,
         s.picture.image_size,

@@ -33,14 +33,14 @@ Rust's for theta 10000. --skip-existing goes on with a list that was cut off.
   merge 2 (1..4)     heads 4 (1..64)      intermediate 128 (1..8192)
   image 1540         head: hidden / heads text 64 (1..8192)
     (1..2048)          (4, 8 .. 256)      scale: 1 / root of head
-  rule 1 (1, 2)      mean, deviation: as in the Rust
+  rule 1 (1, 2)      bias 0 (0, 1)        mean, deviation: as in the Rust
 Rule 1, as in the Rust and in all that was archived before there was a choice,
 cuts each side to image by itself and so squashes a longer sweep; 2 keeps its
-shape. A byte becomes (byte / 255 - mean) / deviation: one number for all
-channels or three, as mean=0.2,deviation=0.3/0.25/0.3, by which no two bytes
-may be alike. Where a side is above image, what is said of a file names the
-rule. The file has neither the rule nor means and deviations, so go on with
---skip-existing by those that the list was begun with.
+shape. With bias 1 linear_1 and linear_2 have one. A byte becomes (byte / 255 -
+mean) / deviation: one number for all channels or three, as
+mean=0.2,deviation=0.3/0.25/0.3, by which no two bytes may be alike. Where a
+side is above image, what is said of a file names the rule. The file has no
+settings, so go on with --skip-existing by those that the list was begun with.
 ";
 
 pub const PATCHES: &str = "\

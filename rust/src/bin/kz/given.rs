@@ -1,8 +1,9 @@
 //! What stands on the command line after the command.
 
 use crate::fail::Fail;
+use crate::model::refused_settings;
 use crate::shown::shown;
-use kyzgultam::{EncoderSettings, PictureSettings};
+use kyzgultam::{EncoderSettings, PictureSettings, Refusal};
 use std::ffi::{OsStr, OsString};
 use std::os::unix::ffi::OsStrExt;
 use std::path::PathBuf;
@@ -117,7 +118,7 @@ impl Given {
     /// The built-in model's settings, with those of `--settings` over them. Whether they are allowed the calls decide.
     pub fn settings(&self) -> Result<EncoderSettings, Fail> {
         let mut s = SMALL;
-        let (mut head, mut scale) = (None, None);
+        let (mut head, mut bias, mut scale) = (None, 0, None);
         let list = self.option("--settings").map(|v| v.to_string_lossy().into_owned()).unwrap_or_default();
         for pair in list.split(',').filter(|pair| !pair.is_empty()) {
             let (key, value) = pair.split_once('=').unwrap_or((pair, ""));
@@ -136,19 +137,24 @@ impl Given {
                 "layers" => s.num_layers = number()?,
                 "intermediate" => s.intermediate_size = number()?,
                 "text" => s.text_hidden_size = number()?,
+                "bias" => bias = number()?,
                 "scale" => scale = Some(value.parse().map_err(|_| bad())?),
                 _ => return Err(bad()),
             }
         }
         // As the Rust reads its config: the head width is what the heads leave of the hidden size.
         s.head_dim = head.unwrap_or(s.hidden_size.checked_div(s.num_heads).unwrap_or(0));
+        s.projector_bias = match bias {
+            0 | 1 => bias == 1,
+            _ => return Err(refused_settings(Refusal::Setting)),
+        };
         s.scaling = scale.unwrap_or((s.head_dim as f32).powf(-0.5));
         Ok(s)
     }
 }
 
 const KEYS: &str = "a list of KEY=NUMBER, parted by commas; keys: patch merge image rule mean deviation hidden heads \
-                    head layers intermediate text scale; mean and deviation take one number, or three as 0.5/0.4/0.3";
+                    head layers intermediate text bias scale; mean and deviation take one number, or three as 0.5/0.4/0.3";
 
 /// The model that is built in.
 pub const SMALL: EncoderSettings = EncoderSettings {
@@ -159,6 +165,7 @@ pub const SMALL: EncoderSettings = EncoderSettings {
     num_layers: 2,
     intermediate_size: 128,
     text_hidden_size: 64,
+    projector_bias: false,
     scaling: 0.25,
 };
 

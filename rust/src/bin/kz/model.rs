@@ -173,9 +173,10 @@ impl Random {
 fn seeded(s: &EncoderSettings, mut weights: Vec<f32>) -> Vec<f32> {
     let (h, i, x) = (s.hidden_size, s.intermediate_size, s.text_hidden_size);
     let (p, m) = (s.picture.patch_size, s.picture.spatial_merge_size);
-    // Outputs and inputs of each matrix, in order; a norm has no inputs.
+    // Outputs and inputs of each matrix, in order; a norm has no inputs, and a bias is the matrix of one.
     let layer = [(h, 0), (h, h), (h, h), (h, h), (h, h), (h, 0), (i, h), (i, h), (h, i)];
-    let last = [(h, 0), (h, h * m * m), (x, h), (x, x)];
+    let bias = s.projector_bias.then_some((x, 1));
+    let last = [(h, 0), (h, h * m * m), (x, h)].into_iter().chain(bias).chain([(x, x)]).chain(bias);
     let layers = std::iter::repeat_n(layer, s.num_layers).flatten();
     let mut random = Random::new(14);
     weights.extend((0..h).flat_map(|_| smooth(&mut random, p)));
