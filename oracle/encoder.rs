@@ -1,10 +1,12 @@
 //! Compares libkyzgultam's kz_forward with the Rust, byte for byte, and kz_lengths with the text of the paper.
 //!
-//! The Rust's `PixtralEncoder::forward`, the types and all that it calls are cut from its source, with E and T in
-//! the place of the platform's exp and tanh (`run` does it), one thread, and no log and no progress bar. The order of
-//! stages that are examined for finite values, and the refusals, are stated here from the text of the paper; what the
-//! stages come to is compared with the Rust's forward too. Each call is made twice, with 01's means and deviations and
-//! with others, between which forward and lengths make no difference.
+//! The Rust's `PixtralEncoder::forward`, the types and all that it calls are cut from its source, with E and T in the
+//! place of the platform's exp and tanh (`run` does it), one thread, and no log and no progress bar. The Rust has no
+//! bias: right behind its linear_1 and its linear_2 `run` puts a call of `add_bias`, stated here from the text of
+//! 2026-03, which does nothing where a call has none. The order of stages that are examined for finite values, and the
+//! refusals, are stated here from the text of the paper; what the stages come to is compared with the Rust's forward
+//! too. Each call is made twice, with 01's means and deviations and with others, between which forward and lengths make
+//! no difference.
 //!
 //!     encoder            edges, a call for each stage (stages.rs), and random calls with a fixed seed
 //!     encoder --bench    times ours and the Rust, on one thread (bench.rs); with --quick, on
@@ -81,6 +83,13 @@ mod rust {
         }
     }
 
+    /// A linear layer's bias, where it has one: each finished sum plus its own.
+    fn add_bias(bias: &Option<Vec<f32>>, rows: &mut [f32]) {
+        if let Some(bias) = bias {
+            rows.chunks_mut(bias.len()).for_each(|row| row.iter_mut().zip(bias).for_each(|(x, b)| *x += b));
+        }
+    }
+
     include!(env!("KZ_CUT"));
 
     /// The functions that the stages call, which the Rust keeps to itself.
@@ -97,6 +106,10 @@ mod rust {
         pub fn linear(x: &[f32], l: &LinearNoBias) -> Vec<f32> {
             let mut y = vec![0.0; x.len() / l.in_f * l.out_f];
             linear_no_bias_forward(x, l, &mut y);
+            y
+        }
+        pub fn biased(mut y: Vec<f32>, bias: &Option<Vec<f32>>) -> Vec<f32> {
+            add_bias(bias, &mut y);
             y
         }
         pub fn rotate(x: &mut [f32], cos: &[f32], sin: &[f32]) {
@@ -135,6 +148,7 @@ struct Settings {
     num_layers: usize,
     intermediate_size: usize,
     text_hidden_size: usize,
+    projector_bias: usize,
     scaling: f32,
 }
 
@@ -224,7 +238,9 @@ fn layer_floats(s: &Settings) -> usize {
 
 fn weight_floats(s: &Settings) -> usize {
     let (h, x, mm) = (s.hidden_size, s.text_hidden_size, s.spatial_merge_size * s.spatial_merge_size);
-    h * 3 * s.patch_size * s.patch_size + h + s.num_layers * layer_floats(s) + h + h * h * mm + x * h + x * x
+    let bias = if s.projector_bias == 1 { x } else { 0 };
+    let projector = h + h * h * mm + (x * h + bias) + (x * x + bias);
+    h * 3 * s.patch_size * s.patch_size + h + s.num_layers * layer_floats(s) + projector
 }
 
 fn scratch_floats(s: &Settings, t: usize, o: usize) -> usize {
@@ -245,6 +261,7 @@ fn lengths(s: &Settings, grid: [usize; 2]) -> Lengths {
         && s.num_layers <= 48
         && (1..=8192).contains(&s.intermediate_size)
         && (1..=8192).contains(&s.text_hidden_size)
+        && (0..=1).contains(&s.projector_bias)
         && s.scaling > 0.0
         && s.scaling < f32::INFINITY;
     if !allowed {
@@ -325,11 +342,14 @@ fn model(c: &Call) -> PixtralEncoder {
         blocks.push(PixtralBlock { attention_norm, attn, ffn_norm, ffn });
     }
     let wide = h * s.spatial_merge_size * s.spatial_merge_size;
+    let biased = s.projector_bias == 1;
     let projector = MultiModalProjector {
         norm: norm(take(h)),
         merging_layer: linear(take(h * wide), h, wide),
         linear_1: linear(take(x * h), x, h),
+        linear_1_bias: biased.then(|| take(x)),
         linear_2: linear(take(x * x), x, x),
+        linear_2_bias: biased.then(|| take(x)),
         spatial_merge_size: s.spatial_merge_size,
     };
     PixtralEncoder {
@@ -459,11 +479,11 @@ fn staged(c: &Call, m: &PixtralEncoder, examined: &mut Vec<&'static str>) -> Res
     }
     let a = open::linear(&merged, &m.projector.merging_layer);
     fine("merging_layer", &a)?;
-    let mut b = open::linear(&a, &m.projector.linear_1);
+    let mut b = open::biased(open::linear(&a, &m.projector.linear_1), &m.projector.linear_1_bias);
     fine("linear_1", &b)?;
     open::gelu(&mut b);
     fine("gelu", &b)?;
-    let rows = open::linear(&b, &m.projector.linear_2);
+    let rows = open::biased(open::linear(&b, &m.projector.linear_2), &m.projector.linear_2_bias);
     fine("linear_2", &rows)?;
     Ok(rows)
 }
@@ -629,6 +649,7 @@ fn small(r: &mut Random) -> Call {
         num_layers: r.from(0, 4),
         intermediate_size: r.from(1, 64),
         text_hidden_size: r.from(1, 64),
+        projector_bias: r.from(0, 1),
         scaling: 1.0 / (d as f32).sqrt(),
     };
     sized(r, s, grid, 1.0)
@@ -648,6 +669,7 @@ fn real(side: usize) -> Settings {
         num_layers: 2,
         intermediate_size: 4096,
         text_hidden_size: 1024,
+        projector_bias: 0,
         scaling: 0.125,
     }
 }
@@ -680,7 +702,7 @@ fn changed(r: &mut Random, c: &mut Call) {
     let n = end[r.from(0, end.len() - 1)];
     let odd = [f32::NAN, f32::INFINITY, f32::NEG_INFINITY, 3.0e38, -3.0e38];
     let v = odd[r.from(0, odd.len() - 1)];
-    match r.from(0, 23) {
+    match r.from(0, 24) {
         0 => c.s.patch_size = n,
         1 => c.s.spatial_merge_size = n,
         2 => c.s.image_size = n,
@@ -701,11 +723,12 @@ fn changed(r: &mut Random, c: &mut Call) {
         17 => c.out.truncate(r.from(0, c.out.len())),
         18 => c.scratch.truncate(c.scratch.len() - r.from(0, 4)),
         19 => c.s.resize_rule = n,
+        20 => c.s.projector_bias = n,
         k => {
             let buffer = match k {
-                20 => &mut c.patches,
-                21 => &mut c.cos,
-                22 => &mut c.sin,
+                21 => &mut c.patches,
+                22 => &mut c.cos,
+                23 => &mut c.sin,
                 _ => &mut c.weights,
             };
             if !buffer.is_empty() {
@@ -716,7 +739,8 @@ fn changed(r: &mut Random, c: &mut Call) {
     }
 }
 
-/// Numbers of no resize rule, alone and beside each other refusal; the low 32 bits of the last two are 1 and 2.
+/// Numbers of no resize rule and of no projector_bias, alone and beside each other refusal; the low 32 bits of the last
+/// ones are such a number.
 fn no_rules(r: &mut Random, tally: &mut Tally) {
     let other: [fn(&mut Call); 9] = [
         |_| (),
@@ -734,6 +758,14 @@ fn no_rules(r: &mut Random, tally: &mut Tally) {
             let mut c = small(r);
             change(&mut c);
             c.s.resize_rule = rule;
+            tally.compare(&c);
+        }
+    }
+    for bias in [2, 3, usize::MAX, 1 << 63, 1 << 32, (1 << 32) + 1] {
+        for change in other {
+            let mut c = small(r);
+            change(&mut c);
+            c.s.projector_bias = bias;
             tally.compare(&c);
         }
     }
@@ -756,7 +788,8 @@ fn every_end(tally: &mut Tally) {
         7 => s.intermediate_size = n,
         8 => s.text_hidden_size = n,
         9 => s.resize_rule = n,
-        _ => grid[k - 10] = n,
+        10 => s.projector_bias = n,
+        _ => grid[k - 11] = n,
     };
     let small = Settings { hidden_size: 8, num_heads: 2, head_dim: 4, num_layers: 1, text_hidden_size: 3, ..real(4) };
     let largest = Settings {
@@ -771,11 +804,12 @@ fn every_end(tally: &mut Tally) {
         num_layers: 48,
         intermediate_size: 8192,
         text_hidden_size: 8192,
+        projector_bias: 1,
         scaling: f32::MAX,
     };
     for (base, sides) in [(small, [2, 4]), (real(110), [110, 58]), (largest, [2048, 2048])] {
         tally.lengths(&base, sides);
-        for (j, k) in (0..12).flat_map(|j| (0..=j).map(move |k| (j, k))) {
+        for (j, k) in (0..13).flat_map(|j| (0..=j).map(move |k| (j, k))) {
             for (a, b) in ENDS.into_iter().flat_map(|a| ENDS.map(|b| (a, b))) {
                 let (mut s, mut grid) = (base, sides);
                 put(&mut s, &mut grid, j, a);
@@ -823,11 +857,14 @@ fn edges_and_random() -> bool {
             num_layers: 1,
             intermediate_size: 8,
             text_hidden_size: 8,
+            projector_bias: 0,
             scaling: 0.5,
         };
         tally.under_both(&mut sized(&mut r, s, grid, 1.0));
     }
-    tally.compare(&sized(&mut r, real(4), [2, 2], 0.05));
+    for projector_bias in [0, 1] {
+        tally.compare(&sized(&mut r, Settings { projector_bias, ..real(4) }, [2, 2], 0.05));
+    }
     for (stage, mut c) in stages::calls(&mut r) {
         for stopped in tally.under_both(&mut c) {
             if stopped != stage {
@@ -907,7 +944,7 @@ impl Asked {
         list.extend(self.grid);
         list.extend(self.lengths);
         list.extend([self.seed as usize, self.damage, self.place]);
-        list.extend([a.number as usize, tokens, hash(&out), hash(&work), s.resize_rule]);
+        list.extend([a.number as usize, tokens, hash(&out), hash(&work), s.resize_rule, s.projector_bias]);
         sample::line(&list)
     }
 }
@@ -930,6 +967,7 @@ fn asked(r: &mut Random, layers: usize) -> Asked {
         num_layers: layers,
         intermediate_size: r.from(1, 16),
         text_hidden_size: r.from(1, 16),
+        projector_bias: 0,
         scaling: 1.0 / (d as f32).sqrt(),
     };
     let (t, most) = (grid[0] * grid[1], s.image_size / patch);
@@ -1058,6 +1096,37 @@ fn sample_rules(r: &mut Random, list: &mut Vec<Asked>) {
     }
 }
 
+/// With a bias: accepted with 0 to 2 layers; what is no projector_bias; weights without the biases that the setting
+/// tells of, and with them where it tells of none; the last value of each bias a NaN, -0 and infinity.
+fn sample_biased(r: &mut Random, list: &mut Vec<Asked>) {
+    let mut biased = |layers: usize, change: &dyn Fn(&mut Asked)| {
+        let mut a = asked(r, layers);
+        a.s.projector_bias = 1;
+        a.lengths[1] = weight_floats(&a.s);
+        change(&mut a);
+        list.push(a);
+    };
+    for i in 0..9 {
+        biased(i % 3, &|_| ());
+    }
+    for n in [2, usize::MAX, 1 << 32, (1 << 32) + 1] {
+        biased(1, &|a| a.s.projector_bias = n);
+    }
+    biased(1, &|a| a.lengths[1] -= 2 * a.s.text_hidden_size);
+    biased(1, &|a| a.lengths[1] -= a.s.text_hidden_size);
+    biased(1, &|a| a.s.projector_bias = 0);
+    // The last value of linear_2's bias, and of linear_1's.
+    let last = |a: &Asked, of: usize| {
+        let x = a.s.text_hidden_size;
+        STARTS[1] + a.lengths[1] - 1 - if of == 1 { x * x + x } else { 0 }
+    };
+    for of in [1, 2] {
+        for damage in [2, 3, 4] {
+            biased(1, &|a| (a.damage, a.place) = (damage, last(a, of)));
+        }
+    }
+}
+
 fn sample() -> std::io::Result<()> {
     let mut r = Random(SEED);
     let mut list = Vec::new();
@@ -1065,6 +1134,7 @@ fn sample() -> std::io::Result<()> {
     sample_refused(&mut r, &mut list);
     sample_stopped(&mut r, &mut list);
     sample_rules(&mut r, &mut list);
+    sample_biased(&mut r, &mut list);
     let mut out = std::io::stdout().lock();
     list.iter().try_for_each(|a| writeln!(out, "{}", a.answered()))
 }

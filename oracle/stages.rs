@@ -49,24 +49,56 @@ pub fn reachable() -> Vec<&'static str> {
     examined(1).into_iter().filter(|stage| !FINITE.contains(stage)).collect()
 }
 
-/// Each call with the stage that it stops at; those of a block in the first and in the second.
+/// Each call with the stage that it stops at, without a bias and with one; those of a block in the first and in the
+/// second.
 pub fn calls(r: &mut Random) -> Vec<(Option<&'static str>, Call)> {
-    let calm = calm(r);
-    let mut list = vec![(None, calm.clone())];
-    for stage in reachable() {
-        for layer in 0..if IN_A_BLOCK.contains(&stage) { 2 } else { 1 } {
-            let mut c = calm.clone();
-            overflow(&mut c, stage, layer);
-            list.push((Some(stage), c));
+    let mut list = Vec::new();
+    for bias in [0, 1] {
+        let calm = calm(r, bias);
+        list.push((None, calm.clone()));
+        for stage in reachable() {
+            for layer in 0..if IN_A_BLOCK.contains(&stage) { 2 } else { 1 } {
+                let mut c = calm.clone();
+                overflow(&mut c, stage, layer);
+                list.push((Some(stage), c));
+            }
         }
+        if bias == 1 {
+            list.extend(by_bias(&calm));
+        }
+    }
+    list
+}
+
+/// Calls that a bias stops, by a value of its own that is not finite or by one with which finite sums are not, that stop
+/// since a bias takes nothing back from an infinite sum, and that go on where a bias takes from a large one.
+fn by_bias(calm: &Call) -> Vec<(Option<&'static str>, Call)> {
+    let mut list = Vec::new();
+    for (stage, bias) in [("linear_1", "linear_1 bias"), ("linear_2", "linear_2 bias")] {
+        for (stopped, sums, value) in [
+            ("weights", [0.0; 4], f32::NAN),
+            ("weights", [0.0; 4], f32::NEG_INFINITY),
+            (stage, [0.6 * MAX, 0.0, 0.0, 0.0], 0.9 * MAX),
+            (stage, [MAX, MAX, 0.0, 0.0], -MAX),
+        ] {
+            let mut c = calm.clone();
+            row(&mut c, 0, stage, 3, sums);
+            row(&mut c, 0, bias, 0, [0.0, 0.0, 0.0, value]);
+            list.push((Some(stopped), c));
+        }
+        // Finite before and after.
+        let mut c = calm.clone();
+        row(&mut c, 0, stage, 3, [0.6 * MAX, 0.0, 0.0, 0.0]);
+        row(&mut c, 0, bias, 0, [-0.0, 1e-45, 1.0, -0.6 * MAX]);
+        list.push((None, c));
     }
     list
 }
 
 /// Ten tokens of 1024 in each of four channels, but for the last token's last channel, which is twice that. Every matrix
 /// hands its input on and a norm's weights are 1, ln_pre's 1024, so that a block's bf16 gives 1024 again and norms give 1,
-/// for the last token some 0.76, 0.76, 0.76, 1.51.
-fn calm(r: &mut Random) -> Call {
+/// for the last token some 0.76, 0.76, 0.76, 1.51. A bias is 0.5 in each channel.
+fn calm(r: &mut Random, projector_bias: usize) -> Call {
     let s = Settings {
         patch_size: 1,
         spatial_merge_size: 1,
@@ -79,6 +111,7 @@ fn calm(r: &mut Random) -> Call {
         num_layers: 2,
         intermediate_size: 4,
         text_hidden_size: 4,
+        projector_bias,
         scaling: 0.5,
     };
     let mut c = sized(r, s, [2, 5], 1.0);
@@ -93,6 +126,7 @@ fn calm(r: &mut Random) -> Call {
             "patch_conv" => part.copy_from_slice(&[1024.0, 0.0, 0.0].repeat(4)),
             "ln_pre" => part.fill(1024.0),
             "attention_norm" | "ffn_norm" | "projector norm" => part.fill(1.0),
+            "linear_1 bias" | "linear_2 bias" => part.fill(0.5),
             _ => (0..16).for_each(|i| part[i] = f32::from(u8::from(i % 5 == 0))),
         }
         at += len;
@@ -113,11 +147,15 @@ fn parts(s: &Settings) -> Vec<(usize, &'static str, usize)> {
         list.extend(["gate", "up", "down"].map(|name| (layer, name, square)));
     }
     list.push((0, "projector norm", s.hidden_size));
-    list.extend(["merging_layer", "linear_1", "linear_2"].map(|name| (0, name, square)));
+    list.push((0, "merging_layer", square));
+    for (name, bias) in [("linear_1", "linear_1 bias"), ("linear_2", "linear_2 bias")] {
+        list.push((0, name, square));
+        list.extend((s.projector_bias == 1).then_some((0, bias, s.hidden_size)));
+    }
     list
 }
 
-/// Puts values in the place of a part's row; a norm has one.
+/// Puts values in the place of a part's row; a norm has one, and so has a bias.
 fn row<const N: usize>(c: &mut Call, layer: usize, name: &str, row: usize, values: [f32; N]) {
     let list = parts(&c.s);
     let part = list.iter().position(|part| (part.0, part.1) == (layer, name)).expect("a part of the weights");

@@ -172,7 +172,13 @@ fn token_vectors() {
     const STARTS: [usize; 4] = [0, 1024, 7168, 7680];
     let unit = |x: u32| ((x >> 8) as f32 / 8_388_608.0 - 1.0).to_bits();
     let mut seen = [0; 13];
+    let mut biased = [0; 13];
     for v in records(include_str!("../../crates/encoder_replay/stdin")) {
+        // The crate's projector_bias is a bool; what is none is refused with 1, where it can be asked.
+        if v[26] > 1 {
+            assert_eq!(v[21], 1);
+            continue;
+        }
         let settings = EncoderSettings {
             picture: PictureSettings { resize_rule: v[25], ..PictureSettings::new(v[0], v[1], v[2]) },
             hidden_size: v[3],
@@ -181,7 +187,7 @@ fn token_vectors() {
             num_layers: v[6],
             intermediate_size: v[7],
             text_hidden_size: v[8],
-            projector_bias: false,
+            projector_bias: v[26] == 1,
             scaling: f32::from_bits(v[9] as u32),
         };
         let cells = damaged(states(v[18] as u32).map(unit).take(8192).collect(), v[19], v[20]);
@@ -192,6 +198,8 @@ fn token_vectors() {
         let answer = [number(&found), found.unwrap_or(0), hash_floats(&out), hash_floats(&scratch)];
         assert_eq!(answer[..], v[21..25]);
         seen[number(&found)] += 1;
+        biased[number(&found)] += v[26];
     }
     assert!([0, 1, 5, 6, 7, 9, 10, 11, 12].iter().all(|n| seen[*n] > 0), "{seen:?}");
+    assert!([0, 9, 12].iter().all(|n| biased[*n] > 0), "{biased:?}");
 }
