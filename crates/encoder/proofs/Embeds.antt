@@ -9,10 +9,10 @@ use lib.Ieee.{Float}
 use Rattle.buffers.specs.Region.{region}
 use Rattle.encoder_settings.specs.Weights.{part, embedding}
 use Rattle.encoder_blocks.specs.declared.Sizes.{Sizes}
-use Rattle.encoder_blocks.specs.Sizes.{nOf}
+use Rattle.encoder_blocks.specs.Block.{nOf}
 use Rattle.encoder_elements.specs.Element.{rounded}
 use Rattle.encoder_steps.specs.Run.{stagesFinite, answer}
-use Rattle.encoder.specs.Embed.{patchConv, lnPre, embedRun}
+use Rattle.encoder.specs.Stages.{patchConv, lnPre, embedRun}
 use Rattle.encoder_steps.specs.inner.Step.{Wrote}
 use Rattle.encoder_blocks.specs.inner.Live.{hAt}
 use Rattle.encoder_linear.proofs.Sums.{length-linear}

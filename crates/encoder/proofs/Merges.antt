@@ -11,7 +11,7 @@ use Rattle.buffers.specs.Rows.{tab, rows}
 use Rattle.buffers.specs.Region.{region, put}
 use Rattle.buffers.proofs.Regions.{getD-put, getD-region, apart-sub}
 use Rattle.buffers.proofs.Lists.{fit, length-tab, put-tab, tab-ext, rows-ext, tab-mul, rows-mul}
-use Rattle.encoder.specs.Merge.{placeOf, mergedToken, mergeOf}
+use Rattle.encoder.specs.Stages.{placeOf, mergedToken, mergeOf}
 use Rattle.encoder.specs.inner.Source.{sourceOf, mergedFirst}
 use Rattle.encoder.specs.inner.Fits.{SourceFits, MergeFits}
 

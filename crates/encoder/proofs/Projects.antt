@@ -17,9 +17,8 @@ use Rattle.encoder_settings.proofs.Weights.{stands}
 use Rattle.encoder_linear.specs.Linear.{carried}
 use Rattle.encoder_kernels.specs.Finite.{allFinite}
 use Rattle.encoder_elements.specs.Element.{gelued}
-use Rattle.encoder.specs.Merge.{placeOf, mergedToken, mergeOf}
+use Rattle.encoder.specs.Stages.{placeOf, mergedToken, mergeOf, biasOf, projNorm, mergingLayer, linear1, linear2, projectRun}
 use Rattle.encoder_steps.specs.Run.{stagesFinite, answer}
-use Rattle.encoder.specs.Project.{biasOf, projNorm, mergingLayer, linear1, linear2, projectRun}
 use Rattle.encoder_steps.specs.inner.Step.{Wrote}
 use Rattle.encoder.specs.inner.Live.{biasAt}
 use Rattle.encoder.specs.inner.Fits.{ProjFits}

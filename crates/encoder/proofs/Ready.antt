@@ -14,7 +14,7 @@ use Rattle.encoder_settings.specs.Weights.{floats}
 use Rattle.encoder_settings.proofs.Weights.{layer-long}
 use Rattle.encoder_settings.proofs.Accepted.{Lengths, Ready}
 use Rattle.encoder_blocks.specs.declared.Sizes.{Sizes}
-use Rattle.encoder_blocks.specs.Sizes.{partsOf}
+use Rattle.encoder_blocks.specs.Block.{partsOf}
 use Rattle.encoder.specs.inner.Live.{regionsOf, countsOf}
 use Rattle.encoder.specs.Stages.{sizesOf, runOf, forwardRun}
 use Rattle.encoder_blocks.specs.inner.Fits.{RotationFits, LayersFits}

@@ -20,13 +20,10 @@ use Rattle.encoder_linear.proofs.Sums.{length-linear-by}
 use Rattle.encoder_elements.specs.Element.{gelued}
 use Rattle.encoder_steps.specs.Run.{Run, went, stagesFinite, answer, examined, thenRun}
 use Rattle.encoder_steps.proofs.Writes.{answer-then, answer-went, then-went}
-use Rattle.encoder.specs.Embed.{embedRun}
-use Rattle.encoder_blocks.specs.Layers.{layersRun}
-use Rattle.encoder.specs.Merge.{mergeOf}
-use Rattle.encoder.specs.Project.{biasOf, projNorm, mergingLayer, linear1, linear2, projectRun}
+use Rattle.encoder.specs.Stages.{embedRun, mergeOf, biasOf, projNorm, mergingLayer, linear1, linear2, projectRun, sizesOf, runOf}
+use Rattle.encoder_blocks.specs.Block.{layersRun}
 use Rattle.encoder_blocks.specs.inner.Live.{hAt}
 use Rattle.encoder.specs.inner.Live.{regionsOf, countsOf}
-use Rattle.encoder.specs.Stages.{sizesOf, runOf}
 
 module _ (s : EncoderSettings) (gh gw t o : ℕ) (w cos sin x : List Float) where
   abbrev z : Sizes

@@ -5,7 +5,7 @@ ghost use mathlib.Core.List.{[], _∷_};
 ghost use lib.ListN.{length};
 ghost use Rattle.encoder_steps.specs.Run.{stagesFinite, answer};
 ghost use Rattle.encoder_blocks.specs.inner.Live.{hAt};
-ghost use Rattle.encoder.specs.Embed.{embedRun};
+ghost use Rattle.encoder.specs.Stages.{embedRun};
 ghost use Rattle.encoder.specs.inner.Fits.{EmbedFits};
 use buffers::part;
 use encoder_blocks::Sizes;

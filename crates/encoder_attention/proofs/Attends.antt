@@ -18,7 +18,7 @@ use Rattle.buffers.proofs.Lists.{fit, length-tab, length-rows, put-rows}
 use Rattle.buffers.specs.Each.{blank}
 use Rattle.encoder_kernels.specs.Finite.{allFinite}
 use Rattle.encoder_attention.specs.Attention.{scoreRow, expLess, scaled, softened, softmaxOf, headScores, headSums, tokenScores, tokenSums, attentionOf}
-use Rattle.encoder_linear.specs.Weighed.{weighedRow}
+use Rattle.encoder_linear.specs.Linear.{weighedRow}
 use Rattle.encoder_attention.specs.inner.Keys.{keysOf}
 use Rattle.encoder_attention.proofs.Keys.{turned-scores}
 use Rattle.encoder_attention.specs.inner.Fits.{AttendFits, HeadAt, TokenAt}

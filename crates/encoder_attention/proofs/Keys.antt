@@ -14,8 +14,7 @@ use Rattle.buffers.specs.Each.{blank}
 use Rattle.buffers.proofs.Regions.{getD-region, region-put, region-put-same, length-region, apart-sym}
 use Rattle.buffers.proofs.Steps.{blank-put, blank-rest}
 use Rattle.buffers.proofs.Lists.{fit, getD-tab, tab-ext, tab-mul, tab-self}
-use Rattle.encoder_linear.specs.Linear.{sumOf}
-use Rattle.encoder_linear.specs.Weighed.{columnOf, weighedRow}
+use Rattle.encoder_linear.specs.Linear.{sumOf, columnOf, weighedRow}
 use Rattle.encoder_linear.proofs.Sums.{sum-ext}
 use Rattle.encoder_linear.proofs.Pieces.{grid-ext, length-grid, getD-grid}
 use Rattle.encoder_attention.specs.Attention.{scoreRow, scaled, scoresOf, attentionOf}

@@ -19,7 +19,8 @@ use Rattle.buffers.proofs.Steps.{blank-same, blank-put}
 use Rattle.number_floats.specs.Constants.{zero32}
 use Rattle.encoder_kernels.specs.Finite.{allFinite}
 use Rattle.encoder_kernels.proofs.Finites.{all-finite-append}
-use Rattle.encoder_linear.specs.Weighed.{weighedRow, weighedPair}
+use Rattle.encoder_linear.specs.Linear.{weighedRow}
+use Rattle.encoder_linear.specs.inner.Weighed.{weighedPair}
 use Rattle.encoder_linear.specs.inner.Fits.{WeighPairFits}
 use Rattle.encoder_attention.specs.Attention.{scaled, softmaxOf, headScores}
 use Rattle.encoder_attention.specs.inner.Keys.{keysOf}

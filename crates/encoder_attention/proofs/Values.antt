@@ -17,8 +17,7 @@ use Rattle.buffers.proofs.Lists.{fit, length-tab, length-rows, tab-ext}
 use Rattle.buffers.proofs.Puts.{puts-ext}
 use Rattle.number_floats.specs.Constants.{zero32}
 use Rattle.encoder_kernels.specs.Finite.{allFinite}
-use Rattle.encoder_linear.specs.Linear.{sumOf}
-use Rattle.encoder_linear.specs.Weighed.{columnOf, weighedRow}
+use Rattle.encoder_linear.specs.Linear.{sumOf, columnOf, weighedRow}
 use Rattle.encoder_linear.proofs.Sums.{sum-ext, length-weighed}
 use Rattle.encoder_linear.proofs.Pieces.{length-grid, getD-grid}
 use Rattle.encoder_attention.specs.Attention.{softmaxOf, headScores}

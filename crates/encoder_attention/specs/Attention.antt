@@ -10,8 +10,7 @@ use Rattle.buffers.specs.Rows.{tab, rows}
 use Rattle.buffers.specs.Region.{region}
 use Rattle.number_floats.specs.Constants.{one32, zero32}
 use Rattle.buffers.specs.Each.{each}
-use Rattle.encoder_linear.specs.Linear.{sumOf, dotOf}
-use Rattle.encoder_linear.specs.Weighed.{weighedRow}
+use Rattle.encoder_linear.specs.Linear.{sumOf, dotOf, weighedRow}
 
 -- the dot product of the query with key j's part at o, for each of t keys of dim, times the scaling
 unfoldable pub scoreRow : ℕ → ℕ → ℕ → ℕ → Float → List Float → List Float → List Float

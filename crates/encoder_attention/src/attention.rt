@@ -10,7 +10,7 @@ ghost use Rattle.number_floats.specs.Constants.{zero32};
 ghost use Rattle.buffers.specs.Each.{blank};
 ghost use Rattle.encoder_kernels.specs.Finite.{allFinite};
 ghost use Rattle.encoder_linear.specs.inner.Lanes.{spread};
-ghost use Rattle.encoder_linear.specs.Weighed.{weighedRow};
+ghost use Rattle.encoder_linear.specs.Linear.{weighedRow};
 ghost use Rattle.encoder_linear.specs.inner.Fits.{WeighFits};
 ghost use Rattle.encoder_attention.specs.Attention.{maxOf, totalOf, inverseOf, scaled, headScores, softmaxOf, tokenScores, tokenSums, scoresOf, attentionOf};
 ghost use Rattle.encoder_attention.specs.inner.Keys.{turnedKeys, keysOf};

@@ -34,8 +34,7 @@ use Rattle.encoder_steps.specs.Run.{stagesFinite, answer}
 use Rattle.encoder_steps.specs.inner.Step.{LinearAt, Wrote}
 use Rattle.encoder_steps.proofs.Writes.{LinearTried, NormTried, RotateTried, AddTried, GateTried, RoundTried, got, long, left, linear-wrote, norm-wrote, rotate-wrote, add-wrote, gate-wrote, round-wrote}
 use Rattle.encoder_blocks.specs.declared.Sizes.{Sizes}
-use Rattle.encoder_blocks.specs.Sizes.{nOf, mOf, partsOf}
-use Rattle.encoder_blocks.specs.Block.{normed, squareOf, innerOf, outerOf, rotated, mixed, scored, attnRun, feedRun}
+use Rattle.encoder_blocks.specs.Block.{nOf, mOf, partsOf, normed, squareOf, innerOf, outerOf, rotated, mixed, scored, attnRun, feedRun}
 use Rattle.encoder_blocks.specs.inner.Live.{hAt}
 use Rattle.encoder_blocks.specs.inner.Fits.{BlockFits, RotationFits, ScoreRow}
 

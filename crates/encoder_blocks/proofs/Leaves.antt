@@ -14,9 +14,7 @@ use Rattle.encoder_steps.proofs.Writes.{answer-went, then-went}
 use Rattle.encoder_steps.proofs.Fronts.{front-is}
 use Rattle.encoder_blocks.specs.declared.Sizes.{Sizes}
 use Rattle.encoder_settings.specs.Weights.{nthLayer}
-use Rattle.encoder_blocks.specs.Sizes.{nOf, mOf}
-use Rattle.encoder_blocks.specs.Block.{normed, innerOf, outerOf, attnRun, feedRun, blockRun}
-use Rattle.encoder_blocks.specs.Layers.{layersRun}
+use Rattle.encoder_blocks.specs.Block.{nOf, mOf, normed, innerOf, outerOf, attnRun, feedRun, blockRun, layersRun}
 use Rattle.encoder_blocks.specs.inner.Live.{hAt}
 use Rattle.encoder_blocks.specs.inner.Room.{layersFit}
 use Rattle.encoder_blocks.specs.inner.Fits.{LayersFits}

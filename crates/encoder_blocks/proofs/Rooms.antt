@@ -11,7 +11,7 @@ use Rattle.buffers.specs.inner.Room.{inside}
 use Rattle.buffers.proofs.Rooms.{and-parts, two}
 use Rattle.encoder_blocks.specs.declared.Sizes.{Sizes}
 use Rattle.encoder_settings.specs.Weights.{floats}
-use Rattle.encoder_blocks.specs.Sizes.{nOf, mOf, partsOf}
+use Rattle.encoder_blocks.specs.Block.{nOf, mOf, partsOf}
 use Rattle.encoder_blocks.specs.inner.Room.{sizesFit, lengthsFit, layersFit}
 use Rattle.encoder_blocks.specs.inner.Fits.{LayersFits, SizesFit, Products}
 

@@ -7,10 +7,8 @@ use native.Mathlib.Numerals.{add-one}
 use lib.Ieee.{Float}
 use Rattle.encoder_blocks.specs.declared.Sizes.{Sizes}
 use Rattle.encoder_settings.specs.Weights.{floats, nthLayer}
-use Rattle.encoder_blocks.specs.Sizes.{partsOf}
+use Rattle.encoder_blocks.specs.Block.{partsOf, blockRun, layersRun}
 use Rattle.encoder_steps.specs.Run.{answer}
-use Rattle.encoder_blocks.specs.Block.{blockRun}
-use Rattle.encoder_blocks.specs.Layers.{layersRun}
 use Rattle.encoder_blocks.specs.inner.Fits.{BlockFits, RotationFits}
 use Rattle.encoder_steps.proofs.Writes.{answer-then}
 

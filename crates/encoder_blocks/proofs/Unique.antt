@@ -6,7 +6,7 @@ use Prim.Native.Nat.{ℕ}
 use lib.ListN.{length}
 use lib.Ieee.{Float}
 use Rattle.encoder_steps.specs.Run.{ran, handed}
-use Rattle.encoder_blocks.specs.Layers.{layersRun}
+use Rattle.encoder_blocks.specs.Block.{layersRun}
 use Rattle.encoder_blocks.specs.inner.Live.{hAt}
 use Rattle.encoder_blocks.specs.inner.Room.{layersFit}
 use Rattle.encoder_blocks.specs.declared.Sizes.{Sizes}

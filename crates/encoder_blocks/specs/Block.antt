@@ -1,17 +1,31 @@
--- One encoder block, stage by stage. Assumes nothing.
+-- The encoder's blocks, stage by stage. Assumes nothing.
 use mathlib.Core.List.{List, [], _∷_}
-use Prim.Native.Nat.{_/_}
+use Prim.Native.Nat.{ℕ, _*_, _/_, zero, suc}
 use Prim.Native.String.{String}
 use lib.Ieee.{Float}
+use Rattle.encoder_settings.specs.Weights.{Table, layer, part, nthLayer}
 use Rattle.encoder_blocks.specs.declared.Sizes.{Sizes}
-use Rattle.encoder_settings.specs.Weights.{part}
-use Rattle.encoder_blocks.specs.Sizes.{nOf, mOf, partsOf}
 use Rattle.encoder_linear.specs.Linear.{linearOf}
 use Rattle.encoder_elements.specs.Element.{added, gated, rounded}
 use Rattle.encoder_kernels.specs.Norm.{normOf}
 use Rattle.encoder_kernels.specs.Rotate.{rotateOf}
 use Rattle.encoder_attention.specs.Attention.{scoresOf, attentionOf}
-use Rattle.encoder_steps.specs.Run.{Run, examined, thenRun}
+use Rattle.encoder_steps.specs.Run.{Run, examined, thenRun, went}
+
+-- ---- what follows from a call's sizes
+
+-- the floats of all tokens, and of all their intermediate rows
+abbrev pub nOf : Sizes → ℕ
+nOf z = z .tokens * z .hidden
+
+abbrev pub mOf : Sizes → ℕ
+mOf z = z .tokens * z .inter
+
+-- the parts of a layer's weights
+abbrev pub partsOf : Sizes → Table
+partsOf z = layer (z .hidden) (z .inter)
+
+-- ---- one block
 
 -- a norm of the tokens, by the part of that name of the layer's weights w
 unfoldable pub normed : Sizes → String → List Float → List Float → List Float
@@ -65,3 +79,9 @@ feedRun z w h =
 -- the block
 unfoldable pub blockRun : Sizes → List Float → List Float → List Float → List Float → Run
 blockRun z w cos sin h = thenRun (attnRun z w cos sin h) (feedRun z w)
+
+-- ---- the blocks one after another: the first l layers, whose weights are w
+
+unfoldable pub layersRun : Sizes → List Float → List Float → List Float → ℕ → List Float → Run
+layersRun z w cos sin zero h = went h
+layersRun z w cos sin (suc l) h = thenRun (layersRun z w cos sin l h) (blockRun z (nthLayer (z .hidden) (z .inter) l w) cos sin)

@@ -1,4 +1,2 @@
-pub mod Sizes
 pub mod Block
-pub mod Layers
 pub mod inner

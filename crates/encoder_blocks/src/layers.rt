@@ -3,7 +3,7 @@ ghost use mathlib.Core.Path.{_≡_};
 ghost use mathlib.Core.Bool.{_&&_, cond};
 ghost use lib.ListN.{length};
 ghost use Rattle.encoder_steps.specs.Run.{answer, ran, handed};
-ghost use Rattle.encoder_blocks.specs.Layers.{layersRun};
+ghost use Rattle.encoder_blocks.specs.Block.{layersRun};
 ghost use Rattle.encoder_blocks.specs.inner.Live.{hAt};
 ghost use Rattle.encoder_blocks.specs.inner.Room.{layersFit};
 ghost use Rattle.encoder_blocks.specs.inner.Fits.{LayersFits};

@@ -1,7 +1,7 @@
 // Whether what the layers are handed fits. No test forms a number that could wrap.
 ghost use mathlib.Core.Path.{_≡_};
 ghost use Rattle.encoder_settings.specs.Weights.{floats};
-ghost use Rattle.encoder_blocks.specs.Sizes.{partsOf};
+ghost use Rattle.encoder_blocks.specs.Block.{partsOf};
 ghost use Rattle.encoder_blocks.specs.inner.Room.{sizesFit, lengthsFit, layersFit};
 ghost use Rattle.encoder_blocks.specs.inner.Fits.{Products};
 use crate::Sizes;

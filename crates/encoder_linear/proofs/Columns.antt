@@ -9,8 +9,7 @@ use lib.Ieee.{Float, nan, binary32, add, mul}
 use Rattle.buffers.specs.Rows.{tab}
 use Rattle.buffers.specs.Region.{put}
 use Rattle.buffers.proofs.Lists.{getD-tab, tab-ext, tab-add}
-use Rattle.encoder_linear.specs.Linear.{sumOf}
-use Rattle.encoder_linear.specs.Weighed.{columnOf, weighedRow}
+use Rattle.encoder_linear.specs.Linear.{sumOf, columnOf, weighedRow}
 use Rattle.encoder_linear.specs.inner.Lanes.{spread}
 use Rattle.encoder_linear.proofs.Fills.{spread-one}
 use Rattle.encoder_linear.proofs.Products.{product-comm}

@@ -11,7 +11,8 @@ use Rattle.buffers.specs.inner.Apart.{Apart}
 use Rattle.buffers.proofs.Regions.{put-append, put-comm, region-put, apart-sub}
 use Rattle.encoder_linear.specs.inner.Lanes.{spread}
 use Rattle.encoder_linear.specs.inner.Fits.{WeighPairFits}
-use Rattle.encoder_linear.specs.Weighed.{columnOf, weighedRow, weighedPair}
+use Rattle.encoder_linear.specs.Linear.{columnOf, weighedRow}
+use Rattle.encoder_linear.specs.inner.Weighed.{weighedPair}
 use Rattle.encoder_linear.proofs.Sums.{length-weighed}
 use Rattle.encoder_linear.proofs.Columns.{lanes-put, weighed-add}
 

@@ -8,8 +8,7 @@ use lib.Ieee.{Float, nan, binary32, add}
 use Rattle.buffers.specs.Region.{region}
 use Rattle.buffers.specs.Each.{both}
 use Rattle.buffers.proofs.Lists.{length-tab, length-rows}
-use Rattle.encoder_linear.specs.Linear.{sumOf, linearRow, linearOf, biased, Bias, none, carried, linearBy}
-use Rattle.encoder_linear.specs.Weighed.{weighedRow}
+use Rattle.encoder_linear.specs.Linear.{sumOf, linearRow, linearOf, biased, Bias, none, carried, linearBy, weighedRow}
 
 pub sum-ext : (n : ℕ) (f g : ℕ → Float) → ((k : ℕ) → k < n → f k ≡ g k) → sumOf n f ≡ sumOf n g
 unfolding sumOf

@@ -6,10 +6,10 @@ use Prim.Native.Nat.{ℕ, _*_}
 use lib.ListN.{length}
 use lib.Ieee.{Float}
 use Rattle.buffers.specs.Region.{region}
-use Rattle.encoder_linear.specs.Linear.{linearOf}
+use Rattle.encoder_linear.specs.Linear.{linearOf, weighedRow}
 use Rattle.buffers.specs.inner.Room.{whereFits}
 use Rattle.encoder_linear.specs.inner.Room.{linearFits, fromFits, weighFits, weighPairFits}
-use Rattle.encoder_linear.specs.Weighed.{weighedRow, weighedPair}
+use Rattle.encoder_linear.specs.inner.Weighed.{weighedPair}
 use Rattle.number_floats.proofs.Unique.{one}
 
 abbrev pub Linear : List Float → ℕ → ℕ → ℕ → ℕ → ℕ → List Float → List Float → Type 0

@@ -1,3 +1,2 @@
 pub mod Linear
-pub mod Weighed
 pub mod inner

@@ -1,11 +1,11 @@
--- Sums, from +0 upward, each product and each sum rounded once; and the linear layer: row r of the result holds, for
+-- Sums, from +0 upward, each product and each sum rounded once: weighted sums, and the linear layer: row r of the result holds, for
 -- each row c of w, the sum of x[r, k] * w[c, k], plus b[c] where the layer carries a bias b. Assumes nothing.
 use mathlib.Core.List.{List}
-use Prim.Native.Nat.{ℕ, zero, suc, _*_}
+use Prim.Native.Nat.{ℕ, zero, suc, _*_, _+_}
 use lib.ListN.{length, getD}
 use lib.Ieee.{Float, nan, binary32, add, mul}
 use Rattle.buffers.specs.Rows.{tab}
-use Rattle.buffers.specs.Region.{region}
+use Rattle.buffers.specs.Region.{region, put}
 use Rattle.number_floats.specs.Constants.{zero32}
 use Rattle.buffers.specs.Each.{eachRow, both}
 
@@ -37,3 +37,13 @@ pub data Bias : Type 0 where
 unfoldable pub linearBy : Bias → ℕ → ℕ → ℕ → List Float → List Float → List Float
 linearBy none n nin nout w x = linearOf n nin nout w x
 linearBy (carried b) n nin nout w x = biased n nout b (linearOf n nin nout w x)
+
+-- ---- weighted sums
+
+-- the sum, row after row, of the weights by the values at place o of t rows of dim
+unfoldable pub columnOf : ℕ → ℕ → ℕ → List Float → List Float → Float
+columnOf t dim o p v = sumOf t (λ j. mul binary32 (getD p j nan) (getD v (j * dim + o) nan))
+
+-- those at the hd places from o on
+unfoldable pub weighedRow : ℕ → ℕ → ℕ → ℕ → List Float → List Float → List Float
+weighedRow t dim hd o p v = tab hd (λ d. columnOf t dim (o + d) p v)

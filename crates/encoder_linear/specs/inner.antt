@@ -1,3 +1,4 @@
 pub mod Fits
 pub mod Lanes
 pub mod Room
+pub mod Weighed

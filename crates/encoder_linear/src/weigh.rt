@@ -5,7 +5,7 @@ ghost use lib.ListN.{length};
 ghost use Rattle.buffers.specs.Rows.{tab};
 ghost use Rattle.buffers.specs.Region.{region, put};
 ghost use Rattle.buffers.specs.inner.Room.{whereFits};
-ghost use Rattle.encoder_linear.specs.Weighed.{columnOf, weighedRow};
+ghost use Rattle.encoder_linear.specs.Linear.{columnOf, weighedRow};
 ghost use Rattle.encoder_linear.specs.inner.Room.{weighFits};
 ghost use Rattle.encoder_linear.specs.inner.Fits.{WeighFits};
 use crate::lanes::add_products;

@@ -3,7 +3,7 @@ use mathlib.Core.Path.{_≡_}
 use Prim.Native.Nat.{ℕ, _+_, _*_, _-_, _/_, _≤_, _<_}
 use Rattle.buffers.specs.inner.Apart.{Apart}
 use Rattle.encoder_blocks.specs.declared.Sizes.{Sizes}
-use Rattle.encoder_blocks.specs.Sizes.{nOf, mOf}
+use Rattle.encoder_blocks.specs.Block.{nOf, mOf}
 use Rattle.encoder_blocks.specs.inner.Fits.{LayersFits}
 use Rattle.encoder_settings.specs.declared.EncoderSettings.{EncoderSettings}
 use Rattle.picture_limits.specs.Places.{patchFloats}

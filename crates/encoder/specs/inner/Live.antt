@@ -11,7 +11,7 @@ use Rattle.encoder_settings.specs.Settings.{mergeArea}
 use Rattle.encoder_settings.specs.inner.Bounds.{layerSum}
 use Rattle.encoder_linear.specs.Linear.{Bias, none, carried}
 use Rattle.encoder_blocks.specs.declared.Sizes.{Sizes}
-use Rattle.encoder_blocks.specs.Sizes.{nOf, mOf}
+use Rattle.encoder_blocks.specs.Block.{nOf, mOf}
 use Rattle.encoder.specs.declared.Counts.{Counts}
 use Rattle.encoder.specs.declared.Regions.{Regions}
 

@@ -4,7 +4,7 @@ use Prim.Native.Nat.{ℕ, _+_, _*_, _/_, _%_}
 use lib.ListN.{getD}
 use lib.Ieee.{Float, nan}
 use Rattle.buffers.specs.Rows.{tab}
-use Rattle.encoder.specs.Merge.{placeOf}
+use Rattle.encoder.specs.Stages.{placeOf}
 
 -- where place p of the merged rows takes its value from, by its output token, its channel and its place in the square
 unfoldable pub sourceOf : ℕ → ℕ → ℕ → ℕ → ℕ

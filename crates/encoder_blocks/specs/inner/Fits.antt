@@ -3,7 +3,7 @@ use mathlib.Core.Path.{_≡_}
 use Prim.Native.Nat.{ℕ, _+_, _*_, _%_, _≤_, _<_}
 use Rattle.encoder_blocks.specs.declared.Sizes.{Sizes}
 use Rattle.encoder_settings.specs.Weights.{floats}
-use Rattle.encoder_blocks.specs.Sizes.{nOf, mOf, partsOf}
+use Rattle.encoder_blocks.specs.Block.{nOf, mOf, partsOf}
 
 -- what a block asks of its shape and of the lengths of scratch and weights
 pub record BlockFits (z : Sizes) (lens lenw : ℕ) : Type 0 where

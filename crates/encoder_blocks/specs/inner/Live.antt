@@ -3,7 +3,7 @@ use mathlib.Core.List.{List}
 use lib.Ieee.{Float}
 use Rattle.buffers.specs.Region.{region}
 use Rattle.encoder_blocks.specs.declared.Sizes.{Sizes}
-use Rattle.encoder_blocks.specs.Sizes.{nOf}
+use Rattle.encoder_blocks.specs.Block.{nOf}
 
 abbrev pub hAt : Sizes → List Float → List Float
 hAt z s = region s 0 (nOf z)

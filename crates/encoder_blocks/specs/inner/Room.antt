@@ -5,7 +5,7 @@ use lib.Dec.{leb, ltb, eqb}
 use Rattle.buffers.specs.inner.Room.{inside}
 use Rattle.encoder_blocks.specs.declared.Sizes.{Sizes}
 use Rattle.encoder_settings.specs.Weights.{floats}
-use Rattle.encoder_blocks.specs.Sizes.{nOf, mOf, partsOf}
+use Rattle.encoder_blocks.specs.Block.{nOf, mOf, partsOf}
 
 -- no product of the sizes is large, and the heads make up the hidden size, in even widths
 unfoldable pub sizesFit : Sizes → Bool

@@ -8,8 +8,8 @@ use Rattle.buffers.proofs.Regions.{length-region}
 use Rattle.buffers.specs.inner.Apart.{after}
 use Rattle.encoder_settings.specs.Weights.{embedding}
 use Rattle.encoder_settings.proofs.Weights.{stands}
-use Rattle.encoder_blocks.specs.Sizes.{nOf}
-use Rattle.encoder.specs.Embed.{patchConv, lnPre}
+use Rattle.encoder_blocks.specs.Block.{nOf}
+use Rattle.encoder.specs.Stages.{patchConv, lnPre}
 use Rattle.encoder_steps.proofs.Writes.{linear-from-wrote, norm-wrote, round-wrote}
 use Rattle.encoder.proofs.Embeds.{embedded}
 use Rattle.encoder.proofs.embed.embed.Statement.{statement}

@@ -9,7 +9,7 @@ use Rattle.buffers.proofs.Regions.{length-region}
 use Rattle.buffers.specs.inner.Apart.{before}
 use Rattle.encoder_settings.specs.Weights.{projector}
 use Rattle.encoder_settings.proofs.Weights.{stands}
-use Rattle.encoder.specs.Project.{projNorm, mergingLayer, linear1, linear2}
+use Rattle.encoder.specs.Stages.{projNorm, mergingLayer, linear1, linear2}
 use Rattle.encoder_steps.proofs.Writes.{norm-wrote, linear-wrote, gelu-wrote}
 use Rattle.encoder.proofs.Projects.{second-stands, first-bias, second-bias, project-run}
 use Rattle.encoder.proofs.projector.projector_forward.Statement.{statement}

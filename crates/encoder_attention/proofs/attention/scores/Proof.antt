@@ -9,7 +9,7 @@ use lib.Ieee.{Float}
 use Rattle.buffers.specs.Region.{region, put}
 use Rattle.buffers.proofs.Regions.{put-put, region-put-same}
 use Rattle.buffers.proofs.Lists.{length-tab}
-use Rattle.encoder_linear.specs.Weighed.{weighedRow}
+use Rattle.encoder_linear.specs.Linear.{weighedRow}
 use Rattle.encoder_linear.proofs.Sums.{length-weighed}
 use Rattle.encoder_linear.proofs.Rooms.{weigh-fits}
 use Rattle.encoder_attention.specs.Attention.{scaled}

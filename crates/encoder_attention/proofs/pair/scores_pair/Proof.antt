@@ -4,7 +4,8 @@ use Prim.Native.Nat.{ℕ, _+_, _*_, _≤_}
 use native.Mathlib.Omega.{arith}
 use borrow.Author.Needs.{needs}
 use Rattle.buffers.specs.Region.{region}
-use Rattle.encoder_linear.specs.Weighed.{weighedRow, weighedPair}
+use Rattle.encoder_linear.specs.Linear.{weighedRow}
+use Rattle.encoder_linear.specs.inner.Weighed.{weighedPair}
 use Rattle.encoder_linear.specs.inner.Fits.{WeighPairFits}
 use Rattle.encoder_linear.proofs.Sums.{length-weighed}
 use Rattle.encoder_linear.proofs.Rooms.{weigh-pair-fits}

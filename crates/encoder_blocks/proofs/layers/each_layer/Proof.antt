@@ -10,9 +10,8 @@ use Rattle.buffers.proofs.Lists.{fit}
 use Rattle.buffers.proofs.Regions.{length-region}
 use Rattle.buffers.specs.Region.{region}
 use Rattle.encoder_settings.specs.Weights.{floats}
-use Rattle.encoder_blocks.specs.Sizes.{partsOf}
+use Rattle.encoder_blocks.specs.Block.{partsOf, layersRun}
 use Rattle.encoder_steps.specs.Run.{answer}
-use Rattle.encoder_blocks.specs.Layers.{layersRun}
 use Rattle.encoder_blocks.specs.inner.Live.{hAt}
 use Rattle.encoder_blocks.proofs.Turns.{layers-turn, block-at}
 use Rattle.encoder_blocks.proofs.Rooms.{layers-products}

@@ -10,8 +10,7 @@ use Rattle.buffers.specs.Rows.{tab}
 use Rattle.encoder_steps.specs.Run.{ran, handed}
 use Rattle.encoder_steps.proofs.Writes.{went-of, stopped-of}
 use Rattle.encoder_steps.proofs.Fronts.{front-kept}
-use Rattle.encoder_blocks.specs.Sizes.{nOf}
-use Rattle.encoder_blocks.specs.Layers.{layersRun}
+use Rattle.encoder_blocks.specs.Block.{nOf, layersRun}
 use Rattle.encoder_blocks.specs.inner.Live.{hAt}
 use Rattle.encoder_blocks.proofs.Rooms.{layers-say}
 use Rattle.encoder_blocks.proofs.layers.layers.Statement.{statement}

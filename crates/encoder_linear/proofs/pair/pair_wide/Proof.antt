@@ -9,7 +9,8 @@ use Rattle.buffers.specs.Rows.{tab}
 use Rattle.buffers.specs.Region.{put}
 use Rattle.buffers.proofs.Lists.{length-tab}
 use Rattle.buffers.proofs.Regions.{length-region}
-use Rattle.encoder_linear.specs.Weighed.{weighedRow, weighedPair}
+use Rattle.encoder_linear.specs.Linear.{weighedRow}
+use Rattle.encoder_linear.specs.inner.Weighed.{weighedPair}
 use Rattle.encoder_linear.proofs.Pairs.{pair-turn}
 use Rattle.encoder_linear.proofs.pair.pair_wide.Statement.{statement}
 use Rattle.encoder_linear.proofs.pair.pair_wide.Tie as tie

@@ -8,8 +8,7 @@ use mathlib.Core.Path.{_≡_, refl, ap, _∙_}
 use lib.ListN.{length}
 use Rattle.buffers.specs.Rows.{tab}
 use Rattle.buffers.proofs.Lists.{fit, length-tab}
-use Rattle.encoder_linear.specs.Linear.{sumOf}
-use Rattle.encoder_linear.specs.Weighed.{columnOf}
+use Rattle.encoder_linear.specs.Linear.{sumOf, columnOf}
 use Rattle.encoder_linear.proofs.Columns.{begunColumn, column-step}
 use Rattle.encoder_linear.proofs.pair.wide_pair.Statement.{statement}
 use Rattle.encoder_linear.proofs.pair.wide_pair.Tie as tie

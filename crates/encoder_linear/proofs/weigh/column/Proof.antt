@@ -8,8 +8,7 @@ use borrow.Author.Needs.{needs}
 use lib.ListN.{length, getD}
 use lib.Ieee.{nan, binary32, mul}
 use Rattle.buffers.proofs.Lists.{fit}
-use Rattle.encoder_linear.specs.Weighed.{columnOf}
-use Rattle.encoder_linear.specs.Linear.{sumOf}
+use Rattle.encoder_linear.specs.Linear.{columnOf, sumOf}
 use Rattle.encoder_linear.proofs.weigh.column.Statement.{statement}
 use Rattle.encoder_linear.proofs.weigh.column.Tie as tie
 

@@ -9,7 +9,7 @@ use lib.Ieee.{Float}
 use Rattle.buffers.specs.Region.{region, put}
 use Rattle.buffers.proofs.Regions.{put-append, region-put, apart-sub}
 use Rattle.encoder_linear.specs.inner.Fits.{WeighFits}
-use Rattle.encoder_linear.specs.Weighed.{weighedRow}
+use Rattle.encoder_linear.specs.Linear.{weighedRow}
 use Rattle.encoder_linear.proofs.Sums.{length-weighed}
 use Rattle.encoder_linear.proofs.Rooms.{rest-fits}
 use Rattle.encoder_linear.proofs.Columns.{weighed-add}

@@ -11,7 +11,7 @@ use Rattle.buffers.proofs.Regions.{region-put, apart-sub, length-region}
 use Rattle.buffers.specs.Region.{region, put}
 use Rattle.buffers.specs.Rows.{tab}
 use Rattle.encoder_linear.specs.inner.Fits.{WeighFits}
-use Rattle.encoder_linear.specs.Weighed.{columnOf, weighedRow}
+use Rattle.encoder_linear.specs.Linear.{columnOf, weighedRow}
 use Rattle.encoder_linear.proofs.weigh.weigh_rest.Statement.{statement}
 use Rattle.encoder_linear.proofs.weigh.weigh_rest.Tie as tie
 

@@ -12,7 +12,7 @@ use Rattle.buffers.proofs.Lists.{length-tab, tab-ext, tab-add}
 use Rattle.buffers.proofs.Regions.{put-append, length-put, region-put, apart-sub, length-region}
 use Rattle.encoder_linear.specs.inner.Lanes.{spread}
 use Rattle.encoder_linear.specs.inner.Fits.{WeighFits}
-use Rattle.encoder_linear.specs.Weighed.{columnOf, weighedRow}
+use Rattle.encoder_linear.specs.Linear.{columnOf, weighedRow}
 use Rattle.encoder_linear.proofs.Fills.{spread-one}
 use Rattle.encoder_linear.proofs.Columns.{lanes-put}
 use lib.ListN.{length, getD}

@@ -8,8 +8,7 @@ use native.Mathlib.Numerals.{add-one}
 use lib.Ieee.{nan, binary32, mul}
 use Rattle.buffers.specs.Rows.{tab}
 use Rattle.buffers.proofs.Lists.{fit, length-tab}
-use Rattle.encoder_linear.specs.Linear.{sumOf}
-use Rattle.encoder_linear.specs.Weighed.{columnOf}
+use Rattle.encoder_linear.specs.Linear.{sumOf, columnOf}
 use Rattle.encoder_linear.proofs.Columns.{begunColumn, column-step}
 use lib.ListN.{length, getD}
 use Rattle.encoder_linear.proofs.weigh.wide.Statement.{statement}
