@@ -7,9 +7,9 @@ use native.Mathlib.Nat.{suc-mul, zero-mul, mul-le-mul-right, add-zero, zero-add,
 use native.Mathlib.Omega.{arith}
 use native.Mathlib.Numerals.{add-one}
 use native.Mathlib.Decide.{decLt}
-use lib.ListN.{length, set, getD, length-append, List·getD-append}
-use lib.Seq.{getD-at, getD-append-add, ext-getD}
-use Rattle.buffers.specs.Region.{put}
+use lib.ListN.{length, take, drop, set, getD, length-append, List·getD-append}
+use lib.Seq.{getD-at, getD-append-add, ext-getD, take-add, take-at, drop-at}
+use Rattle.buffers.specs.Region.{put, region}
 use Rattle.buffers.specs.Rows.{tab, rows, grid, all, first}
 use Rattle.buffers.proofs.Regions.{put-one, put-append, put-all}
 
@@ -93,6 +93,30 @@ module _ {A : Type 0} where
       ∙ ap (λ (l : List A). l ++ f (n + m)) (rows-add n m f)
       ∙ append-assoc (rows n f) (rows m (λ j. f (n + j))) (f (n + m))
 
+  -- n pieces of m each, of which nothing is known behind them: how long they are together, and the one at its place
+  pub length-pieces : (n m : ℕ) (f : ℕ → List A) → ((i : ℕ) → i < n → length (f i) ≡ m) → length (rows n f) ≡ n * m
+  unfolding rows
+  length-pieces zero m f h = sym (zero-mul m)
+  length-pieces (suc n) m f h = simp (length-append, length-pieces n m f (λ i l. h i (omega arith)), h n (omega arith), suc-mul)
+
+  pub piece-at : (n m i : ℕ) (f : ℕ → List A) → ((j : ℕ) → j < n → length (f j) ≡ m) → i < n → region (rows n f) (i * m) m ≡ f i
+  unfolding rows
+  piece-at n m i f h l =
+      let k = n - (i + 1) in
+      let q : n ≡ (i + 1) + k = omega arith in
+      let rest = rows k (λ j. f (i + 1 + j)) in
+      let s : rows n f ≡ rows i f ++ (f i ++ rest) =
+      ap (λ (x : ℕ). rows x f) q ∙ rows-add (i + 1) k f ∙ ap (λ (x : ℕ). rows x f ++ rest) (add-one i) ∙ append-assoc (rows i f) (f i) rest in
+      ap (λ (x : List A). region x (i * m) m) s
+      ∙ ap (take m) (drop-at (rows i f) (f i ++ rest) (i * m) (length-pieces i m f (λ j r. h j (omega arith))))
+      ∙ take-at (f i) rest m (h i l)
+
+  -- a list cut into pieces of m and joined again
+  pub equal-rows : (n m : ℕ) (l : List A) → rows n (λ i. region l (i * m) m) ≡ take (n * m) l
+  unfolding rows
+  equal-rows zero m l = ap (λ (k : ℕ). take k l) (sym (zero-mul m))
+  equal-rows (suc n) m l = rw (equal-rows n m l) (sym (take-add (n * m) m l) ∙ ap (λ (k : ℕ). take k l) (sym (suc-mul n m)))
+
   -- pieces in groups of b
   pub rows-mul : (a b : ℕ) (f : ℕ → List A) → rows (a * b) f ≡ rows a (λ i. rows b (λ j. f (i * b + j)))
   unfolding rows
@@ -131,7 +155,7 @@ pub and-both : (a b : Bool) → a ≡ true → b ≡ true → a && b ≡ true
 and-both true b e g = g
 and-both false b e g = absurd (true≢false (sym e))
 
-and-true : (a : Bool) → (a && true) ≡ a
+pub and-true : (a : Bool) → (a && true) ≡ a
 and-true true = refl
 and-true false = refl
 

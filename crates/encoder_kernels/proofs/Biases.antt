@@ -4,16 +4,15 @@ use mathlib.Core.Bool.{Bool, true}
 use mathlib.Core.Path.{_≡_, refl, sym, ap, _∙_}
 use mathlib.Core.List.{List}
 use Prim.Native.Nat.{ℕ, zero, suc, _*_, _<_}
-use native.Mathlib.Nat.{suc-mul, zero-mul}
 use native.Mathlib.Omega.{arith}
 use lib.ListN.{length, getD, take}
-use lib.Seq.{take-add, take-all}
+use lib.Seq.{take-all}
 use lib.Ieee.{Float, nan, inf, fin, binary32, add}
 use lib.Ieee.Scale.{finite}
 use Rattle.buffers.specs.Rows.{tab, rows, all}
 use Rattle.buffers.specs.Region.{region}
 use Rattle.buffers.specs.Each.{both}
-use Rattle.buffers.proofs.Lists.{fit, tab-self, all-at, all-of}
+use Rattle.buffers.proofs.Lists.{fit, tab-self, equal-rows, all-at, all-of}
 use Rattle.buffers.proofs.Regions.{length-region}
 use Rattle.encoder_linear.specs.Linear.{biased}
 use Rattle.encoder_kernels.specs.Finite.{allFinite}
@@ -37,11 +36,6 @@ row-finite d b r e f h k =
     let hs = all-at d (λ i. finite (getD b i nan)) (sym (each-finite d b e) ∙ h) in
     let ks = all-at d (λ i. finite (add binary32 (getD r i nan) (getD b i nan))) (sym (all-finite-tab d (λ i. add binary32 (getD r i nan) (getD b i nan))) ∙ k) in
     each-finite d r f ∙ all-of d (λ i. finite (getD r i nan)) (λ i l. finite-sum (getD r i nan) (getD b i nan) (hs i l) (ks i l))
-
-equal-rows : (n d : ℕ) (l : List Float) → rows n (λ i. region l (i * d) d) ≡ take (n * d) l
-unfolding rows
-equal-rows zero d l = ap (λ (k : ℕ). take k l) (sym (zero-mul d))
-equal-rows (suc n) d l = rw (equal-rows n d l) (sym (take-add (n * d) d l) ∙ ap (λ (k : ℕ). take k l) (sym (suc-mul n d)))
 
 pub finite-sums : (n d : ℕ) (b l : List Float) → length b ≡ d → length l ≡ n * d → allFinite b ≡ true → allFinite (biased n d b l) ≡ true → allFinite l ≡ true
 unfolding biased

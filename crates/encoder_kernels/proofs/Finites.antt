@@ -8,15 +8,12 @@ use lib.Seq.{take-suc}
 use lib.Ieee.{Float, nan}
 use lib.Ieee.Scale.{finite}
 use Rattle.buffers.specs.Rows.{tab, rows, all}
+use Rattle.buffers.proofs.Lists.{and-true}
 use Rattle.encoder_kernels.specs.Finite.{allFinite}
 
 and-assoc : (a b c : Bool) → (a && b) && c ≡ a && (b && c)
 and-assoc true b c = refl
 and-assoc false b c = refl
-
-and-true : (a : Bool) → a && true ≡ a
-and-true true = refl
-and-true false = refl
 
 pub all-finite-append : (l m : List Float) → allFinite (l ++ m) ≡ allFinite l && allFinite m
 unfolding allFinite

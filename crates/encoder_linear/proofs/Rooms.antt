@@ -7,6 +7,7 @@ use native.Mathlib.Omega.{arith}
 use borrow.Author.Tests.{leb-true, le-leb, eqb-true, eq-eqb}
 use lib.Dec.{eqb}
 use Rattle.buffers.specs.inner.Room.{inside, aside}
+use Rattle.buffers.proofs.Lists.{and-true}
 use Rattle.buffers.proofs.Regions.{apart-sub}
 use Rattle.buffers.proofs.Rooms.{and-parts, two, aside-says, aside-is}
 use Rattle.encoder_linear.specs.inner.Room.{linearFits, biasFits, fromFits, weighFits, weighPairFits}
@@ -37,10 +38,6 @@ module _ {lens lenw lenb x y n nin nout : ℕ} where
   pub bias-says : biasFits lens lenw lenb x y n nin nout ≡ true → LinearFits lens lenw x y n nin nout × (lenb ≡ nout)
   unfolding biasFits
   bias-says h = let p = and-parts (linearFits lens lenw x y n nin nout) (eqb lenb nout) h in (linear-says (p .0), eqb-true lenb nout (p .1))
-
-and-true : (a : Bool) → a && true ≡ a
-and-true true = refl
-and-true false = refl
 
 -- a bias as long as a row asks nothing more
 pub bias-same : (lens lenw x y n nin nout : ℕ) → biasFits lens lenw nout x y n nin nout ≡ linearFits lens lenw x y n nin nout

@@ -5,7 +5,7 @@ use mathlib.Core.Bool.{Bool, true, false, cond}
 use mathlib.Core.List.{List, [], _∷_, _++_, map, append-assoc, append-nil}
 use Prim.Native.Nat.{ℕ, zero, suc, _+_, _*_, _≤_}
 use Prim.Native.String.{String}
-use native.Mathlib.Nat.{suc-mul, zero-mul, one-mul}
+use native.Mathlib.Nat.{zero-mul, one-mul}
 use native.Mathlib.Omega.{arith}
 use lib.Dec.{eqb}
 use lib.ListN.{length, take, drop}
@@ -14,7 +14,7 @@ use lib.Text.{eqt}
 use lib.Ieee.{Float}
 use Rattle.buffers.specs.Rows.{rows}
 use Rattle.buffers.specs.Region.{region}
-use Rattle.buffers.proofs.Lists.{fit, rows-ext}
+use Rattle.buffers.proofs.Lists.{fit, rows-ext, equal-rows}
 use Rattle.buffers.proofs.Regions.{length-region}
 use Rattle.picture_limits.specs.Places.{patchFloats}
 use Rattle.encoder_settings.specs.declared.EncoderSettings.{EncoderSettings}
@@ -100,11 +100,6 @@ unfolding joined rows
 joined-rows zero f = refl
 joined-rows (suc n) f = joined-append (rows n f) (f n) ∙ ap (λ (l : List Float). l ++ joined (f n)) (joined-rows n f)
 
-equal-parts : (n m : ℕ) (w : List Float) → rows n (λ i. region w (i * m) m) ≡ take (n * m) w
-unfolding rows
-equal-parts zero m w = ap (λ (k : ℕ). take k w) (sym (zero-mul m))
-equal-parts (suc n) m w = ap (λ (l : List Float). l ++ region w (n * m) m) (equal-parts n m w) ∙ sym (take-add (n * m) m w) ∙ ap (λ (k : ℕ). take k w) (sym (suc-mul n m))
-
 -- ---- and those of all weights
 
 module _ (s : EncoderSettings) (w : List Float) where
@@ -136,7 +131,7 @@ module _ (s : EncoderSettings) (w : List Float) where
       let L = s .«num_layers» in
       joined-rows L (λ l. cut layerParts (region v (l * n) n))
       ∙ rows-ext L (λ l. joined (cut layerParts (region v (l * n) n))) (λ l. region v (l * n) n) (λ l h. tiled layerParts (region v (l * n) n) (length-region v (l * n) n (let f : l * n + n ≤ L * n = fit n h in omega arith)))
-      ∙ equal-parts L n v ∙ take-all (L * n) v (omega arith)
+      ∙ equal-rows L n v ∙ take-all (L * n) v (omega arith)
 
   groups-tiled : length w ≡ weightFloats s → part (weights s) "embedding" w ++ (part (weights s) "layers" w ++ part (weights s) "projector" w) ≡ w
   unfolding cut named joined

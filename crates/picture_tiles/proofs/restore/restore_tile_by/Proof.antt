@@ -6,6 +6,7 @@ use native.Mathlib.Omega.{arith}
 use borrow.Author.Needs.{needs}
 use borrow.Author.Tests.{not-true, not-false, eq-eqb, ne-eqb, le-leb, lt-leb, ltb-true}
 use lib.ListN.{length}
+use Rattle.buffers.proofs.Lists.{and-true}
 use Rattle.picture_limits.specs.declared.View.{View}
 use Rattle.picture_limits.specs.Settings.{sided, align}
 use Rattle.picture_limits.specs.Places.{patchFloats}
@@ -198,10 +199,6 @@ padding c =
     let g = x .before .before in
     c .zero-rows .ensures
     ∙ rw (tall g, wide g, x .before .before .before .before .tile-view .ensures) (padded-is (a .s) (a .t .now) (r .pre .2) (a .patches .now) (a .height) (a .width) (a .index) (length (a .out .now)) (asked x))
-
-and-true : (b : Bool) → (b && true) ≡ b
-and-true true = refl
-and-true false = refl
 
 and-false : (b : Bool) → (b && false) ≡ false
 and-false true = refl
