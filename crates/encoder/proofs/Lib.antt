@@ -6,3 +6,5 @@ pub mod Ready
 pub mod Unique
 pub mod Numbers
 pub mod Unread
+pub mod Expands
+pub mod Same

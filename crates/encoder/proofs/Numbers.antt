@@ -1,35 +1,27 @@
 -- The number and the count of forward's answer are the paper's. Assumes nothing.
 use mathlib.Core.Path.{_≡_, refl, sym, subst}
 use mathlib.Core.Bool.{Bool, true, false, _&&_}
-use mathlib.Core.List.{List}
 use Prim.Native.Nat.{ℕ, _*_, _/_}
 use lib.Dec.{leb, eqb}
-use lib.ListN.{length}
-use lib.Ieee.{Float}
 use Rattle.picture_limits.specs.declared.Refusal.the-variants.{Setting, Output, Grid, PatchesLength, WeightsLength, TableLength, Scratch}
 use Rattle.picture_limits.specs.declared.Shape.the-variants.{Shaped, Unshaped}
-use Rattle.picture_limits.specs.Refusal.{unless, reported}
+use Rattle.picture_limits.specs.Refusal.{unless}
 use Rattle.picture_limits.specs.Settings as P
 use Rattle.picture_limits.specs.Places.{patchFloats}
 use Rattle.picture_limits.specs.Shape.{gridAllowed, shaped}
 use Rattle.encoder_settings.specs.declared.EncoderSettings.{EncoderSettings}
 use Rattle.encoder_settings.specs.declared.Checked.{Checked}
 use Rattle.encoder_settings.specs.declared.Checked.the-variants as C
-use Rattle.encoder_settings.specs.Settings.{allowed, mergeArea, weightFloats, tableFloats, scratchFloats, lengths, onward, checkedOf}
+use Rattle.encoder_settings.specs.Settings.{allowed, mergeArea, weightFloats, scratchFloats, lengths, onward, checkedOf}
 use Rattle.encoder_settings.proofs.Bounds.{picture-allowed}
 use Rattle.encoder_steps.specs.Run.{Run, stopped, went, ran}
-use Rattle.encoder.specs.Stages.{forwardRun}
 use Rattle.encoder.specs.declared.Encoded.{Encoded}
-use Rattle.encoder.specs.Forward.{encodedBy, encodedOf, forwardNumber, number, tokens, Numbered}
-
-record Told (a : Encoded) (n o : ℕ) : Type 0 where
-  number-is : number a ≡ n
-  tokens-is : tokens a ≡ reported (number a) o
+use Rattle.encoder.specs.Forward.{encodedBy, numberOf, Numbered}
 
 -- the ladder of answers and that of numbers, test by test: 9, 10, 5, 11, 12
 by-lengths : (a b c d : Bool) (r : Run) (t o : ℕ)
-    → Told (encodedBy (unless a (C.Refused WeightsLength) (unless b (C.Refused TableLength) (unless c (C.Refused Output) (unless d (C.Refused Scratch) (C.Accepted t o))))) r)
-    (unless a 9 (unless b 10 (unless c 5 (unless d 11 (unless (ran r) 12 0))))) o
+    → Numbered (unless a 9 (unless b 10 (unless c 5 (unless d 11 (unless (ran r) 12 0))))) o
+    (encodedBy (unless a (C.Refused WeightsLength) (unless b (C.Refused TableLength) (unless c (C.Refused Output) (unless d (C.Refused Scratch) (C.Accepted t o))))) r)
 by-lengths false b c d r t o = record { number-is = refl; tokens-is = refl }
 by-lengths true false c d r t o = record { number-is = refl; tokens-is = refl }
 by-lengths true true false d r t o = record { number-is = refl; tokens-is = refl }
@@ -38,44 +30,44 @@ by-lengths true true true true stopped t o = record { number-is = refl; tokens-i
 by-lengths true true true true (went l) t o = record { number-is = refl; tokens-is = refl }
 
 -- 6, 7
-by-shape : (a b : Bool) (f : ℕ → Checked) (r : Run) (t n o : ℕ) → Told (encodedBy (f t) r) n o
-    → Told (encodedBy (onward (unless a (Unshaped Grid) (unless b (Unshaped PatchesLength) (Shaped t))) f) r) (unless a 6 (unless b 7 n)) o
+by-shape : (a b : Bool) (f : ℕ → Checked) (r : Run) (t n o : ℕ) → Numbered n o (encodedBy (f t) r)
+    → Numbered (unless a 6 (unless b 7 n)) o (encodedBy (onward (unless a (Unshaped Grid) (unless b (Unshaped PatchesLength) (Shaped t))) f) r)
 by-shape false b f r t n o h = record { number-is = refl; tokens-is = refl }
 by-shape true false f r t n o h = record { number-is = refl; tokens-is = refl }
 by-shape true true f r t n o h = h
 
-module _ (s : EncoderSettings) (gh gw : ℕ) (w cos sin x : List Float) (out scratch : ℕ) where
+module _ (s : EncoderSettings) (gh gw patches weights : ℕ) (tables : Bool) (out scratch : ℕ) (run : Run) where
   abbrev said : ℕ → ℕ → ℕ
   said t o =
       unless (gridAllowed (s .picture) gh && gridAllowed (s .picture) gw) 6
-      (unless (eqb (length x) (t * patchFloats (s .picture .«patch_size»))) 7
-      (unless (eqb (length w) (weightFloats s)) 9
-      (unless (eqb (length cos) (tableFloats s) && eqb (length sin) (tableFloats s)) 10
+      (unless (eqb patches (t * patchFloats (s .picture .«patch_size»))) 7
+      (unless (eqb weights (weightFloats s)) 9
+      (unless tables 10
       (unless (leb (o * s .«text_hidden_size») out) 5
       (unless (leb (scratchFloats s t o) scratch) 11
-      (unless (ran (forwardRun s gh gw w cos sin x)) 12
+      (unless (ran run) 12
       0))))))
 
   abbrev asked : ℕ → Checked
-  asked t = lengths s t (t / mergeArea (s .picture)) (length w) (length cos) (length sin) out scratch
+  asked t = lengths s t (t / mergeArea (s .picture)) weights tables out scratch
 
   by-picture : P.allowed (s .picture) ≡ true
-      → Told (encodedBy (onward (shaped (s .picture) gh gw (length x)) asked) (forwardRun s gh gw w cos sin x)) (said (gh * gw) (gh * gw / mergeArea (s .picture))) (gh * gw / mergeArea (s .picture))
+      → Numbered (said (gh * gw) (gh * gw / mergeArea (s .picture))) (gh * gw / mergeArea (s .picture)) (encodedBy (onward (shaped (s .picture) gh gw patches) asked) run)
   unfolding shaped lengths
   by-picture e =
       let t = gh * gw in
       let o = t / mergeArea (s .picture) in
       rw e
-      (by-shape (gridAllowed (s .picture) gh && gridAllowed (s .picture) gw) (eqb (length x) (t * patchFloats (s .picture .«patch_size»))) asked (forwardRun s gh gw w cos sin x) t _ o
-      (by-lengths (eqb (length w) (weightFloats s)) (eqb (length cos) (tableFloats s) && eqb (length sin) (tableFloats s)) (leb (o * s .«text_hidden_size») out) (leb (scratchFloats s t o) scratch) (forwardRun s gh gw w cos sin x) t o))
+      (by-shape (gridAllowed (s .picture) gh && gridAllowed (s .picture) gw) (eqb patches (t * patchFloats (s .picture .«patch_size»))) asked run t _ o
+      (by-lengths (eqb weights (weightFloats s)) tables (leb (o * s .«text_hidden_size») out) (leb (scratchFloats s t o) scratch) run t o))
 
   by-settings : (a : Bool) → allowed s ≡ a
-      → Told (encodedBy (unless a (C.Refused Setting) (onward (shaped (s .picture) gh gw (length x)) asked)) (forwardRun s gh gw w cos sin x)) (unless a 1 (said (gh * gw) (gh * gw / mergeArea (s .picture)))) (gh * gw / mergeArea (s .picture))
+      → Numbered (unless a 1 (said (gh * gw) (gh * gw / mergeArea (s .picture)))) (gh * gw / mergeArea (s .picture)) (encodedBy (unless a (C.Refused Setting) (onward (shaped (s .picture) gh gw patches) asked)) run)
   by-settings false e = record { number-is = refl; tokens-is = refl }
   by-settings true e = by-picture (picture-allowed s e)
 
-  pub numbered : (a : Encoded) → a ≡ encodedOf s gh gw w cos sin x out scratch → Numbered s gh gw w cos sin x out scratch a
-  unfolding encodedOf checkedOf forwardNumber
+  pub numbered : (a : Encoded) → a ≡ encodedBy (checkedOf s gh gw patches weights tables out scratch) run
+      → Numbered (numberOf s gh gw patches weights tables out scratch run) (gh * gw / mergeArea (s .picture)) a
+  unfolding checkedOf numberOf
   numbered a e =
-      let t = by-settings (allowed s) refl in
-      subst (Numbered s gh gw w cos sin x out scratch) (sym e) (record { number-is = t .number-is; tokens-is = t .tokens-is })
+      subst (Numbered (numberOf s gh gw patches weights tables out scratch run) (gh * gw / mergeArea (s .picture))) (sym e) (by-settings (allowed s) refl)

@@ -9,7 +9,8 @@ use Rattle.buffers.specs.inner.Apart.{before}
 use Rattle.picture_limits.specs.Places.{patchFloats}
 use Rattle.picture_limits.specs.Shape.{most}
 use Rattle.encoder_settings.specs.declared.EncoderSettings.{EncoderSettings}
-use Rattle.encoder_settings.specs.Settings.{mergeArea}
+use Rattle.encoder_settings.specs.declared.Form.{Form}
+use Rattle.encoder_settings.specs.Settings.{mergeArea, tablesFit}
 use Rattle.encoder_settings.specs.Weights.{floats}
 use Rattle.encoder_settings.proofs.Weights.{layer-long}
 use Rattle.encoder_settings.proofs.Accepted.{Lengths, Ready}
@@ -26,7 +27,8 @@ squares m gh gw h e g =
     let p : gh * gw ≡ gh / m * (gw / m) * (m * m) = cc (mul-mul-mul-comm (gh / m) m (gw / m) m) in
     sym (ap (λ (k : ℕ). k / (m * m)) p ∙ mul-div-cancel (gh / m * (gw / m)) h)
 
-module _ (s : EncoderSettings) (gh gw lenx lenw lenc lenn out lens t o : ℕ) (r : Ready s gh gw lenx t o) (l : Lengths s t o lenw lenc lenn out lens) where
+module _ (f : Form) (s : EncoderSettings) (gh gw lenx lenw lenc lenn lend lenm out lens t o : ℕ) (r : Ready s gh gw lenx t o)
+    (l : Lengths s t o lenw (tablesFit f s lenc lenn lend lenm) out lens) where
   abbrev z : Sizes
   z = sizesOf s t gw
 
@@ -102,12 +104,12 @@ module _ (s : EncoderSettings) (gh gw lenx lenw lenc lenn out lens t o : ℕ) (r
   side-holds : (g : ℕ) → g * s .picture .«patch_size» ≤ s .picture .«image_size» → g ≤ most (s .picture)
   side-holds g h = le-div-iff-mul-le (r .bounds .patch-low) .1 h
 
-  rotation-fits : RotationFits z lens lenc lenn
+  rotation-fits : RotationFits f z lens lenc lenn lend lenm
   rotation-fits =
       record {
         scratch = omega (arith, l .scratch-holds);
         whole = r .settings .split;
-        even = omega (arith, r .settings .fourth);
+        fourth = r .settings .fourth;
         small = r .bounds .hidden-high;
         narrow = r .settings .ranges .width .1;
         dimIn = omega (arith, l .scratch-holds, hiddens);
@@ -115,11 +117,10 @@ module _ (s : EncoderSettings) (gh gw lenx lenw lenc lenn out lens t o : ℕ) (r
         some = r .grid .wide .low;
         wide = side-holds gw (r .grid .wide .high);
         high = omega (arith, r .tokens-are, mul-le-mul-right gw (side-holds gh (r .grid .tall .high)));
-        cosines = l .cos-are;
-        sines = l .sin-are;
+        lengths = l .tables-are;
       }
 
-  layers-fit : LayersFits z lens (countsOf s z .layers) lenc lenn (regionsOf z (o * s .«text_hidden_size») .row) (s .«num_layers»)
+  layers-fit : LayersFits f z lens (countsOf s z .layers) lenc lenn lend lenm (regionsOf z (o * s .«text_hidden_size») .row) (s .«num_layers»)
   layers-fit =
       record {
         weights = let e : countsOf s z .layers ≡ s .«num_layers» * floats (partsOf z) = ap (λ (n : ℕ). s .«num_layers» * n) (layer-long (z .hidden) (z .inter)) in omega arith;
@@ -190,7 +191,7 @@ module _ (s : EncoderSettings) (gh gw lenx lenw lenc lenn out lens t o : ℕ) (r
         merges = merge-fits;
       }
 
-  pub run-fits : RunFits s gh gw t o lenx lenw lenc lenn lens
+  pub run-fits : RunFits f s gh gw t o lenx lenw lenc lenn lend lenm lens
   run-fits =
       record {
         counts = counts-fit;

@@ -11,6 +11,7 @@ use Rattle.encoder_settings.specs.Settings.{scalingAllowed, allowed, lengths, c
 use Rattle.encoder_settings.specs.Lengths.{neededOf}
 use Rattle.encoder.specs.Stages.{runOf}
 use Rattle.encoder.specs.Forward.{encodedOf, outOf, scratchOf}
+use Rattle.encoder.specs.Axes.{encodedAxes, outAxes, scratchAxes}
 
 -- the same settings, but for their means and deviations
 abbrev pub otherwise : List Float → List Float → EncoderSettings → EncoderSettings
@@ -52,3 +53,16 @@ module _ (s : EncoderSettings) (means deviations : List Float) (gh gw : ℕ) whe
     pub scratch-unread : (out : ℕ) (old : List Float) → scratchOf (otherwise means deviations s) gh gw w cos sin x out old ≡ scratchOf s gh gw w cos sin x out old
     unfolding scratchOf checkedOf allowed P.allowed scalingAllowed shaped lengths
     scratch-unread out old = refl
+
+  module _ (w rowCos rowSin columnCos columnSin x : List Float) where
+    pub axes-answer-unread : (out scratch : ℕ) → encodedAxes (otherwise means deviations s) gh gw w rowCos rowSin columnCos columnSin x out scratch ≡ encodedAxes s gh gw w rowCos rowSin columnCos columnSin x out scratch
+    unfolding encodedAxes checkedOf allowed P.allowed scalingAllowed shaped lengths runOf
+    axes-answer-unread out scratch = refl
+
+    pub axes-output-unread : (scratch : ℕ) (old : List Float) → outAxes (otherwise means deviations s) gh gw w rowCos rowSin columnCos columnSin x scratch old ≡ outAxes s gh gw w rowCos rowSin columnCos columnSin x scratch old
+    unfolding outAxes checkedOf allowed P.allowed scalingAllowed shaped lengths runOf
+    axes-output-unread scratch old = refl
+
+    pub axes-scratch-unread : (out : ℕ) (old : List Float) → scratchAxes (otherwise means deviations s) gh gw w rowCos rowSin columnCos columnSin x out old ≡ scratchAxes s gh gw w rowCos rowSin columnCos columnSin x out old
+    unfolding scratchAxes checkedOf allowed P.allowed scalingAllowed shaped lengths
+    axes-scratch-unread out old = refl

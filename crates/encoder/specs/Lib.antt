@@ -1,3 +1,4 @@
 pub mod Stages
 pub mod Forward
+pub mod Axes
 pub mod inner

@@ -1,3 +1,4 @@
 pub mod Fits
 pub mod Live
 pub mod Source
+pub mod Forms

@@ -1,10 +1,12 @@
 -- Each half of a block, from what its steps say. Assumes nothing.
-use mathlib.Core.Bool.{Bool, true, _&&_, cond}
+use mathlib.Core.Bool.{Bool, true, false, _&&_, cond}
 use mathlib.Core.Path.{_≡_, sym, ap, _∙_}
 use mathlib.Core.List.{List}
 use Prim.Native.Nat.{ℕ, _+_, _*_, _/_, _%_, _≤_}
 use Prim.Native.String.{String}
 use native.Mathlib.Omega.{arith}
+use borrow.Author.Tests.{eqb-true}
+use lib.Dec.{eqb}
 use lib.ListN.{length}
 use lib.Ieee.{Float}
 use Rattle.number_floats.specs.Constants.{zero32}
@@ -13,16 +15,18 @@ use Rattle.buffers.specs.Region.{region, put}
 use Rattle.buffers.specs.Each.{blank}
 use Rattle.buffers.specs.inner.Apart.{before, after}
 use Rattle.buffers.proofs.Regions.{length-put, length-region, region-put, region-put-same}
+use Rattle.buffers.proofs.Rooms.{and-parts}
 use Rattle.buffers.proofs.Steps.{blank-region}
+use Rattle.encoder_settings.specs.declared.Form.{Form}
 use Rattle.encoder_settings.specs.Weights.{part}
 use Rattle.encoder_settings.proofs.Weights.{placeIn, floatsIn, stands}
 use Rattle.encoder_linear.proofs.Sums.{length-linear}
 use Rattle.encoder_elements.specs.Element.{added, gated, rounded}
 use Rattle.encoder_elements.proofs.Lengths.{length-added, length-gated, length-rounded}
 use Rattle.encoder_kernels.specs.Finite.{allFinite}
-use Rattle.encoder_kernels.specs.inner.Fits.{RotateFits}
+use Rattle.encoder_rotation.specs.inner.Fits.{PlacesFit, RotateFits, AxesFits}
 use Rattle.encoder_kernels.proofs.Lengths.{length-norm}
-use Rattle.encoder_kernels.proofs.Rotated.{length-rotate}
+use Rattle.encoder_rotation.proofs.Rotated.{length-rotate}
 use Rattle.encoder_attention.specs.Attention.{scoresOf, attentionOf}
 use Rattle.encoder_attention.specs.inner.Fits.{KeysFit}
 use Rattle.encoder_attention.specs.inner.Keys.{turnedKeys}
@@ -32,9 +36,10 @@ use Rattle.encoder_attention.proofs.Keys.{length-turned}
 use Rattle.encoder_attention.proofs.Rooms.{attend-fits}
 use Rattle.encoder_steps.specs.Run.{stagesFinite, answer}
 use Rattle.encoder_steps.specs.inner.Step.{LinearAt, Wrote}
-use Rattle.encoder_steps.proofs.Writes.{LinearTried, NormTried, RotateTried, AddTried, GateTried, RoundTried, got, long, left, linear-wrote, norm-wrote, rotate-wrote, add-wrote, gate-wrote, round-wrote}
+use Rattle.encoder_steps.proofs.Writes.{LinearTried, NormTried, RotateTried, AxesTried, AddTried, GateTried, RoundTried, got, long, left, linear-wrote, norm-wrote, rotate-wrote, axes-wrote, add-wrote, gate-wrote, round-wrote}
 use Rattle.encoder_blocks.specs.declared.Sizes.{Sizes}
 use Rattle.encoder_blocks.specs.Block.{nOf, mOf, partsOf, normed, squareOf, innerOf, outerOf, rotated, mixed, scored, attnRun, feedRun}
+use Rattle.encoder_blocks.specs.Tables.{tableBy}
 use Rattle.encoder_blocks.specs.inner.Live.{hAt}
 use Rattle.encoder_blocks.specs.inner.Fits.{BlockFits, RotationFits, ScoreRow}
 
@@ -58,7 +63,7 @@ module _ (z : Sizes) where
   length-outer name w x = length-linear (z .tokens) (z .inter) (z .hidden) (part (partsOf z) name w) x
 
   -- the halves of the heads
-  halves-whole : z .heads * z .«head_dim» ≡ z .hidden → z .«head_dim» % 2 ≡ 0 → z .heads * (z .«head_dim» / 2 + z .«head_dim» / 2) ≡ z .hidden
+  halves-whole : z .heads * z .«head_dim» ≡ z .hidden → z .«head_dim» % 4 ≡ 0 → z .heads * (z .«head_dim» / 2 + z .«head_dim» / 2) ≡ z .hidden
   halves-whole w e = let h : z .«head_dim» / 2 + z .«head_dim» / 2 ≡ z .«head_dim» = omega arith in ap (λ (k : ℕ). z .heads * k) h ∙ w
 
   length-rotated : z .heads * (z .«head_dim» / 2 + z .«head_dim» / 2) ≡ z .hidden → (cos sin x : List Float) → length (rotated z cos sin x) ≡ nOf z
@@ -100,31 +105,75 @@ module _ (z : Sizes) (w : List Float) {s t : List Float} {ok r : Bool} where
 
 -- ---- the rotation
 
-rotate-at : (z : Sizes) {len lenc lenn : ℕ} (x : ℕ) → RotationFits z len lenc lenn → x + nOf z ≤ len
-    → RotateFits len lenc lenn x (z .tokens) (z .heads) (z .«head_dim» / 2) (z .«grid_w») (z .side)
-rotate-at z x f xIn =
-    let half = z .«head_dim» / 2 in
-    let h : half + half ≡ z .«head_dim» = omega (arith, f .even) in
-    let e = halves-whole z (f .whole) (f .even) in
-    let n : z .tokens * (z .heads * (half + half)) ≡ nOf z = ap (λ (k : ℕ). z .tokens * k) e in
-    let t : z .side * z .side * z .«head_dim» ≡ z .side * z .side * (half + half) = ap (λ (k : ℕ). z .side * z .side * k) (sym h) in
-    record {
-      narrow = omega (arith, f .narrow, h);
-      tables = f .tables;
-      dimin = omega (arith, f .dimIn, e);
-      xin = omega (arith, xIn, n);
-      some = f .some;
-      wide = f .wide;
-      high = f .high;
-      cin = f .cosines ∙ t;
-      sin′ = f .sines ∙ t;
-    }
+module _ (f : Form) (z : Sizes) where
+  places-at : {len lenc lenn lend lenm : ℕ} (x : ℕ) → RotationFits f z len lenc lenn lend lenm → x + nOf z ≤ len
+      → PlacesFit len x (z .tokens) (z .heads) (z .«head_dim» / 2) (z .«grid_w») (z .side)
+  places-at x k xIn =
+      let half = z .«head_dim» / 2 in
+      let e = halves-whole z (k .whole) (k .fourth) in
+      let n : z .tokens * (z .heads * (half + half)) ≡ nOf z = ap (λ (k : ℕ). z .tokens * k) e in
+      record {
+        narrow = omega (arith, k .narrow);
+        tables = k .tables;
+        dimin = omega (arith, k .dimIn, e);
+        xin = omega (arith, xIn, n);
+        some = k .some;
+        wide = k .wide;
+        high = k .high;
+      }
 
-rotated-wrote : (z : Sizes) (cos sin : List Float) {s t : List Float} {ok r : Bool} (x : ℕ) → RotationFits z (length s) (length cos) (length sin) → x + nOf z ≤ length s
-    → RotateTried cos sin x (z .tokens) (z .heads) (z .«head_dim» / 2) (z .«grid_w») (z .side) s t ok r → Wrote s t x (rotated z cos sin (region s x (nOf z))) ok r
-unfolding rotated
-rotated-wrote z cos sin x f xIn T =
-    rw (halves-whole z (f .whole) (f .even)) at (rotate-wrote cos sin x (z .tokens) (z .heads) (z .«head_dim» / 2) (z .«grid_w») (z .side) (rotate-at z x f xIn) T)
+  -- by full tables
+  rotate-at : {len lenc lenn lend lenm : ℕ} (x : ℕ) → f .axes ≡ false → RotationFits f z len lenc lenn lend lenm → x + nOf z ≤ len
+      → RotateFits len lenc lenn x (z .tokens) (z .heads) (z .«head_dim» / 2) (z .«grid_w») (z .side)
+  rotate-at {lenc = lenc} {lenn = lenn} x e k xIn =
+      let half = z .«head_dim» / 2 in
+      let h : half + half ≡ z .«head_dim» = omega (arith, k .fourth) in
+      let full = z .side * z .side * z .«head_dim» in
+      let t : full ≡ z .side * z .side * (half + half) = ap (λ (k : ℕ). z .side * z .side * k) (sym h) in
+      let l : eqb lenc full && eqb lenn full ≡ true = rw e at (k .lengths) in
+      let b = and-parts (eqb lenc full) (eqb lenn full) l in
+      record { places = places-at x k xIn; cin = eqb-true lenc full (b .0) ∙ t; sin′ = eqb-true lenn full (b .1) ∙ t }
+
+  -- by tables of rows and of columns
+  quarter : z .«head_dim» / 2 / 2 ≡ z .«head_dim» / 4
+  quarter = omega arith
+
+  axes-at : {len lenc lenn lend lenm : ℕ} (x : ℕ) → f .axes ≡ true → RotationFits f z len lenc lenn lend lenm → x + nOf z ≤ len
+      → AxesFits len lenc lenn lend lenm x (z .tokens) (z .heads) (z .«head_dim» / 2) (z .«grid_w») (z .side)
+  axes-at {lenc = lenc} {lenn = lenn} {lend = lend} {lenm = lenm} x e k xIn =
+      let n = z .side * (z .«head_dim» / 4) in
+      let t : n ≡ z .side * (z .«head_dim» / 2 / 2) = ap (λ (k : ℕ). z .side * k) (sym quarter) in
+      let l : (eqb lenc n && eqb lenn n) && (eqb lend n && eqb lenm n) ≡ true = rw e at (k .lengths) in
+      let b = and-parts (eqb lenc n && eqb lenn n) (eqb lend n && eqb lenm n) l in
+      let r = and-parts (eqb lenc n) (eqb lenn n) (b .0) in
+      let c = and-parts (eqb lend n) (eqb lenm n) (b .1) in
+      record {
+        places = places-at x k xIn;
+        even = omega (arith, k .fourth);
+        rows-cos = eqb-true lenc n (r .0) ∙ t;
+        rows-sin = eqb-true lenn n (r .1) ∙ t;
+        columns-cos = eqb-true lend n (c .0) ∙ t;
+        columns-sin = eqb-true lenm n (c .1) ∙ t;
+      }
+
+  module _ (cos sin columnCos columnSin : List Float) where
+    abbrev Rotated : List Float → List Float → ℕ → Bool → Bool → Type 0
+    Rotated s t x ok r = Wrote s t x (rotated z (tableBy f z cos columnCos) (tableBy f z sin columnSin) (region s x (nOf z))) ok r
+
+    abbrev Fit : List Float → Type 0
+    Fit s = RotationFits f z (length s) (length cos) (length sin) (length columnCos) (length columnSin)
+
+    pub full-rotated : {s t : List Float} {ok r : Bool} (x : ℕ) → Fit s → x + nOf z ≤ length s → f .axes ≡ false
+        → RotateTried cos sin x (z .tokens) (z .heads) (z .«head_dim» / 2) (z .«grid_w») (z .side) s t ok r → Rotated s t x ok r
+    unfolding rotated
+    full-rotated x k xIn e T =
+        rw e (rw (halves-whole z (k .whole) (k .fourth)) at (rotate-wrote cos sin x (z .tokens) (z .heads) (z .«head_dim» / 2) (z .«grid_w») (z .side) (rotate-at x e k xIn) T))
+
+    pub axes-rotated : {s t : List Float} {ok r : Bool} (x : ℕ) → Fit s → x + nOf z ≤ length s → f .axes ≡ true
+        → AxesTried cos sin columnCos columnSin x (z .tokens) (z .heads) (z .«head_dim» / 2) (z .«grid_w») (z .side) s t ok r → Rotated s t x ok r
+    unfolding rotated
+    axes-rotated x k xIn e T =
+        rw (e, ← quarter) (rw (halves-whole z (k .whole) (k .fourth)) at (axes-wrote cos sin columnCos columnSin x (z .tokens) (z .heads) (z .«head_dim» / 2) (z .«grid_w») (z .side) (axes-at x e k xIn) T))
 
 -- ---- the attention
 
@@ -207,24 +256,25 @@ module _ (z : Sizes) (w s : List Float) (f : BlockFits z (length s) (length w)) 
   abbrev m : ℕ
   m = mOf z
 
-  pub attn-half : (cos sin : List Float) (row : ℕ) → RotationFits z (length s) (length cos) (length sin) → ScoreRow z (length s) row
+  -- by any full tables
+  pub attn-half : (cos sin : List Float) (row : ℕ) → z .«head_dim» % 4 ≡ 0 → ScoreRow z (length s) row
       → (s₁ s₂ s₃ s₄ s₅ s₆ s₇ s₈ s₉ : List Float) (r₁ r₂ r₃ r₄ r₅ r₆ r₇ i r₈ r₉ : Bool)
       → NormTried (region w 0 d) 0 n (z .tokens) d s s₁ true r₁
       → LinearTried w n (2 * n) (z .tokens) d d d s₁ s₂ r₁ r₂
       → LinearTried w n (3 * n) (z .tokens) d d (d + d * d) s₂ s₃ r₂ r₃
       → LinearTried w n (4 * n) (z .tokens) d d (d + d * d + d * d) s₃ s₄ r₃ r₄
-      → RotateTried cos sin (2 * n) (z .tokens) (z .heads) (z .«head_dim» / 2) (z .«grid_w») (z .side) s₄ s₅ r₄ r₅
-      → RotateTried cos sin (3 * n) (z .tokens) (z .heads) (z .«head_dim» / 2) (z .«grid_w») (z .side) s₅ s₆ r₅ r₆
+      → Wrote s₄ s₅ (2 * n) (rotated z cos sin (region s₄ (2 * n) n)) r₄ r₅
+      → Wrote s₅ s₆ (3 * n) (rotated z cos sin (region s₅ (3 * n) n)) r₅ r₆
       → Attend z row s₆ s₇ r₇
       → i ≡ allFinite (region s₇ (5 * n) n)
       → LinearTried w (5 * n) (6 * n) (z .tokens) d d (d + d * d + d * d + d * d) s₇ s₈ ((r₆ && r₇) && i) r₈
       → AddTried 0 (6 * n) n s₈ s₉ r₈ r₉
       → answer r₉ (hAt z s₉) ≡ attnRun z w cos sin (hAt z s)
   unfolding stagesFinite attnRun
-  attn-half cos sin row ro sc s₁ s₂ s₃ s₄ s₅ s₆ s₇ s₈ s₉ r₁ r₂ r₃ r₄ r₅ r₆ r₇ i r₈ r₉ t₁ t₂ t₃ t₄ t₅ t₆ t₇ e t₈ t₉ =
+  attn-half cos sin row ro sc s₁ s₂ s₃ s₄ s₅ s₆ s₇ s₈ s₉ r₁ r₂ r₃ r₄ r₅ r₆ r₇ i r₈ r₉ t₁ t₂ t₃ t₄ w₅ w₆ t₇ e t₈ t₉ =
       let g = f .scratch in
       let b = f .weights in
-      let half = halves-whole z (ro .whole) (ro .even) in
+      let half = halves-whole z (f .whole) ro in
       let w₁ = normed-wrote z w "attention_norm" 0 (omega arith) (omega arith) (omega arith) (f .small) (omega arith) t₁ in
       let l₁ = length-normed z "attention_norm" w (hAt z s) in
       let k₁ : length s₁ ≡ length s = long w₁ n l₁ in
@@ -237,10 +287,8 @@ module _ (z : Sizes) (w s : List Float) (f : BlockFits z (length s) (length w)) 
       let w₄ = square-wrote z w "v" n (4 * n) (d + d * d + d * d) (omega arith) (omega arith) (record { xIn = omega arith; yIn = omega arith; wIn = omega arith; apart = before (omega arith) }) t₄ in
       let l₄ = length-square z "v" w (region s₃ n n) in
       let k₄ : length s₄ ≡ length s = long w₄ n l₄ ∙ k₃ in
-      let w₅ = rotated-wrote z cos sin (2 * n) (rw k₄ ro) (omega arith) t₅ in
       let l₅ = length-rotated z half cos sin (region s₄ (2 * n) n) in
       let k₅ : length s₅ ≡ length s = long w₅ n l₅ ∙ k₄ in
-      let w₆ = rotated-wrote z cos sin (3 * n) (rw k₅ ro) (omega arith) t₆ in
       let l₆ = length-rotated z half cos sin (region s₅ (3 * n) n) in
       let k₆ : length s₆ ≡ length s = long w₆ n l₆ ∙ k₅ in
       let w₇ = attended z s₆ (length w) row (rw k₆ f) (rw k₆ sc) t₇ in

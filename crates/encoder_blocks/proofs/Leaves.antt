@@ -13,8 +13,10 @@ use Rattle.encoder_steps.specs.Run.{Run, stopped, went, stagesFinite, answer, r
 use Rattle.encoder_steps.proofs.Writes.{answer-went, then-went}
 use Rattle.encoder_steps.proofs.Fronts.{front-is}
 use Rattle.encoder_blocks.specs.declared.Sizes.{Sizes}
+use Rattle.encoder_settings.specs.declared.Form.{Form}
 use Rattle.encoder_settings.specs.Weights.{nthLayer}
 use Rattle.encoder_blocks.specs.Block.{nOf, mOf, normed, innerOf, outerOf, attnRun, feedRun, blockRun, layersRun}
+use Rattle.encoder_blocks.specs.Tables.{tableBy}
 use Rattle.encoder_blocks.specs.inner.Live.{hAt}
 use Rattle.encoder_blocks.specs.inner.Room.{layersFit}
 use Rattle.encoder_blocks.specs.inner.Fits.{LayersFits}
@@ -40,19 +42,23 @@ layers-long z w cos sin (suc n) h l k e =
     block-long z v cos sin (g .0) l (g .1)
 
 -- where all fits, the run is what the call says and leaves at the front
-pub layers-done : (z : Sizes) (s t w cos sin : List Float) (row count : ℕ) (r : Bool)
-    → LayersFits z (length s) (length w) (length cos) (length sin) row count
-    → r ≡ (layersFit z (length s) (length w) (length cos) (length sin) row count && ran (layersRun z w cos sin count (hAt z s)))
-    → t ≡ cond (layersFit z (length s) (length w) (length cos) (length sin) row count) (handed (layersRun z w cos sin count (hAt z s)) s) s
-    → answer r (hAt z t) ≡ layersRun z w cos sin count (hAt z s)
-layers-done z s t w cos sin row count r f e g =
-    let b = layers-fit z f in
-    let R = layersRun z w cos sin count (hAt z s) in
-    let k : nOf z ≤ length s = omega (arith, f .rotation .scratch) in
+pub layers-done : (f : Form) (z : Sizes) (s t w cos sin columnCos columnSin : List Float) (row count : ℕ) (r : Bool)
+    → LayersFits f z (length s) (length w) (length cos) (length sin) (length columnCos) (length columnSin) row count
+    → (let C = tableBy f z cos columnCos in
+    let S = tableBy f z sin columnSin in
+    let R = layersRun z w C S count (hAt z s) in
+    let fits = layersFit f z (length s) (length w) (length cos) (length sin) (length columnCos) (length columnSin) row count in
+    r ≡ (fits && ran R) → t ≡ cond fits (handed R s) s → answer r (hAt z t) ≡ R)
+layers-done f z s t w cos sin columnCos columnSin row count r k e g =
+    let b = layers-fit z f k in
+    let C = tableBy f z cos columnCos in
+    let S = tableBy f z sin columnSin in
+    let R = layersRun z w C S count (hAt z s) in
+    let l : nOf z ≤ length s = omega (arith, k .rotation .scratch) in
     let e′ : r ≡ ran R = e ∙ ap (λ c. c && ran R) b in
     let g′ : t ≡ handed R s = g ∙ ap (λ c. cond c (handed R s) s) b in
-    rw (e′, g′) (go k R refl)
+    rw (e′, g′) (went-on C S l R refl)
   where
-    go : nOf z ≤ length s → (R : Run) → layersRun z w cos sin count (hAt z s) ≡ R → answer (ran R) (hAt z (handed R s)) ≡ R
-    go k stopped q = refl
-    go k (went l) q = ap went (front-is l s (nOf z) (layers-long z w cos sin count (hAt z s) l (length-region s 0 (nOf z) (omega (arith, k))) q) k)
+    went-on : (C S : List Float) → nOf z ≤ length s → (R : Run) → layersRun z w C S count (hAt z s) ≡ R → answer (ran R) (hAt z (handed R s)) ≡ R
+    went-on C S l stopped q = refl
+    went-on C S l (went h) q = ap went (front-is h s (nOf z) (layers-long z w C S count (hAt z s) h (length-region s 0 (nOf z) (omega (arith, l))) q) l)

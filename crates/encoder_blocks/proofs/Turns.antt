@@ -6,6 +6,7 @@ use Prim.Native.Nat.{ℕ, _+_}
 use native.Mathlib.Numerals.{add-one}
 use lib.Ieee.{Float}
 use Rattle.encoder_blocks.specs.declared.Sizes.{Sizes}
+use Rattle.encoder_settings.specs.declared.Form.{Form}
 use Rattle.encoder_settings.specs.Weights.{floats, nthLayer}
 use Rattle.encoder_blocks.specs.Block.{partsOf, blockRun, layersRun}
 use Rattle.encoder_steps.specs.Run.{answer}
@@ -21,5 +22,5 @@ layers-turn z w cos sin h p hs hs′ l ok r d e f =
     rw add-one (answer-then ok r hs hs′ (blockRun z p cos sin) (sym f) ∙ rw (e, d))
 
 -- what the block asks, at a layer's part of the weights
-pub block-at : (z : Sizes) {lens lenw : ℕ} (lenc lenn : ℕ) → lenw ≡ floats (partsOf z) → RotationFits z lens lenc lenn → BlockFits z lens lenw
-block-at z lenc lenn l f = record { scratch = f .scratch; weights = l; whole = f .whole; small = f .small; dimIn = f .dimIn }
+pub block-at : (f : Form) (z : Sizes) {lens lenw : ℕ} (lenc lenn lend lenm : ℕ) → lenw ≡ floats (partsOf z) → RotationFits f z lens lenc lenn lend lenm → BlockFits z lens lenw
+block-at f z lenc lenn lend lenm l k = record { scratch = k .scratch; weights = l; whole = k .whole; small = k .small; dimIn = k .dimIn }

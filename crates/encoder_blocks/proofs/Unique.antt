@@ -7,16 +7,19 @@ use lib.ListN.{length}
 use lib.Ieee.{Float}
 use Rattle.encoder_steps.specs.Run.{ran, handed}
 use Rattle.encoder_blocks.specs.Block.{layersRun}
+use Rattle.encoder_settings.specs.declared.Form.{Form}
+use Rattle.encoder_blocks.specs.Tables.{tableBy}
 use Rattle.encoder_blocks.specs.inner.Live.{hAt}
 use Rattle.encoder_blocks.specs.inner.Room.{layersFit}
 use Rattle.encoder_blocks.specs.declared.Sizes.{Sizes}
 use Rattle.number_floats.proofs.Unique.{one}
 
-abbrev pub Layers : List Float → Sizes → ℕ → List Float → ℕ → List Float → List Float → Bool → List Float → Type 0
-Layers s z row w count cos sin r s′ =
-    (r ≡ (layersFit z (length s) (length w) (length cos) (length sin) row count && ran (layersRun z w cos sin count (hAt z s))))
-    × (s′ ≡ cond (layersFit z (length s) (length w) (length cos) (length sin) row count) (handed (layersRun z w cos sin count (hAt z s)) s) s)
+module _ (f : Form) (s : List Float) (z : Sizes) (row : ℕ) (w : List Float) (count : ℕ) (cos sin columnCos columnSin : List Float) where
+  abbrev pub Layers : Bool → List Float → Type 0
+  Layers r s′ =
+      let R = layersRun z w (tableBy f z cos columnCos) (tableBy f z sin columnSin) count (hAt z s) in
+      let fits = layersFit f z (length s) (length w) (length cos) (length sin) (length columnCos) (length columnSin) row count in
+      (r ≡ (fits && ran R)) × (s′ ≡ cond fits (handed R s) s)
 
-pub layers-unique : (s : List Float) (z : Sizes) (row : ℕ) (w : List Float) (count : ℕ) (cos sin : List Float) (r r′ : Bool) (s′ s″ : List Float)
-    → Layers s z row w count cos sin r s′ → Layers s z row w count cos sin r′ s″ → (r ≡ r′) × (s′ ≡ s″)
-layers-unique s z row w count cos sin r r′ s′ s″ a b = (one _ (a .0) (b .0), one _ (a .1) (b .1))
+  pub layers-unique : (r r′ : Bool) (s′ s″ : List Float) → Layers r s′ → Layers r′ s″ → (r ≡ r′) × (s′ ≡ s″)
+  layers-unique r r′ s′ s″ a b = (one _ (a .0) (b .0), one _ (a .1) (b .1))

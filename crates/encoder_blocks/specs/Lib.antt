@@ -1,2 +1,3 @@
 pub mod Block
+pub mod Tables
 pub mod inner

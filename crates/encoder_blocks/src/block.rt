@@ -1,33 +1,85 @@
 // One encoder block, as its two halves. Where a part of the layer's weights starts goes by the part's name, and where the
 // part's results stand in the scratch by its plural; h stands at 0, and a half's norm at n.
 ghost use mathlib.Core.Path.{_≡_};
+ghost use Prim.Native.Nat.{_+_, _≤_};
 ghost use lib.ListN.{length};
+ghost use Rattle.buffers.specs.Region.{region};
 ghost use Rattle.encoder_steps.specs.Run.{answer};
-ghost use Rattle.encoder_blocks.specs.Block.{attnRun, feedRun, blockRun};
+ghost use Rattle.encoder_steps.specs.inner.Step.{Wrote};
+ghost use Rattle.encoder_blocks.specs.Block.{nOf, rotated, attnRun, feedRun, blockRun};
+ghost use Rattle.encoder_blocks.specs.Tables.{tableBy};
 ghost use Rattle.encoder_blocks.specs.inner.Live.{hAt};
 ghost use Rattle.encoder_blocks.specs.inner.Fits.{BlockFits, RotationFits, ScoreRow};
 use crate::Sizes;
 use buffers::part;
 use encoder_attention::attention::attend;
 use encoder_kernels::finite::finite;
+use encoder_settings::Form;
 use encoder_steps::add_finite;
 use encoder_steps::gate_finite;
 use encoder_steps::linear_finite;
 use encoder_steps::norm_finite;
+use encoder_steps::rotate_axes_finite;
 use encoder_steps::rotate_finite;
 use encoder_steps::round_finite;
 
+// The rotation of the tokens at x, by full tables or by those of rows and of columns.
+pub(crate) fn rotate_by(
+    s: &mut [f32],
+    x: usize,
+    z: Sizes,
+    cos: &[f32],
+    sin: &[f32],
+    column_cos: &[f32],
+    column_sin: &[f32],
+    f: Form,
+    ok: bool,
+) -> bool
+    requires { ⌜ RotationFits f z (length (now s)) (length (now cos)) (length (now sin)) (length (now «column_cos»)) (length (now «column_sin»)) ⌝ }
+    requires { ⌜ x + nOf z ≤ length (now s) ⌝ }
+    ensures { λ r. ⌜ Wrote (now (s .entry)) (now (s .exit)) x (rotated z (tableBy f z (now (cos .entry)) (now («column_cos» .entry))) (tableBy f z (now (sin .entry)) (now («column_sin» .entry))) (region (now (s .entry)) x (nOf z))) ok r ⌝ }
+{
+    let t = z.tokens;
+    let half = z.head_dim / 2;
+    if f.axes {
+        return rotate_axes_finite(
+            s,
+            x,
+            t,
+            z.heads,
+            half,
+            z.grid_w,
+            z.side,
+            cos,
+            sin,
+            column_cos,
+            column_sin,
+            ok,
+        );
+    }
+    rotate_finite(s, x, t, z.heads, half, z.grid_w, z.side, cos, sin, ok)
+}
+
 // The first half: norm, q, k, v, rotation, attention, o, residual. The keys are turned where the norm stood, which nothing
 // reads any more.
-pub(crate) fn attn(s: &mut [f32], z: Sizes, row: usize, w: &[f32], cos: &[f32], sin: &[f32]) -> bool
+pub(crate) fn attn(
+    s: &mut [f32],
+    z: Sizes,
+    row: usize,
+    w: &[f32],
+    cos: &[f32],
+    sin: &[f32],
+    column_cos: &[f32],
+    column_sin: &[f32],
+    f: Form,
+) -> bool
     requires { ⌜ BlockFits z (length (now s)) (length (now w)) ⌝ }
-    requires { ⌜ RotationFits z (length (now s)) (length (now cos)) (length (now sin)) ⌝ }
+    requires { ⌜ RotationFits f z (length (now s)) (length (now cos)) (length (now sin)) (length (now «column_cos»)) (length (now «column_sin»)) ⌝ }
     requires { ⌜ ScoreRow z (length (now s)) row ⌝ }
-    ensures { λ r. ⌜ answer r (hAt z (now (s .exit))) ≡ attnRun z (now (w .entry)) (now (cos .entry)) (now (sin .entry)) (hAt z (now (s .entry))) ⌝ }
+    ensures { λ r. ⌜ answer r (hAt z (now (s .exit))) ≡ attnRun z (now (w .entry)) (tableBy f z (now (cos .entry)) (now («column_cos» .entry))) (tableBy f z (now (sin .entry)) (now («column_sin» .entry))) (hAt z (now (s .entry))) ⌝ }
 {
     let t = z.tokens;
     let dim = z.hidden;
-    let hd = z.head_dim;
     let n = t * dim;
     let q = dim;
     let k = q + dim * dim;
@@ -42,9 +94,21 @@ pub(crate) fn attn(s: &mut [f32], z: Sizes, row: usize, w: &[f32], cos: &[f32], 
     let ok = linear_finite(s, n, qs, t, dim, dim, w, q, ok);
     let ok = linear_finite(s, n, ks, t, dim, dim, w, k, ok);
     let ok = linear_finite(s, n, vs, t, dim, dim, w, v, ok);
-    let ok = rotate_finite(s, qs, t, z.heads, hd / 2, z.grid_w, z.side, cos, sin, ok);
-    let ok = rotate_finite(s, ks, t, z.heads, hd / 2, z.grid_w, z.side, cos, sin, ok);
-    let scored = attend(s, qs, ks, vs, n, row, sums, t, z.heads, hd, z.scaling);
+    let ok = rotate_by(s, qs, z, cos, sin, column_cos, column_sin, f, ok);
+    let ok = rotate_by(s, ks, z, cos, sin, column_cos, column_sin, f, ok);
+    let scored = attend(
+        s,
+        qs,
+        ks,
+        vs,
+        n,
+        row,
+        sums,
+        t,
+        z.heads,
+        z.head_dim,
+        z.scaling,
+    );
     let summed = finite(part(s, sums, n));
     let ok = linear_finite(s, sums, os, t, dim, dim, w, o, (ok & scored) & summed);
     add_finite(s, 0, os, n, ok)
@@ -84,13 +148,16 @@ pub(crate) fn pixtral_block_forward(
     w: &[f32],
     cos: &[f32],
     sin: &[f32],
+    column_cos: &[f32],
+    column_sin: &[f32],
+    f: Form,
 ) -> bool
     requires { ⌜ BlockFits z (length (now s)) (length (now w)) ⌝ }
-    requires { ⌜ RotationFits z (length (now s)) (length (now cos)) (length (now sin)) ⌝ }
+    requires { ⌜ RotationFits f z (length (now s)) (length (now cos)) (length (now sin)) (length (now «column_cos»)) (length (now «column_sin»)) ⌝ }
     requires { ⌜ ScoreRow z (length (now s)) row ⌝ }
-    ensures { λ r. ⌜ answer r (hAt z (now (s .exit))) ≡ blockRun z (now (w .entry)) (now (cos .entry)) (now (sin .entry)) (hAt z (now (s .entry))) ⌝ }
+    ensures { λ r. ⌜ answer r (hAt z (now (s .exit))) ≡ blockRun z (now (w .entry)) (tableBy f z (now (cos .entry)) (now («column_cos» .entry))) (tableBy f z (now (sin .entry)) (now («column_sin» .entry))) (hAt z (now (s .entry))) ⌝ }
 {
-    let a = attn(s, z, row, w, cos, sin);
+    let a = attn(s, z, row, w, cos, sin, column_cos, column_sin, f);
     let b = feed(s, z, w);
     a & b
 }

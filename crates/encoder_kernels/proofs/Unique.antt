@@ -2,15 +2,14 @@
 use mathlib.Core.Path.{_≡_}
 use mathlib.Core.Bool.{Bool}
 use mathlib.Core.List.{List}
-use Prim.Native.Nat.{ℕ, _+_, _*_}
+use Prim.Native.Nat.{ℕ, _*_}
 use lib.ListN.{length}
 use lib.Ieee.{Float}
 use Rattle.encoder_kernels.specs.Finite.{allFinite}
 use Rattle.buffers.specs.Region.{region}
 use Rattle.encoder_kernels.specs.Norm.{normOf}
 use Rattle.buffers.specs.inner.Room.{whereFits}
-use Rattle.encoder_kernels.specs.inner.Room.{normFits, rotateFits}
-use Rattle.encoder_kernels.specs.Rotate.{rotateOf}
+use Rattle.encoder_kernels.specs.inner.Room.{normFits}
 use Rattle.number_floats.proofs.Unique.{one}
 
 pub finite-unique : (x : List Float) (r r′ : Bool) → r ≡ allFinite x → r′ ≡ allFinite x → r ≡ r′
@@ -22,11 +21,3 @@ Norms s x y n dim w s′ =
 
 pub rms-norm-unique : (s : List Float) (x y n dim : ℕ) (w : List Float) (s′ s″ : List Float) → Norms s x y n dim w s′ → Norms s x y n dim w s″ → s′ ≡ s″
 rms-norm-unique s x y n dim w s′ s″ = one _
-
-abbrev pub Rotates : List Float → ℕ → ℕ → ℕ → ℕ → ℕ → ℕ → List Float → List Float → List Float → Type 0
-Rotates s x tokens heads half gw side cos sin s′ =
-    s′ ≡ whereFits (rotateFits (length s) (length cos) (length sin) x tokens heads half gw side) s x (rotateOf tokens heads half gw side cos sin (region s x (tokens * (heads * (half + half)))))
-
-pub rotate-unique : (s : List Float) (x tokens heads half gw side : ℕ) (cos sin : List Float) (s′ s″ : List Float)
-    → Rotates s x tokens heads half gw side cos sin s′ → Rotates s x tokens heads half gw side cos sin s″ → s′ ≡ s″
-rotate-unique s x tokens heads half gw side cos sin s′ s″ = one _

@@ -1,4 +1,3 @@
 pub mod Finite
 pub mod Norm
-pub mod Rotate
 pub mod inner

@@ -1,12 +1,11 @@
 -- What an acceptance says: the settings are allowed, and every length is what the call needs. Assumes nothing.
 use mathlib.Core.Path.{_≡_, refl, ap}
-use mathlib.Core.Bool.{true, _&&_}
+use mathlib.Core.Bool.{Bool, true}
 use Prim.Native.Nat.{ℕ, _*_, _/_, _≤_}
 use native.Mathlib.Nat.{div-le-self}
 use native.Mathlib.Omega.{arith}
 use borrow.Author.Tests.{leb-true, eqb-true}
 use lib.Dec.{leb, eqb}
-use Rattle.buffers.proofs.Lists.{and-left, and-right}
 use Rattle.picture_limits.specs.declared.Refusal.{Refusal}
 use Rattle.picture_limits.specs.declared.Refusal.the-variants.{Setting, Output, WeightsLength, TableLength, Scratch}
 use Rattle.picture_limits.specs.declared.Shape.{Shape}
@@ -19,7 +18,7 @@ use Rattle.picture_limits.proofs.Shapes.{shaped-says}
 use Rattle.encoder_settings.specs.declared.EncoderSettings.{EncoderSettings}
 use Rattle.encoder_settings.specs.declared.Checked.{Checked}
 use Rattle.encoder_settings.specs.declared.Checked.the-variants.{Accepted, Refused}
-use Rattle.encoder_settings.specs.Settings.{mergeArea, allowed, weightFloats, tableFloats, scratchFloats, onward, lengths, checkedOf}
+use Rattle.encoder_settings.specs.Settings.{mergeArea, allowed, weightFloats, scratchFloats, onward, lengths, checkedOf}
 use Rattle.encoder_settings.specs.inner.Bounds.{Bounded, Counted}
 use Rattle.encoder_settings.proofs.Bounds.{Allowed, allowed-says, bounded, counted}
 
@@ -30,10 +29,9 @@ moved : (h : Shape) (f : ℕ → Checked) (t o : ℕ) → onward h f ≡ Accepte
 moved (Shaped u) f t o e = (u, refl, e)
 moved (Unshaped r) f t o e = let z : _≡_ {A = ℕ} 0 1 = cc in (0, cc, cc)
 
-pub record Lengths (s : EncoderSettings) (t o weights cos sin out scratch : ℕ) : Type 0 where
+pub record Lengths (s : EncoderSettings) (t o weights : ℕ) (tables : Bool) (out scratch : ℕ) : Type 0 where
   pub weights-are : weights ≡ weightFloats s
-  pub cos-are : cos ≡ tableFloats s
-  pub sin-are : sin ≡ tableFloats s
+  pub tables-are : tables ≡ true
   pub out-holds : o * s .«text_hidden_size» ≤ out
   pub scratch-holds : scratchFloats s t o ≤ scratch
 
@@ -46,20 +44,19 @@ pub record Ready (s : EncoderSettings) (gh gw patches t o : ℕ) : Type 0 where
   pub count-is : o ≡ gh * gw / mergeArea (s .picture)
   pub counts : Counted s t o
 
-module _ (s : EncoderSettings) (weights cos sin out scratch : ℕ) where
-  lengths-say : (t o u v : ℕ) → lengths s t o weights cos sin out scratch ≡ Accepted u v
-      → (Lengths s t o weights cos sin out scratch) × (u ≡ t) × (v ≡ o)
+module _ (s : EncoderSettings) (weights : ℕ) (tables : Bool) (out scratch : ℕ) where
+  lengths-say : (t o u v : ℕ) → lengths s t o weights tables out scratch ≡ Accepted u v
+      → (Lengths s t o weights tables out scratch) × (u ≡ t) × (v ≡ o)
   unfolding lengths
   lengths-say t o u v e =
       let b = passed (eqb weights (weightFloats s)) _ _ (Accepted u v) (never WeightsLength u v) e in
-      let d = passed (eqb cos (tableFloats s) && eqb sin (tableFloats s)) _ _ (Accepted u v) (never TableLength u v) (b .1) in
+      let d = passed tables _ _ (Accepted u v) (never TableLength u v) (b .1) in
       let f = passed (leb (o * s .«text_hidden_size») out) _ _ (Accepted u v) (never Output u v) (d .1) in
       let g = passed (leb (scratchFloats s t o) scratch) _ _ (Accepted u v) (never Scratch u v) (f .1) in
       let h = g .1 in (
         record {
           weights-are = eqb-true _ _ (b .0);
-          cos-are = eqb-true _ _ (and-left (eqb cos (tableFloats s)) (eqb sin (tableFloats s)) (d .0));
-          sin-are = eqb-true _ _ (and-right (eqb cos (tableFloats s)) (eqb sin (tableFloats s)) (d .0));
+          tables-are = d .0;
           out-holds = leb-true _ _ (f .0);
           scratch-holds = leb-true _ _ (g .0);
         },
@@ -68,8 +65,8 @@ module _ (s : EncoderSettings) (weights cos sin out scratch : ℕ) where
       )
 
   ready : (gh gw patches u t o : ℕ) → allowed s ≡ true → shaped (s .picture) gh gw patches ≡ Shaped u
-      → lengths s u (u / mergeArea (s .picture)) weights cos sin out scratch ≡ Accepted t o
-      → Ready s gh gw patches t o × Lengths s t o weights cos sin out scratch
+      → lengths s u (u / mergeArea (s .picture)) weights tables out scratch ≡ Accepted t o
+      → Ready s gh gw patches t o × Lengths s t o weights tables out scratch
   ready gh gw patches u t o a h e =
       let q = s .picture in
       let z = shaped-says q gh gw patches u h in
@@ -89,12 +86,12 @@ module _ (s : EncoderSettings) (weights cos sin out scratch : ℕ) where
         n .0,
       )
 
-  pub accepted-says : (gh gw patches t o : ℕ) → checkedOf s gh gw patches weights cos sin out scratch ≡ Accepted t o
-      → Ready s gh gw patches t o × Lengths s t o weights cos sin out scratch
+  pub accepted-says : (gh gw patches t o : ℕ) → checkedOf s gh gw patches weights tables out scratch ≡ Accepted t o
+      → Ready s gh gw patches t o × Lengths s t o weights tables out scratch
   unfolding checkedOf
   accepted-says gh gw patches t o e =
       let q = s .picture in
-      let f : ℕ → Checked = λ u. lengths s u (u / mergeArea q) weights cos sin out scratch in
+      let f : ℕ → Checked = λ u. lengths s u (u / mergeArea q) weights tables out scratch in
       let a = passed (allowed s) _ (onward (shaped q gh gw patches) f) (Accepted t o) (never Setting t o) e in
       let b = moved (shaped q gh gw patches) f t o (a .1) in
       ready gh gw patches (b .0) t o (a .0) (b .1) (b .2)

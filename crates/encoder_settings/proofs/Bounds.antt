@@ -1,7 +1,7 @@
 -- What allowed settings and an allowed grid say of the sizes and their products. Assumes nothing.
 use mathlib.Core.Path.{_≡_, ap}
 use mathlib.Core.Bool.{true, _&&_}
-use Prim.Native.Nat.{ℕ, _*_, _%_, _≤_}
+use Prim.Native.Nat.{ℕ, _*_, _/_, _%_, _≤_}
 use native.Mathlib.Nat.{div-le-self}
 use native.Mathlib.Omega.{arith}
 use borrow.Author.Tests.{leb-true, eqb-true}
@@ -112,6 +112,7 @@ bounded s a =
       linear-2 = times x x 8192 8192 (r .text .1) (r .text .1);
       projector-is = projector-long h (h * (m * m)) x (s .«projector_bias») (r .bias);
       positions = PP;
+      axis = times (most (s .picture)) (s .«head_dim» / 4) 2048 64 P (omega (arith, r .width .1));
       table = times (most (s .picture) * most (s .picture)) (s .«head_dim») 4194304 256 PP (r .width .1);
     }
 

@@ -10,11 +10,11 @@ use Rattle.picture_limits.specs.Shape.{gridAllowed}
 use Rattle.encoder_settings.specs.declared.EncoderSettings.{EncoderSettings}
 use Rattle.encoder_settings.specs.declared.Needed.{Needed}
 use Rattle.encoder_settings.specs.declared.Needed.the-variants.{Lengths, Refused}
-use Rattle.encoder_settings.specs.Settings.{allowed, mergeArea, weightFloats, tableFloats, scratchFloats}
+use Rattle.encoder_settings.specs.Settings.{allowed, mergeArea, weightFloats, tableFloats, axisFloats, scratchFloats}
 
--- for t tokens, of which o are left: patches, weights, each table, scratch and output
+-- for t tokens, of which o are left: patches, weights, each full table, each table of rows or of columns, scratch and output
 abbrev pub floatsFor : EncoderSettings → ℕ → ℕ → Needed
-floatsFor s t o = Lengths (t * patchFloats (s .picture .«patch_size»)) (weightFloats s) (tableFloats s) (scratchFloats s t o) (o * s .«text_hidden_size»)
+floatsFor s t o = Lengths (t * patchFloats (s .picture .«patch_size»)) (weightFloats s) (tableFloats s) (axisFloats s) (scratchFloats s t o) (o * s .«text_hidden_size»)
 
 -- 1, 6
 unfoldable pub neededOf : EncoderSettings → ℕ → ℕ → Needed
@@ -26,25 +26,29 @@ neededOf s gh gw =
 -- ---- the paper's number, and the lengths: 0 of a refusal
 
 abbrev pub number : Needed → ℕ
-number (Lengths x w t c o) = 0
+number (Lengths x w t a c o) = 0
 number (Refused r) = R.number r
 
 abbrev pub patches : Needed → ℕ
-patches (Lengths x w t c o) = x
+patches (Lengths x w t a c o) = x
 patches (Refused r) = 0
 
 abbrev pub weights : Needed → ℕ
-weights (Lengths x w t c o) = w
+weights (Lengths x w t a c o) = w
 weights (Refused r) = 0
 
 abbrev pub tables : Needed → ℕ
-tables (Lengths x w t c o) = t
+tables (Lengths x w t a c o) = t
 tables (Refused r) = 0
 
+abbrev pub axes : Needed → ℕ
+axes (Lengths x w t a c o) = a
+axes (Refused r) = 0
+
 abbrev pub scratch : Needed → ℕ
-scratch (Lengths x w t c o) = c
+scratch (Lengths x w t a c o) = c
 scratch (Refused r) = 0
 
 abbrev pub out : Needed → ℕ
-out (Lengths x w t c o) = o
+out (Lengths x w t a c o) = o
 out (Refused r) = 0

@@ -1,5 +1,5 @@
 -- Allowed settings, how long each buffer has to be, and the answer of the refusals 1, 6, 7, 9, 10, 5, 11. Assumes nothing.
-use mathlib.Core.Bool.{Bool, false, _&&_}
+use mathlib.Core.Bool.{Bool, false, _&&_, cond}
 use Prim.Native.Nat.{ℕ, _+_, _*_, _/_, _%_}
 use lib.Dec.{leb, eqb}
 use lib.Ieee.{lt, inf}
@@ -14,6 +14,7 @@ use Rattle.picture_limits.specs.Settings as P
 use Rattle.picture_limits.specs.Settings.{within}
 use Rattle.picture_limits.specs.Shape.{most, shaped}
 use Rattle.encoder_settings.specs.declared.EncoderSettings.{EncoderSettings}
+use Rattle.encoder_settings.specs.declared.Form.{Form}
 use Rattle.encoder_settings.specs.declared.Checked.{Checked}
 use Rattle.encoder_settings.specs.declared.Checked.the-variants.{Accepted, Refused}
 use Rattle.encoder_settings.specs.Weights.{floats, weights}
@@ -38,9 +39,24 @@ mergeArea s = s .«spatial_merge_size» * s .«spatial_merge_size»
 abbrev pub weightFloats : EncoderSettings → ℕ
 weightFloats s = floats (weights s)
 
--- either rotary table
+-- either full rotary table, and each of those of rows and of columns (2026-06)
 abbrev pub tableFloats : EncoderSettings → ℕ
 tableFloats s = most (s .picture) * most (s .picture) * s .«head_dim»
+
+abbrev pub axisFloats : EncoderSettings → ℕ
+axisFloats s = most (s .picture) * (s .«head_dim» / 4)
+
+-- 10: whether the tables' lengths are right, of full ones and of those of rows and of columns
+abbrev pub fullTables : EncoderSettings → ℕ → ℕ → Bool
+fullTables s cos sin = eqb cos (tableFloats s) && eqb sin (tableFloats s)
+
+abbrev pub axisTables : EncoderSettings → ℕ → ℕ → ℕ → ℕ → Bool
+axisTables s rowCos rowSin columnCos columnSin =
+    (eqb rowCos (axisFloats s) && eqb rowSin (axisFloats s)) && (eqb columnCos (axisFloats s) && eqb columnSin (axisFloats s))
+
+-- by the form of a call; full tables are the first two
+abbrev pub tablesFit : Form → EncoderSettings → ℕ → ℕ → ℕ → ℕ → Bool
+tablesFit f s a b c d = cond (f .axes) (axisTables s a b c d) (fullTables s a b)
 
 abbrev pub scratchFloats : EncoderSettings → ℕ → ℕ → ℕ
 scratchFloats s t o =
@@ -59,11 +75,11 @@ abbrev pub tokensLeft : Checked → ℕ
 tokensLeft (Accepted t o) = o
 tokensLeft (Refused r) = 0
 
--- 9, 10, 5, 11, for t tokens of which o are left
-unfoldable pub lengths : EncoderSettings → ℕ → ℕ → ℕ → ℕ → ℕ → ℕ → ℕ → Checked
-lengths s t o weights cos sin out scratch =
+-- 9, 10, 5, 11, for t tokens of which o are left; tables says whether their lengths are right
+unfoldable pub lengths : EncoderSettings → ℕ → ℕ → ℕ → Bool → ℕ → ℕ → Checked
+lengths s t o weights tables out scratch =
     unless (eqb weights (weightFloats s)) (Refused WeightsLength)
-    (unless (eqb cos (tableFloats s) && eqb sin (tableFloats s)) (Refused TableLength)
+    (unless tables (Refused TableLength)
     (unless (leb (o * s .«text_hidden_size») out) (Refused Output)
     (unless (leb (scratchFloats s t o) scratch) (Refused Scratch)
     (Accepted t o))))
@@ -73,7 +89,7 @@ abbrev pub onward : Shape → (ℕ → Checked) → Checked
 onward (Shaped t) f = f t
 onward (Unshaped r) f = Refused r
 
-unfoldable pub checkedOf : EncoderSettings → ℕ → ℕ → ℕ → ℕ → ℕ → ℕ → ℕ → ℕ → Checked
-checkedOf s gh gw patches weights cos sin out scratch =
+unfoldable pub checkedOf : EncoderSettings → ℕ → ℕ → ℕ → ℕ → Bool → ℕ → ℕ → Checked
+checkedOf s gh gw patches weights tables out scratch =
     unless (allowed s) (Refused Setting)
-    (onward (shaped (s .picture) gh gw patches) (λ t. lengths s t (t / mergeArea (s .picture)) weights cos sin out scratch))
+    (onward (shaped (s .picture) gh gw patches) (λ t. lengths s t (t / mergeArea (s .picture)) weights tables out scratch))

@@ -1,6 +1,7 @@
 // How long each buffer of a forward call has to be.
 use crate::EncoderSettings;
 use crate::Needed;
+use crate::settings::axes_needed;
 use crate::settings::scratch_needed;
 use crate::settings::settings_allowed;
 use crate::settings::tables_needed;
@@ -27,11 +28,13 @@ pub fn needed(s: EncoderSettings, grid_h: usize, grid_w: usize) -> Needed
     let o = t / (m * m);
     let weights = weights_needed(s);
     let tables = tables_needed(s);
+    let axes = axes_needed(s);
     let scratch = scratch_needed(s, t, o);
     Needed::Lengths {
         patches: t * (3 * (p * p)),
         weights,
         tables,
+        axes,
         scratch,
         out: o * s.text_hidden_size,
     }

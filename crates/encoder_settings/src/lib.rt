@@ -17,12 +17,18 @@ pub struct EncoderSettings {
     pub scaling: f32,
 }
 
+// Which tables a forward call is lent: full ones, or with axes those of rows and of columns.
+pub struct Form {
+    pub axes: bool,
+}
+
 // How many floats each buffer of a forward call has to have, or a refusal.
 pub enum Needed {
     Lengths {
         patches: usize,
         weights: usize,
         tables: usize,
+        axes: usize,
         scratch: usize,
         out: usize,
     },

@@ -1,10 +1,11 @@
 // What a call's settings and lengths say before anything is read or written.
 ghost use mathlib.Core.Path.{_≡_};
 ghost use Rattle.encoder_settings.specs.Settings as S;
-ghost use Rattle.encoder_settings.specs.Settings.{ranged, scalingAllowed, allowed, weightFloats, tableFloats, scratchFloats, checkedOf};
+ghost use Rattle.encoder_settings.specs.Settings.{ranged, scalingAllowed, allowed, weightFloats, tableFloats, axisFloats, scratchFloats, tablesFit, checkedOf};
 ghost use Rattle.encoder_settings.specs.inner.Bounds.{Bounded, Counted};
 use crate::Checked;
 use crate::EncoderSettings;
+use crate::Form;
 use picture_limits::Refusal;
 use picture_limits::Shape;
 use picture_limits::settings::shape;
@@ -70,6 +71,34 @@ pub(crate) fn tables_needed(s: EncoderSettings) -> usize
     most * most * s.head_dim
 }
 
+pub(crate) fn axes_needed(s: EncoderSettings) -> usize
+    requires { ⌜ Bounded s ⌝ }
+    ensures { λ r. ⌜ r ≡ axisFloats s ⌝ }
+{
+    let q = s.picture;
+    q.image_size / q.patch_size * (s.head_dim / 4)
+}
+
+// The tables of the form have the lengths that they need.
+pub(crate) fn tables_fit(
+    s: EncoderSettings,
+    cos: usize,
+    sin: usize,
+    column_cos: usize,
+    column_sin: usize,
+    f: Form,
+) -> bool
+    requires { ⌜ Bounded s ⌝ }
+    ensures { λ r. ⌜ r ≡ tablesFit f s cos sin «column_cos» «column_sin» ⌝ }
+{
+    if f.axes {
+        let n = axes_needed(s);
+        return ((cos == n) & (sin == n)) & ((column_cos == n) & (column_sin == n));
+    }
+    let n = tables_needed(s);
+    (cos == n) & (sin == n)
+}
+
 pub(crate) fn scratch_needed(s: EncoderSettings, t: usize, o: usize) -> usize
     requires { ⌜ Counted s t o ⌝ }
     ensures { λ r. ⌜ r ≡ scratchFloats s t o ⌝ }
@@ -82,19 +111,17 @@ pub(crate) fn lengths(
     t: usize,
     o: usize,
     weights: usize,
-    cos: usize,
-    sin: usize,
+    tables: bool,
     out: usize,
     scratch: usize,
 ) -> Checked
     requires { ⌜ Bounded s × Counted s t o ⌝ }
-    ensures { λ r. ⌜ r ≡ S.lengths s t o weights cos sin out scratch ⌝ }
+    ensures { λ r. ⌜ r ≡ S.lengths s t o weights tables out scratch ⌝ }
 {
     if weights != weights_needed(s) {
         return Checked::Refused(Refusal::WeightsLength);
     }
-    let table = tables_needed(s);
-    if !((cos == table) & (sin == table)) {
+    if !tables {
         return Checked::Refused(Refusal::TableLength);
     }
     if out < o * s.text_hidden_size {
@@ -117,10 +144,13 @@ pub fn checked(
     weights: usize,
     cos: usize,
     sin: usize,
+    column_cos: usize,
+    column_sin: usize,
     out: usize,
     scratch: usize,
+    f: Form,
 ) -> Checked
-    ensures { λ r. ⌜ r ≡ checkedOf s «grid_h» «grid_w» patches weights cos sin out scratch ⌝ }
+    ensures { λ r. ⌜ r ≡ checkedOf s «grid_h» «grid_w» patches weights (tablesFit f s cos sin «column_cos» «column_sin») out scratch ⌝ }
 {
     if !settings_allowed(s) {
         return Checked::Refused(Refusal::Setting);
@@ -130,7 +160,8 @@ pub fn checked(
     match shaped {
         Shape::Shaped { tokens } => {
             let m = q.spatial_merge_size;
-            lengths(s, tokens, tokens / (m * m), weights, cos, sin, out, scratch)
+            let tables = tables_fit(s, cos, sin, column_cos, column_sin, f);
+            lengths(s, tokens, tokens / (m * m), weights, tables, out, scratch)
         }
         Shape::Unshaped(r) => Checked::Refused(r),
     }

@@ -2,7 +2,7 @@
 use mathlib.Core.Bool.{Bool, true, false, _&&_, true≢false}
 use mathlib.Core.Path.{_≡_, refl, sym, ap, _∙_}
 use mathlib.Core.List.{List}
-use Prim.Native.Nat.{ℕ, zero, suc, _+_, _*_, _≤_, _<_}
+use Prim.Native.Nat.{ℕ, zero, suc, _+_, _*_, _/_, _≤_, _<_}
 use native.Mathlib.Nat.{le-refl, zero-mul, suc-mul}
 use native.Mathlib.Omega.{arith}
 use borrow.Author.Tests.{le-leb, lt-leb, ne-eqb}
@@ -26,12 +26,16 @@ use Rattle.encoder_elements.proofs.Lengths.{length-added, length-gated, length-
 use Rattle.encoder_elements.proofs.Rooms.{pair-fits}
 use Rattle.encoder_kernels.specs.Finite.{allFinite}
 use Rattle.encoder_kernels.specs.Norm.{normOf}
-use Rattle.encoder_kernels.specs.Rotate.{rotateOf}
-use Rattle.encoder_kernels.specs.inner.Fits.{NormFits, RotateFits}
-use Rattle.encoder_kernels.specs.inner.Room.{normFits, rotateFits}
+use Rattle.encoder_rotation.specs.Rotate.{rotateOf}
+use Rattle.encoder_kernels.specs.inner.Fits.{NormFits}
+use Rattle.encoder_rotation.specs.Axes.{expand}
+use Rattle.encoder_rotation.specs.inner.Fits.{RotateFits, AxesFits}
+use Rattle.encoder_kernels.specs.inner.Room.{normFits}
+use Rattle.encoder_rotation.specs.inner.Room.{rotateFits, axesFit}
 use Rattle.encoder_kernels.proofs.Lengths.{length-norm}
-use Rattle.encoder_kernels.proofs.Rooms.{norm-fits, rotate-fits}
-use Rattle.encoder_kernels.proofs.Rotated.{length-rotate}
+use Rattle.encoder_kernels.proofs.Rooms.{norm-fits}
+use Rattle.encoder_rotation.proofs.Rooms.{rotate-fits, axes-fit}
+use Rattle.encoder_rotation.proofs.Rotated.{length-rotate}
 use Rattle.encoder_steps.specs.Run.{Run, stopped, went, answer, thenRun}
 use Rattle.encoder_steps.specs.inner.Step.{finiteAt, linearAtFits, biasAtFits, LinearAt, Tried, Wrote}
 
@@ -73,6 +77,11 @@ abbrev pub RotateTried : List Float → List Float → ℕ → ℕ → ℕ → �
 RotateTried cos sin x tokens heads half gw side s t ok r =
     Tried (rotateFits (length s) (length cos) (length sin) x tokens heads half gw side) s t x (tokens * (heads * (half + half)))
     (rotateOf tokens heads half gw side cos sin (region s x (tokens * (heads * (half + half))))) ok r
+
+abbrev pub AxesTried : List Float → List Float → List Float → List Float → ℕ → ℕ → ℕ → ℕ → ℕ → ℕ → List Float → List Float → Bool → Bool → Type 0
+AxesTried rc rs cc cs x tokens heads half gw side s t ok r =
+    Tried (axesFit (length s) (length rc) (length rs) (length cc) (length cs) x tokens heads half gw side) s t x (tokens * (heads * (half + half)))
+    (rotateOf tokens heads half gw side (expand side (half / 2) rc cc) (expand side (half / 2) rs cs) (region s x (tokens * (heads * (half + half))))) ok r
 
 abbrev pub AddTried : ℕ → ℕ → ℕ → List Float → List Float → Bool → Bool → Type 0
 AddTried y z n s t ok r = Tried (pairFits (length s) y z n) s t y n (added n (region s y n) (region s z n)) ok r
@@ -138,7 +147,18 @@ module _ {s t : List Float} {ok r : Bool} where
       let n = tokens * (heads * (half + half)) in
       let l = region s x n in
       tried (rotateFits (length s) (length cos) (length sin) x tokens heads half gw side) (rotateOf tokens heads half gw side cos sin l) x n
-      (rotate-fits f) (length-rotate tokens heads half gw side cos sin l) (f .xin)
+      (rotate-fits f) (length-rotate tokens heads half gw side cos sin l) (f .places .xin)
+
+  pub axes-wrote : (rc rs cc cs : List Float) (x tokens heads half gw side : ℕ) → AxesFits (length s) (length rc) (length rs) (length cc) (length cs) x tokens heads half gw side
+      → AxesTried rc rs cc cs x tokens heads half gw side s t ok r
+      → Wrote s t x (rotateOf tokens heads half gw side (expand side (half / 2) rc cc) (expand side (half / 2) rs cs) (region s x (tokens * (heads * (half + half))))) ok r
+  axes-wrote rc rs cc cs x tokens heads half gw side f =
+      let n = tokens * (heads * (half + half)) in
+      let l = region s x n in
+      let C = expand side (half / 2) rc cc in
+      let S = expand side (half / 2) rs cs in
+      tried (axesFit (length s) (length rc) (length rs) (length cc) (length cs) x tokens heads half gw side) (rotateOf tokens heads half gw side C S l) x n
+      (axes-fit f) (length-rotate tokens heads half gw side C S l) (f .places .xin)
 
   pub add-wrote : (y z n : ℕ) → PairFits (length s) y z n
       → AddTried y z n s t ok r → Wrote s t y (added n (region s y n) (region s z n)) ok r

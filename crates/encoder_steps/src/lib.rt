@@ -1,7 +1,7 @@
 // The steps that are examined: each writes its result in the scratch where all fits, and says whether what then stands
 // there is finite, and all up to here.
 ghost use mathlib.Core.Path.{_≡_};
-ghost use Prim.Native.Nat.{_+_, _*_};
+ghost use Prim.Native.Nat.{_+_, _*_, _/_};
 ghost use lib.ListN.{length};
 ghost use Rattle.buffers.specs.Region.{region};
 ghost use Rattle.buffers.specs.inner.Room as R;
@@ -10,8 +10,10 @@ ghost use Rattle.encoder_linear.specs.inner.Room.{fromFits};
 ghost use Rattle.encoder_elements.specs.Element.{added, gated, gelued, rounded};
 ghost use Rattle.encoder_elements.specs.inner.Room.{pairFits};
 ghost use Rattle.encoder_kernels.specs.Norm.{normOf};
-ghost use Rattle.encoder_kernels.specs.Rotate.{rotateOf};
-ghost use Rattle.encoder_kernels.specs.inner.Room.{normFits, rotateFits};
+ghost use Rattle.encoder_rotation.specs.Rotate.{rotateOf};
+ghost use Rattle.encoder_kernels.specs.inner.Room.{normFits};
+ghost use Rattle.encoder_rotation.specs.Axes.{expand};
+ghost use Rattle.encoder_rotation.specs.inner.Room.{rotateFits, axesFit};
 ghost use Rattle.encoder_steps.specs.inner.Step.{finiteAt, linearAtFits, biasAtFits, Tried};
 use buffers::part;
 use buffers::room::inside;
@@ -22,10 +24,11 @@ use encoder_elements::element::gelu_inplace;
 use encoder_elements::element::truncate_to_bf16_inplace;
 use encoder_kernels::finite::finite;
 use encoder_kernels::norm::rms_norm;
-use encoder_kernels::rotate::rotate;
 use encoder_linear::bias::linear_forward;
 use encoder_linear::linear::linear_from;
 use encoder_linear::linear::linear_no_bias_forward;
+use encoder_rotation::axes::rotate_axes;
+use encoder_rotation::rotate::rotate;
 
 // Whether the n floats at y lie inside, and are finite.
 pub(crate) fn finite_at(s: &[f32], y: usize, n: usize) -> bool
@@ -155,6 +158,42 @@ pub fn rotate_finite(
         (rotateOf tokens heads half gw side (now (cos .entry)) (now (sin .entry)) (region (now (s .entry)) x (tokens * (heads * (half + half))))) ok r ⌝ }
 {
     rotate(s, x, tokens, heads, half, gw, side, cos, sin);
+    ok & finite_heads(s, x, tokens, heads, half)
+}
+
+// The same by tables of rows and of columns.
+pub fn rotate_axes_finite(
+    s: &mut [f32],
+    x: usize,
+    tokens: usize,
+    heads: usize,
+    half: usize,
+    gw: usize,
+    side: usize,
+    row_cos: &[f32],
+    row_sin: &[f32],
+    column_cos: &[f32],
+    column_sin: &[f32],
+    ok: bool,
+) -> bool
+    ensures { λ r. ⌜ Tried (axesFit (length (now (s .entry))) (length (now («row_cos» .entry))) (length (now («row_sin» .entry))) (length (now («column_cos» .entry))) (length (now («column_sin» .entry))) x tokens heads half gw side)
+        (now (s .entry)) (now (s .exit)) x (tokens * (heads * (half + half)))
+        (rotateOf tokens heads half gw side (expand side (half / 2) (now («row_cos» .entry)) (now («column_cos» .entry))) (expand side (half / 2) (now («row_sin» .entry)) (now («column_sin» .entry)))
+        (region (now (s .entry)) x (tokens * (heads * (half + half))))) ok r ⌝ }
+{
+    rotate_axes(
+        s,
+        x,
+        tokens,
+        heads,
+        half,
+        gw,
+        side,
+        row_cos,
+        row_sin,
+        column_cos,
+        column_sin,
+    );
     ok & finite_heads(s, x, tokens, heads, half)
 }
 

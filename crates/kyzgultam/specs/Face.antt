@@ -77,7 +77,7 @@ abbrev pub forwardReport : Encoded → ForwardReport
 forwardReport a = record { number = Fwd.number a; tokens = Fwd.tokens a }
 
 abbrev pub lengthsReport : Needed → LengthsReport
-lengthsReport a = record { number = Len.number a; patches = Len.patches a; weights = Len.weights a; tables = Len.tables a; scratch = Len.scratch a; out = Len.out a }
+lengthsReport a = record { number = Len.number a; patches = Len.patches a; weights = Len.weights a; tables = Len.tables a; axes = Len.axes a; scratch = Len.scratch a; out = Len.out a }
 
 -- place i·3p² and length 3p² in patches of length n, where p is in 1..32 and the whole patch lies inside
 unfoldable pub placeOf : ℕ → ℕ → ℕ → PatchPlace

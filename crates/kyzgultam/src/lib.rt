@@ -1,5 +1,6 @@
 // The C face: thin functions over `picture`, `picture_tiles`, `picture_salvage` and `encoder`, with structs of their own, so that what users linked stays
 // as it is when the settings inside grow.
+pub mod axes;
 pub mod salvage;
 pub mod tiles;
 
@@ -66,13 +67,15 @@ pub struct ForwardReport {
     pub tokens: usize,
 }
 
-// How many floats each buffer of a forward call has to have; each rotary table has `tables`.
+// How many floats each buffer of a forward call has to have; each full rotary table has `tables`, and each of rows or of columns
+// `axes`.
 #[repr(C)]
 pub struct LengthsReport {
     pub number: u32,
     pub patches: usize,
     pub weights: usize,
     pub tables: usize,
+    pub axes: usize,
     pub scratch: usize,
     pub out: usize,
 }
@@ -92,7 +95,7 @@ pub(crate) fn settings(s: PictureSettings) -> picture_limits::PictureSettings
     }
 }
 
-fn encoder_settings(s: EncoderSettings) -> encoder_settings::EncoderSettings
+pub(crate) fn encoder_settings(s: EncoderSettings) -> encoder_settings::EncoderSettings
     ensures { λ r. ⌜ r ≡ innerEncoder s ⌝ }
 {
     encoder_settings::EncoderSettings {
@@ -180,6 +183,21 @@ pub extern "C" fn kz_patch(patches: &[f32], patch_size: usize, i: usize) -> Patc
     }
 }
 
+pub(crate) fn forward_report(found: Encoded) -> ForwardReport
+    ensures { λ r. ⌜ r ≡ forwardReport found ⌝ }
+{
+    match found {
+        Encoded::Tokens { count } => ForwardReport {
+            number: 0,
+            tokens: count,
+        },
+        Encoded::Refused(r) => ForwardReport {
+            number: picture_limits::settings::number(r),
+            tokens: 0,
+        },
+    }
+}
+
 #[no_mangle]
 pub extern "C" fn kz_forward(
     s: EncoderSettings,
@@ -207,16 +225,7 @@ pub extern "C" fn kz_forward(
         scratch,
         out,
     );
-    match found {
-        Encoded::Tokens { count } => ForwardReport {
-            number: 0,
-            tokens: count,
-        },
-        Encoded::Refused(r) => ForwardReport {
-            number: picture_limits::settings::number(r),
-            tokens: 0,
-        },
-    }
+    forward_report(found)
 }
 
 #[no_mangle]
@@ -229,6 +238,7 @@ pub extern "C" fn kz_lengths(s: EncoderSettings, grid_h: usize, grid_w: usize) -
             patches,
             weights,
             tables,
+            axes,
             scratch,
             out,
         } => LengthsReport {
@@ -236,6 +246,7 @@ pub extern "C" fn kz_lengths(s: EncoderSettings, grid_h: usize, grid_w: usize) -
             patches,
             weights,
             tables,
+            axes,
             scratch,
             out,
         },
@@ -244,6 +255,7 @@ pub extern "C" fn kz_lengths(s: EncoderSettings, grid_h: usize, grid_w: usize) -
             patches: 0,
             weights: 0,
             tables: 0,
+            axes: 0,
             scratch: 0,
             out: 0,
         },

@@ -6,6 +6,7 @@ use Rattle.encoder_blocks.specs.declared.Sizes.{Sizes}
 use Rattle.encoder_blocks.specs.Block.{nOf, mOf}
 use Rattle.encoder_blocks.specs.inner.Fits.{LayersFits}
 use Rattle.encoder_settings.specs.declared.EncoderSettings.{EncoderSettings}
+use Rattle.encoder_settings.specs.declared.Form.{Form}
 use Rattle.picture_limits.specs.Places.{patchFloats}
 use Rattle.encoder_settings.specs.Weights.{floats, embedding, layer}
 use Rattle.encoder_settings.specs.Settings.{mergeArea, weightFloats}
@@ -79,14 +80,14 @@ pub record RegionsFit (z : Sizes) (e : ℕ) : Type 0 where
   pub texts : e ≤ 34359738368
 
 -- a whole run: t tokens of a grid gh by gw, of which o are left
-pub record RunFits (s : EncoderSettings) (gh gw t o lenx lenw lenc lenn lens : ℕ) : Type 0 where
+pub record RunFits (f : Form) (s : EncoderSettings) (gh gw t o lenx lenw lenc lenn lend lenm lens : ℕ) : Type 0 where
   pub counts : CountsFit s (sizesOf s t gw)
   pub regions : RegionsFit (sizesOf s t gw) (o * s .«text_hidden_size»)
   pub embedding-is : countsOf s (sizesOf s t gw) .embedding ≡ floats (embedding (s .«hidden_size») (patchFloats (s .picture .«patch_size»)))
   pub layers-is : countsOf s (sizesOf s t gw) .layers ≡ s .«num_layers» * floats (layer (s .«hidden_size») (s .«intermediate_size»))
   pub weights-is : lenw ≡ weightFloats s
   pub embeds : EmbedFits (sizesOf s t gw) lenx lens (countsOf s (sizesOf s t gw) .embedding) (countsOf s (sizesOf s t gw) .patch)
-  pub layers : LayersFits (sizesOf s t gw) lens (countsOf s (sizesOf s t gw) .layers) lenc lenn (regionsOf (sizesOf s t gw) (o * s .«text_hidden_size») .row) (s .«num_layers»)
+  pub layers : LayersFits f (sizesOf s t gw) lens (countsOf s (sizesOf s t gw) .layers) lenc lenn lend lenm (regionsOf (sizesOf s t gw) (o * s .«text_hidden_size») .row) (s .«num_layers»)
   pub projects : ProjFits t (s .«hidden_size») o (countsOf s (sizesOf s t gw) .merged) (s .«text_hidden_size») (s .«projector_bias») lens
       (lenw - (countsOf s (sizesOf s t gw) .embedding + countsOf s (sizesOf s t gw) .layers))
       (s .picture .«spatial_merge_size») gh gw (regionsOf (sizesOf s t gw) (o * s .«text_hidden_size») .linear)

@@ -1,8 +1,11 @@
 -- What the inner functions ask of the places and lengths that they are handed. Assumes nothing.
+use mathlib.Core.Bool.{true}
 use mathlib.Core.Path.{_≡_}
-use Prim.Native.Nat.{ℕ, _+_, _*_, _%_, _≤_, _<_}
+use Prim.Native.Nat.{ℕ, _+_, _*_, _/_, _%_, _≤_, _<_}
 use Rattle.encoder_blocks.specs.declared.Sizes.{Sizes}
+use Rattle.encoder_settings.specs.declared.Form.{Form}
 use Rattle.encoder_settings.specs.Weights.{floats}
+use Rattle.encoder_blocks.specs.inner.Room.{tablesFit}
 use Rattle.encoder_blocks.specs.Block.{nOf, mOf, partsOf}
 
 -- what a block asks of its shape and of the lengths of scratch and weights
@@ -19,10 +22,10 @@ pub record ScoreRow (z : Sizes) (lens row : ℕ) : Type 0 where
   pub inside : row + z .tokens ≤ lens
 
 -- what the rotation asks of the tables
-pub record RotationFits (z : Sizes) (lens lenc lenn : ℕ) : Type 0 where
+pub record RotationFits (f : Form) (z : Sizes) (lens lenc lenn lend lenm : ℕ) : Type 0 where
   pub scratch : 7 * nOf z + 2 * mOf z ≤ lens
   pub whole : z .heads * z .«head_dim» ≡ z .hidden
-  pub even : z .«head_dim» % 2 ≡ 0
+  pub fourth : z .«head_dim» % 4 ≡ 0
   pub small : z .hidden ≤ 2048
   pub narrow : z .«head_dim» ≤ 256
   pub dimIn : z .hidden ≤ lens
@@ -30,20 +33,19 @@ pub record RotationFits (z : Sizes) (lens lenc lenn : ℕ) : Type 0 where
   pub some : 0 < z .«grid_w»
   pub wide : z .«grid_w» ≤ z .side
   pub high : z .tokens ≤ z .side * z .«grid_w»
-  pub cosines : lenc ≡ z .side * z .side * z .«head_dim»
-  pub sines : lenn ≡ z .side * z .side * z .«head_dim»
+  pub lengths : tablesFit f z lenc lenn lend lenm ≡ true
 
 -- count layers
-pub record LayersFits (z : Sizes) (lens lenw lenc lenn row count : ℕ) : Type 0 where
+pub record LayersFits (f : Form) (z : Sizes) (lens lenw lenc lenn lend lenm row count : ℕ) : Type 0 where
   pub weights : count * floats (partsOf z) ≤ lenw
   pub inner : z .inter ≤ 8192
-  pub rotation : RotationFits z lens lenc lenn
+  pub rotation : RotationFits f z lens lenc lenn lend lenm
   pub scores : ScoreRow z lens row
 
 -- what the first of the tests of `Room.antt` says
 pub record SizesFit (z : Sizes) : Type 0 where
   pub whole : z .heads * z .«head_dim» ≡ z .hidden
-  pub even : z .«head_dim» % 2 ≡ 0
+  pub fourth : z .«head_dim» % 4 ≡ 0
   pub narrow : z .«head_dim» ≤ 256
   pub small : z .hidden ≤ 2048
   pub tables : z .side ≤ 2048
@@ -56,6 +58,7 @@ pub record SizesFit (z : Sizes) : Type 0 where
 pub record Products (z : Sizes) : Type 0 where
   pub small : z .hidden ≤ 2048
   pub grid : z .side * z .side ≤ 4194304
+  pub axis : z .side * (z .«head_dim» / 4) ≤ 131072
   pub table : z .side * z .side * z .«head_dim» ≤ 1073741824
   pub hiddens : nOf z ≤ 8589934592
   pub inners : mOf z ≤ 34359738368

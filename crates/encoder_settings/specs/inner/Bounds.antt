@@ -1,6 +1,6 @@
 -- What allowed settings say of the sizes and their products, so that no product wraps. Assumes nothing.
 use mathlib.Core.Path.{_≡_}
-use Prim.Native.Nat.{ℕ, _+_, _*_, _≤_}
+use Prim.Native.Nat.{ℕ, _+_, _*_, _/_, _≤_}
 use Rattle.picture_limits.specs.Places.{patchFloats}
 use Rattle.picture_limits.specs.Shape.{most}
 use Rattle.encoder_settings.specs.declared.EncoderSettings.{EncoderSettings}
@@ -38,6 +38,7 @@ pub record Bounded (s : EncoderSettings) : Type 0 where
   pub linear-2 : s .«text_hidden_size» * s .«text_hidden_size» ≤ 67108864
   pub projector-is : projectorSum (s .«hidden_size») (s .«hidden_size» * mergeArea (s .picture)) (s .«text_hidden_size») (s .«projector_bias») ≡ floats (projector (s .«hidden_size») (s .«hidden_size» * mergeArea (s .picture)) (s .«text_hidden_size») (hasBias s))
   pub positions : most (s .picture) * most (s .picture) ≤ 4194304
+  pub axis : most (s .picture) * (s .«head_dim» / 4) ≤ 131072
   pub table : most (s .picture) * most (s .picture) * s .«head_dim» ≤ 1073741824
 
 -- the same of t tokens of which o are left

@@ -34,7 +34,7 @@ returns c = sym (ap lengthsReport (called (c .before .before .before) ∙ c .bef
 
 returns-2 : tie.Need-returns-2
 returns-2 c =
-    ap (λ (n : ℕ). record { number = n; patches = 0; weights = 0; tables = 0; scratch = 0; out = 0 }) (c .number .ensures)
+    ap (λ (n : ℕ). record { number = n; patches = 0; weights = 0; tables = 0; axes = 0; scratch = 0; out = 0 }) (c .number .ensures)
     ∙ sym (ap lengthsReport (called (c .before .before .before .before) ∙ c .before .before .found2 .given .1))
 
 pub kz-lengths-spec : {M : Type 1} → statement M

@@ -1,7 +1,9 @@
 -- `encoder_blocks::block::attn` meets its contract. Assumes nothing.
 use mathlib.Core.Path.{ap, _∙_}
+use native.Mathlib.Omega.{arith}
 use borrow.Author.Needs.{needs}
 use Rattle.encoder_kernels.specs.Finite.{allFinite}
+use Rattle.encoder_blocks.specs.Tables.{tableBy}
 use Rattle.encoder_blocks.proofs.Halves.{attn-half}
 use Rattle.encoder_blocks.proofs.block.attn.Statement.{statement}
 use Rattle.encoder_blocks.proofs.block.attn.Tie as tie
@@ -57,11 +59,17 @@ linear-finite-requires-2 c κs = search needs
 linear-finite-requires-3 : tie.Need-linear-finite-requires-3
 linear-finite-requires-3 c κs = search needs
 
-rotate-finite-requires : tie.Need-rotate-finite-requires
-rotate-finite-requires c κs = search needs
+rotate-by-requires : tie.Need-rotate-by-requires
+rotate-by-requires c κs =
+    let g = c .before .before .before .before .before .before .before .before .before .before .before .before .before .before .before .before .before .before .before .before .before .before .before .before .pre in
+    let e = c .before .before .before .linear-finite3 .kept .0 ∙ c .before .before .before .before .before .before .before .linear-finite2 .kept .0 ∙ c .before .before .before .before .before .before .before .before .before .before .before .linear-finite .kept .0 ∙ c .before .before .before .before .before .before .before .before .before .before .before .before .before .before .before .norm-finite .kept .0 in
+    (rw e (g .1 .0), omega (arith, e, g .0 .scratch))
 
-rotate-finite-requires-2 : tie.Need-rotate-finite-requires-2
-rotate-finite-requires-2 c κs = search needs
+rotate-by-requires-2 : tie.Need-rotate-by-requires-2
+rotate-by-requires-2 c κs =
+    let g = c .before .before .before .before .before .before .before .before .before .before .before .before .before .before .before .before .before .before .before .before .before .before .before .before .before .before .before .before .pre in
+    let e = c .before .before .before .rotate-by .kept .0 ∙ c .before .before .before .before .before .before .before .linear-finite3 .kept .0 ∙ c .before .before .before .before .before .before .before .before .before .before .before .linear-finite2 .kept .0 ∙ c .before .before .before .before .before .before .before .before .before .before .before .before .before .before .before .linear-finite .kept .0 ∙ c .before .before .before .before .before .before .before .before .before .before .before .before .before .before .before .before .before .before .before .norm-finite .kept .0 in
+    (rw e (g .1 .0), omega (arith, e, g .0 .scratch))
 
 attend-requires : tie.Need-attend-requires
 attend-requires c κs = search needs
@@ -80,24 +88,24 @@ add-finite-requires c κs = search needs
 
 same-length : tie.Need-same-length
 same-length c =
-    c .before .before .add-finite .kept .0 ∙ c .before .before .before .before .before .before .linear-finite4 .kept .0 ∙ c .before .before .before .before .before .before .before .before .before .before .before .before .before .attend .kept .0 ∙ c .before .before .before .before .before .before .before .before .before .before .before .before .before .before .before .before .before .rotate-finite2 .kept .0
-    ∙ c .before .before .before .before .before .before .before .before .before .before .before .before .before .before .before .before .before .before .before .before .before .rotate-finite .kept .0 ∙ c .before .before .before .before .before .before .before .before .before .before .before .before .before .before .before .before .before .before .before .before .before .before .before .before .before .linear-finite3 .kept .0 ∙ c .before .before .before .before .before .before .before .before .before .before .before .before .before .before .before .before .before .before .before .before .before .before .before .before .before .before .before .before .before .linear-finite2 .kept .0 ∙ c .before .before .before .before .before .before .before .before .before .before .before .before .before .before .before .before .before .before .before .before .before .before .before .before .before .before .before .before .before .before .before .before .before .linear-finite .kept .0 ∙ c .before .before .before .before .before .before .before .before .before .before .before .before .before .before .before .before .before .before .before .before .before .before .before .before .before .before .before .before .before .before .before .before .before .before .before .before .before .norm-finite .kept .0
+    c .before .before .add-finite .kept .0 ∙ c .before .before .before .before .before .before .linear-finite4 .kept .0 ∙ c .before .before .before .before .before .before .before .before .before .before .before .before .before .attend .kept .0 ∙ c .before .before .before .before .before .before .before .before .before .before .before .before .before .before .before .before .before .rotate-by2 .kept .0
+    ∙ c .before .before .before .before .before .before .before .before .before .before .before .before .before .before .before .before .before .before .before .before .before .rotate-by .kept .0 ∙ c .before .before .before .before .before .before .before .before .before .before .before .before .before .before .before .before .before .before .before .before .before .before .before .before .before .linear-finite3 .kept .0 ∙ c .before .before .before .before .before .before .before .before .before .before .before .before .before .before .before .before .before .before .before .before .before .before .before .before .before .before .before .before .before .linear-finite2 .kept .0 ∙ c .before .before .before .before .before .before .before .before .before .before .before .before .before .before .before .before .before .before .before .before .before .before .before .before .before .before .before .before .before .before .before .before .before .linear-finite .kept .0 ∙ c .before .before .before .before .before .before .before .before .before .before .before .before .before .before .before .before .before .before .before .before .before .before .before .before .before .before .before .before .before .before .before .before .before .before .before .before .before .norm-finite .kept .0
 
 returns : tie.Need-returns
 returns c =
-    let a = c .before .before .before .before .before .before .before .before .before .before .before .before .before .before .before .before .before .before .before .before .before .before .before .before .before .before .before .before .before .before .before .before .before .before .before .before .before .before .before .before .before .before .before .before .args in
-    let g = c .before .before .before .before .before .before .before .before .before .before .before .before .before .before .before .before .before .before .before .before .before .before .before .before .before .before .before .before .before .before .before .before .before .before .before .before .before .before .before .before .before .before .before .before .pre in
+    let a = c .before .before .before .before .before .before .before .before .before .before .before .before .before .before .before .before .before .before .before .before .before .before .before .before .before .before .before .before .before .before .before .before .before .before .before .before .before .before .before .before .before .before .before .before .before .before .args in
+    let g = c .before .before .before .before .before .before .before .before .before .before .before .before .before .before .before .before .before .before .before .before .before .before .before .before .before .before .before .before .before .before .before .before .before .before .before .before .before .before .before .before .before .before .before .before .before .before .pre in
     let x₁ = c .before .before .before .before .before .before .before .before .before .before .before .before .before .before .before .before .before .before .before .before .before .before .before .before .before .before .before .before .before .before .before .before .before .before .before .before .before .norm-finite in
     let x₂ = c .before .before .before .before .before .before .before .before .before .before .before .before .before .before .before .before .before .before .before .before .before .before .before .before .before .before .before .before .before .before .before .before .before .linear-finite in
     let x₃ = c .before .before .before .before .before .before .before .before .before .before .before .before .before .before .before .before .before .before .before .before .before .before .before .before .before .before .before .before .before .linear-finite2 in
     let x₄ = c .before .before .before .before .before .before .before .before .before .before .before .before .before .before .before .before .before .before .before .before .before .before .before .before .before .linear-finite3 in
-    let x₅ = c .before .before .before .before .before .before .before .before .before .before .before .before .before .before .before .before .before .before .before .before .before .rotate-finite in
-    let x₆ = c .before .before .before .before .before .before .before .before .before .before .before .before .before .before .before .before .before .rotate-finite2 in
+    let x₅ = c .before .before .before .before .before .before .before .before .before .before .before .before .before .before .before .before .before .before .before .before .before .rotate-by in
+    let x₆ = c .before .before .before .before .before .before .before .before .before .before .before .before .before .before .before .before .before .rotate-by2 in
     let x₇ = c .before .before .before .before .before .before .before .before .before .before .before .before .before .attend in
     let y = c .before .before .before .before .before .before .before .before .finite in
     let x₈ = c .before .before .before .before .before .before .linear-finite4 in
     let x₉ = c .before .before .add-finite in
-    attn-half (a .z) (a .w .now) (a .s .now) (g .0) (a .cos .now) (a .sin .now) (a .row) (g .1 .0) (g .1 .1)
+    attn-half (a .z) (a .w .now) (a .s .now) (g .0) (tableBy (a .f) (a .z) (a .cos .now) (a .column-cos .now)) (tableBy (a .f) (a .z) (a .sin .now) (a .column-sin .now)) (a .row) (g .1 .0 .fourth) (g .1 .1)
     (x₁ .last .0) (x₂ .last .0) (x₃ .last .0) (x₄ .last .0) (x₅ .last .0) (x₆ .last .0) (x₇ .last .0) (x₈ .last .0) (x₉ .last .0)
     (x₁ .result) (x₂ .result) (x₃ .result) (x₄ .result) (x₅ .result) (x₆ .result) (x₇ .result) (y .result) (x₈ .result) (x₉ .result)
     (rw (c .before .before .before .before .before .before .before .before .before .before .before .before .before .before .before .before .before .before .before .before .before .before .before .before .before .before .before .before .before .before .before .before .before .before .before .before .before .before .part .ensures) at (x₁ .ensures)) (x₂ .ensures) (x₃ .ensures) (x₄ .ensures) (x₅ .ensures) (x₆ .ensures) (x₇ .ensures)
@@ -124,8 +132,8 @@ attn-spec =
     linear-finite-requires
     linear-finite-requires-2
     linear-finite-requires-3
-    rotate-finite-requires
-    rotate-finite-requires-2
+    rotate-by-requires
+    rotate-by-requires-2
     attend-requires
     part-requires-2
     finite-requires

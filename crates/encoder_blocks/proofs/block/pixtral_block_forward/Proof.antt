@@ -20,7 +20,7 @@ same-length c = search needs
 returns : tie.Need-returns
 unfolding blockRun
 returns c =
-    let a = c .before .before .before .before .before .before .before .before .before .before .before .before .args in
+    let a = c .before .before .before .before .before .before .before .before .before .before .before .before .before .before .args in
     let x = c .before .before .before .before .before .before .attn in
     let y = c .before .before .feed in
     answer-then (x .result) (y .result) (hAt (a .z) (x .last .0)) (hAt (a .z) (y .last .0)) (feedRun (a .z) (a .w .now)) (sym (y .ensures)) ∙ ap (λ r. thenRun r (feedRun (a .z) (a .w .now))) (x .ensures)

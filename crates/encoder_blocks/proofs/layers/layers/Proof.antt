@@ -11,6 +11,7 @@ use Rattle.encoder_steps.specs.Run.{ran, handed}
 use Rattle.encoder_steps.proofs.Writes.{went-of, stopped-of}
 use Rattle.encoder_steps.proofs.Fronts.{front-kept}
 use Rattle.encoder_blocks.specs.Block.{nOf, layersRun}
+use Rattle.encoder_blocks.specs.Tables.{tableBy}
 use Rattle.encoder_blocks.specs.inner.Live.{hAt}
 use Rattle.encoder_blocks.proofs.Rooms.{layers-say}
 use Rattle.encoder_blocks.proofs.layers.layers.Statement.{statement}
@@ -20,13 +21,13 @@ layers-fit-requires : tie.Need-layers-fit-requires
 layers-fit-requires c κs = search needs
 
 each-layer-requires : tie.Need-each-layer-requires
-each-layer-requires c κs = layers-say (c .before .before .before .before .before .before .before .args .z) (sym (c .before .before .layers-fit .ensures) ∙ c .before .if1 .taken)
+each-layer-requires c κs = layers-say (c .before .before .before .before .before .before .before .before .before .args .z) (c .before .before .before .before .before .before .before .before .before .args .f) (sym (c .before .before .layers-fit .ensures) ∙ c .before .if1 .taken)
 
 mul-n : tie.Need-mul-n
-mul-n c = omega (arith, layers-say (c .before .before .before .before .before .before .before .before .before .before .before .before .args .z) (sym (c .before .before .before .before .before .before .before .layers-fit .ensures) ∙ c .before .before .before .before .before .before .if1 .taken) .rotation .scratch)
+mul-n c = omega (arith, layers-say (c .before .before .before .before .before .before .before .before .before .before .before .before .before .before .args .z) (c .before .before .before .before .before .before .before .before .before .before .before .before .before .before .args .f) (sym (c .before .before .before .before .before .before .before .layers-fit .ensures) ∙ c .before .before .before .before .before .before .if1 .taken) .rotation .scratch)
 
 sub-clear-at : tie.Need-sub-clear-at
-sub-clear-at c = omega (arith, layers-say (c .before .before .before .before .before .before .before .before .before .before .before .before .before .args .z) (sym (c .before .before .before .before .before .before .before .before .layers-fit .ensures) ∙ c .before .before .before .before .before .before .before .if1 .taken) .rotation .scratch, c .before .before .before .before .before .each-layer .kept .0)
+sub-clear-at c = omega (arith, layers-say (c .before .before .before .before .before .before .before .before .before .before .before .before .before .before .before .args .z) (c .before .before .before .before .before .before .before .before .before .before .before .before .before .before .before .args .f) (sym (c .before .before .before .before .before .before .before .before .layers-fit .ensures) ∙ c .before .before .before .before .before .before .before .if1 .taken) .rotation .scratch, c .before .before .before .before .before .each-layer .kept .0)
 
 clear-at-requires : tie.Need-clear-at-requires
 clear-at-requires c κs = search needs
@@ -36,12 +37,12 @@ same-length c = c .before .before .clear-at .kept .0 ∙ c .before .before .befo
 
 returns : tie.Need-returns
 returns c =
-    let a = c .before .before .before .before .before .before .before .before .before .before .before .before .before .before .before .before .args in
+    let a = c .before .before .before .before .before .before .before .before .before .before .before .before .before .before .before .before .before .before .args in
     let t = sym (c .before .before .before .before .before .before .before .before .before .before .before .layers-fit .ensures) ∙ c .before .before .before .before .before .before .before .before .before .before .if1 .taken in
-    let f = layers-say (a .z) t in
+    let f = layers-say (a .z) (a .f) t in
     let n = c .before .before .before .before .before .before .before .before .each-layer in
     let u = n .last .0 in
-    let R = layersRun (a .z) (a .w .now) (a .cos .now) (a .sin .now) (a .count) (hAt (a .z) (a .s .now)) in
+    let R = layersRun (a .z) (a .w .now) (tableBy (a .f) (a .z) (a .cos .now) (a .column-cos .now)) (tableBy (a .f) (a .z) (a .sin .now) (a .column-sin .now)) (a .count) (hAt (a .z) (a .s .now)) in
     let k : nOf (a .z) ≤ length u = omega (arith, f .rotation .scratch, n .kept .0) in
     let w = went-of (n .result) (hAt (a .z) u) R (n .ensures) (c .before .before .before .before .before .if2 .taken) in
     let v = front-kept u (c .before .before .clear-at .last .0) (nOf (a .z)) k (c .before .before .clear-at .ensures) in
@@ -55,10 +56,10 @@ same-length-2 c = c .before .before .clear .kept .0 ∙ c .before .before .befor
 
 returns-2 : tie.Need-returns-2
 returns-2 c =
-    let a = c .before .before .before .before .before .before .before .before .before .before .before .before .before .before .before .args in
+    let a = c .before .before .before .before .before .before .before .before .before .before .before .before .before .before .before .before .before .args in
     let t = sym (c .before .before .before .before .before .before .before .before .before .before .layers-fit .ensures) ∙ c .before .before .before .before .before .before .before .before .before .if1 .taken in
     let n = c .before .before .before .before .before .before .before .each-layer in
-    let R = layersRun (a .z) (a .w .now) (a .cos .now) (a .sin .now) (a .count) (hAt (a .z) (a .s .now)) in
+    let R = layersRun (a .z) (a .w .now) (tableBy (a .f) (a .z) (a .cos .now) (a .column-cos .now)) (tableBy (a .f) (a .z) (a .sin .now) (a .column-sin .now)) (a .count) (hAt (a .z) (a .s .now)) in
     let w = stopped-of (n .result) (hAt (a .z) (n .last .0)) R (n .ensures) (c .before .before .before .before .if2 .left) in
     (rw t (ap ran w), rw t (c .before .before .clear .ensures ∙ ap (λ i. tab i (λ _. zero32)) (n .kept .0) ∙ ap (λ r. handed r (a .s .now)) w))
 

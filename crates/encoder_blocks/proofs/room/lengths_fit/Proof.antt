@@ -4,12 +4,6 @@ use Rattle.encoder_blocks.specs.inner.Room.{lengthsFit}
 use Rattle.encoder_blocks.proofs.room.lengths_fit.Statement.{statement}
 use Rattle.encoder_blocks.proofs.room.lengths_fit.Tie as tie
 
-mul-table : tie.Need-mul-table
-mul-table c = search needs
-
-mul-table-2 : tie.Need-mul-table-2
-mul-table-2 c = search needs
-
 mul-used : tie.Need-mul-used
 mul-used c = search needs
 
@@ -28,6 +22,9 @@ add-used c = search needs
 layer-floats-requires : tie.Need-layer-floats-requires
 layer-floats-requires c κs = search needs
 
+tables-fit-requires : tie.Need-tables-fit-requires
+tables-fit-requires c κs = search needs
+
 inside-requires : tie.Need-inside-requires
 inside-requires c κs = search needs
 
@@ -36,20 +33,19 @@ rows-inside-requires c κs = search needs
 
 returns : tie.Need-returns
 unfolding lengthsFit
-returns c = rw (c .before .inside .ensures, c .rows-inside .ensures, c .before .before .layer-floats .ensures)
+returns c = rw (c .before .before .tables-fit .ensures, c .before .inside .ensures, c .rows-inside .ensures, c .before .before .before .layer-floats .ensures)
 
 pub lengths-fit-spec : {M : Type 1} → statement M
 lengths-fit-spec =
     tie.close
     (tie.spec
-    mul-table
-    mul-table-2
     mul-used
     mul-used-2
     mul-used-3
     mul-used-4
     add-used
     layer-floats-requires
+    tables-fit-requires
     inside-requires
     rows-inside-requires
     returns)

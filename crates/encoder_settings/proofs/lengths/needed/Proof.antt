@@ -67,26 +67,29 @@ weights-needed-requires c κs = sizes c
 tables-needed-requires : tie.Need-tables-needed-requires
 tables-needed-requires c κs = sizes (c .before)
 
-scratch-needed-requires : tie.Need-scratch-needed-requires
-scratch-needed-requires c κs = let d = c .before .before in counted _ _ _ (sizes d) (grids d .tokens) (div-le-self _ _)
+axes-needed-requires : tie.Need-axes-needed-requires
+axes-needed-requires c κs = sizes (c .before .before)
 
-mul-t16 : tie.Need-mul-t16
-mul-t16 c = omega (arith, sizes (c .before .before .before) .patch-area)
+scratch-needed-requires : tie.Need-scratch-needed-requires
+scratch-needed-requires c κs = let d = c .before .before .before in counted _ _ _ (sizes d) (grids d .tokens) (div-le-self _ _)
 
 mul-t17 : tie.Need-mul-t17
-mul-t17 c = omega (arith, sizes (c .before .before .before) .patch-area)
+mul-t17 c = omega (arith, sizes (c .before .before .before .before) .patch-area)
 
 mul-t18 : tie.Need-mul-t18
-mul-t18 c = omega (arith, grids (c .before .before .before) .floats)
+mul-t18 c = omega (arith, sizes (c .before .before .before .before) .patch-area)
 
 mul-t19 : tie.Need-mul-t19
-mul-t19 c = let d = c .before .before .before .before in let a = c .before .before .before .before .before .before .before .before .before .args in let t = a .grid-h * a .grid-w in omega (arith, counted (a .s) t (t / mergeArea (a .s .picture)) (sizes d) (grids d .tokens) (div-le-self t (mergeArea (a .s .picture))) .texts)
+mul-t19 c = omega (arith, grids (c .before .before .before .before) .floats)
+
+mul-t20 : tie.Need-mul-t20
+mul-t20 c = let d = c .before .before .before .before .before in let a = c .before .before .before .before .before .before .before .before .before .before .args in let t = a .grid-h * a .grid-w in omega (arith, counted (a .s) t (t / mergeArea (a .s .picture)) (sizes d) (grids d .tokens) (div-le-self t (mergeArea (a .s .picture))) .texts)
 
 returns-3 : tie.Need-returns-3
 unfolding neededOf
 returns-3 c =
-    let d = c .before .before .before .before in
-    rw (settings (d .before .before .before), grid d, c .before .before .before .weights-needed .ensures, c .before .before .tables-needed .ensures, c .before .scratch-needed .ensures)
+    let d = c .before .before .before .before .before in
+    rw (settings (d .before .before .before), grid d, c .before .before .before .before .weights-needed .ensures, c .before .before .before .tables-needed .ensures, c .before .before .axes-needed .ensures, c .before .scratch-needed .ensures)
 
 pub needed-spec : {M : Type 1} → statement M
 needed-spec =
@@ -101,9 +104,10 @@ needed-spec =
     div-o
     weights-needed-requires
     tables-needed-requires
+    axes-needed-requires
     scratch-needed-requires
-    mul-t16
     mul-t17
     mul-t18
     mul-t19
+    mul-t20
     returns-3)

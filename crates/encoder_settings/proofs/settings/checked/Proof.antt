@@ -39,21 +39,24 @@ shape-requires c κs = search needs
 enum-known-shaped : tie.Need-enum-known-shaped
 enum-known-shaped c = search needs
 
+tables-fit-requires : tie.Need-tables-fit-requires
+tables-fit-requires c κs = sizes (c .before .before .before .before .before)
+
 mul-lengths : tie.Need-mul-lengths
-mul-lengths c = omega (arith, sizes (c .before .before .before .before .before) .merge-area)
+mul-lengths c = omega (arith, sizes (c .before .before .before .before .before .before) .merge-area)
 
 div-lengths : tie.Need-div-lengths
-div-lengths c = let b = sizes (c .before .before .before .before .before) in omega (arith, times 1 1 _ _ (b .merge-low) (b .merge-low))
+div-lengths c = let b = sizes (c .before .before .before .before .before .before) in omega (arith, times 1 1 _ _ (b .merge-low) (b .merge-low))
 
 lengths-requires : tie.Need-lengths-requires
-lengths-requires c κs = let b = sizes (c .before .before .before .before .before) in (b, counted _ _ _ b (few c) (div-le-self _ _))
+lengths-requires c κs = let b = sizes (c .before .before .before .before .before .before) in (b, counted _ _ _ b (few (c .before)) (div-le-self _ _))
 
 enum-known-shaped-2 : tie.Need-enum-known-shaped-2
 enum-known-shaped-2 c = search needs
 
 returns-2 : tie.Need-returns-2
 unfolding checkedOf
-returns-2 c = rw (settings (c .before .before .before .before .before .before), ← c .before .before .before .before .shape .ensures, c .before .before .shaped .given .1) (c .lengths .ensures)
+returns-2 c = rw (settings (c .before .before .before .before .before .before .before), ← c .before .before .before .before .before .shape .ensures, c .before .before .before .shaped .given .1, ← c .before .tables-fit .ensures) (c .lengths .ensures)
 
 returns-3 : tie.Need-returns-3
 unfolding checkedOf
@@ -67,6 +70,7 @@ checked-spec =
     returns
     shape-requires
     enum-known-shaped
+    tables-fit-requires
     mul-lengths
     div-lengths
     lengths-requires

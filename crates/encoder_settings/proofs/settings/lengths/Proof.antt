@@ -1,15 +1,9 @@
 -- `encoder_settings::settings::lengths` meets its contract. Assumes nothing.
-use lib.Dec.{eqb}
 use borrow.Author.Tests.{le-leb, lt-leb, eq-eqb, ne-eqb, not-true, not-false}
-use mathlib.Core.Path.{_≡_}
-use mathlib.Core.Bool.{true, _&&_}
 use borrow.Author.Needs.{needs}
 use Rattle.encoder_settings.specs.Settings.{lengths}
 use Rattle.encoder_settings.proofs.settings.lengths.Statement.{statement}
 use Rattle.encoder_settings.proofs.settings.lengths.Tie as tie
-
-tables : (c : tie.Else2) → eqb (c .before .before .before .before .args .cos) (c .before .tables-needed .result) && eqb (c .before .before .before .before .args .sin) (c .before .tables-needed .result) ≡ true
-tables c = not-false _ (c .if2 .left)
 
 weights-needed-requires : tie.Need-weights-needed-requires
 weights-needed-requires c κs = search needs
@@ -18,30 +12,27 @@ returns : tie.Need-returns
 unfolding lengths
 returns c = rw (← c .before .weights-needed .ensures, ne-eqb _ _ (c .if1 .taken))
 
-tables-needed-requires : tie.Need-tables-needed-requires
-tables-needed-requires c κs = search needs
-
 returns-2 : tie.Need-returns-2
 unfolding lengths
-returns-2 c = let a = c .before .before .before .before .args in let n = c .before .tables-needed .result in rw (← c .before .before .before .weights-needed .ensures, eq-eqb _ _ (c .before .before .if1 .left), ← c .before .tables-needed .ensures, not-true (eqb (a .cos) n && eqb (a .sin) n) (c .if2 .taken))
+returns-2 c = rw (← c .before .before .weights-needed .ensures, eq-eqb _ _ (c .before .if1 .left), not-true (c .before .before .before .args .tables) (c .if2 .taken))
 
 mul-if3 : tie.Need-mul-if3
 mul-if3 c = search needs
 
 returns-3 : tie.Need-returns-3
 unfolding lengths
-returns-3 c = rw (← c .before .before .before .before .before .weights-needed .ensures, eq-eqb _ _ (c .before .before .before .before .if1 .left), ← c .before .before .before .tables-needed .ensures, tables (c .before .before), lt-leb _ _ (c .if3 .taken))
+returns-3 c = rw (← c .before .before .before .before .weights-needed .ensures, eq-eqb _ _ (c .before .before .before .if1 .left), not-false (c .before .before .before .before .before .args .tables) (c .before .before .if2 .left), lt-leb _ _ (c .if3 .taken))
 
 scratch-needed-requires : tie.Need-scratch-needed-requires
 scratch-needed-requires c κs = search needs
 
 returns-4 : tie.Need-returns-4
 unfolding lengths
-returns-4 c = rw (← c .before .before .before .before .before .before .before .weights-needed .ensures, eq-eqb _ _ (c .before .before .before .before .before .before .if1 .left), ← c .before .before .before .before .before .tables-needed .ensures, tables (c .before .before .before .before), le-leb _ _ (c .before .before .if3 .left), ← c .before .scratch-needed .ensures, lt-leb _ _ (c .if4 .taken))
+returns-4 c = rw (← c .before .before .before .before .before .before .weights-needed .ensures, eq-eqb _ _ (c .before .before .before .before .before .if1 .left), not-false (c .before .before .before .before .before .before .before .args .tables) (c .before .before .before .before .if2 .left), le-leb _ _ (c .before .before .if3 .left), ← c .before .scratch-needed .ensures, lt-leb _ _ (c .if4 .taken))
 
 returns-5 : tie.Need-returns-5
 unfolding lengths
-returns-5 c = rw (← c .before .before .before .before .before .before .before .weights-needed .ensures, eq-eqb _ _ (c .before .before .before .before .before .before .if1 .left), ← c .before .before .before .before .before .tables-needed .ensures, tables (c .before .before .before .before), le-leb _ _ (c .before .before .if3 .left), ← c .before .scratch-needed .ensures, le-leb _ _ (c .if4 .left))
+returns-5 c = rw (← c .before .before .before .before .before .before .weights-needed .ensures, eq-eqb _ _ (c .before .before .before .before .before .if1 .left), not-false (c .before .before .before .before .before .before .before .args .tables) (c .before .before .before .before .if2 .left), le-leb _ _ (c .before .before .if3 .left), ← c .before .scratch-needed .ensures, le-leb _ _ (c .if4 .left))
 
 pub lengths-spec : {M : Type 1} → statement M
 lengths-spec =
@@ -49,7 +40,6 @@ lengths-spec =
     (tie.spec
     weights-needed-requires
     returns
-    tables-needed-requires
     returns-2
     mul-if3
     returns-3

@@ -1,0 +1,4 @@
+pub mod Rotated
+pub mod Expanded
+pub mod Rooms
+pub mod Unique

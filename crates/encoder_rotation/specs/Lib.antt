@@ -1,0 +1,3 @@
+pub mod Rotate
+pub mod Axes
+pub mod inner
