@@ -56,6 +56,7 @@ mod calls;
 mod face;
 mod number;
 mod refusal;
+mod rope;
 mod salvage;
 mod settings;
 mod tiles;
@@ -64,6 +65,7 @@ pub use calls::{forward, patch, pixtral_preprocess, restore, Patches, Picture, P
 pub use number::{bf16, bf16_pack, bf16_pack_all, bf16_widen, bf16_widen_all};
 pub use number::{exp, half_to_f32, root, tanh};
 pub use refusal::Refusal;
+pub use rope::{rope_axes, RopeAxes};
 pub use salvage::{salvage, BadSample, Salvaged};
 pub use settings::{EncoderSettings, Lengths, PictureSettings};
 pub use tiles::{cut, preprocess_tile, restore_tile, Cut, Tile};
