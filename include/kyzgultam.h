@@ -9,7 +9,7 @@
  * Where two versions differ in the first or the second number, an answer may have other bits: docs/DIFFERENCES.md says
  * which. So an archive keeps this beside what it stores. `kz --version` prints it too.
  */
-#define KZ_VERSION "0.3.0"
+#define KZ_VERSION "0.4.0"
 
 #ifdef __cplusplus
 extern "C" {
@@ -37,7 +37,7 @@ enum kz_number {
     KZ_PATCHES_LENGTH = 7, /* the patches' length is not grid_h * grid_w * 3 * patch^2 */
     KZ_SAMPLE = 8,         /* a sample has bits that no byte has in its channel; in a tile's padding, not byte 0's */
     KZ_WEIGHTS_LENGTH = 9, /* the weights' length is not that of the settings */
-    KZ_TABLE_LENGTH = 10,  /* a rotary table's length is not P^2 * head_dim, P = image size / patch */
+    KZ_TABLE_LENGTH = 10,  /* a rotary table's length is not P^2 * head_dim; of kz_forward_axes, not P * head_dim / 4 */
     KZ_SCRATCH = 11,       /* the scratch is shorter than kz_forward needs */
     KZ_NOT_FINITE = 12,    /* a value is not finite, in the inputs or at a stage */
     KZ_CHANNEL = 19,       /* a channel's mean and deviation are not allowed: what is stands with the fields */
@@ -48,7 +48,7 @@ enum kz_number {
 /*
  * The sample of byte b in channel c (red, green, blue) is (b / 255 - mean[c]) / deviation[c] in floats, each operation
  * rounded. A channel is allowed when its 256 samples are finite and strictly rise or strictly fall with b, compared as
- * numbers: then no two bytes are alike. kz_forward and kz_lengths never read mean and deviation.
+ * numbers: then no two bytes are alike. kz_forward, kz_forward_axes and kz_lengths never read mean and deviation.
  */
 struct kz_picture_settings {
     size_t patch_size;         /* 1..32 */
@@ -185,7 +185,10 @@ struct kz_forward_report {
 
 struct kz_lengths_report {
     uint32_t number;
-    size_t patches, weights, tables, scratch, out; /* in floats; `tables` is the length of each of the two */
+    size_t patches, weights; /* in floats, as all of these */
+    size_t tables;           /* each of the two full ones */
+    size_t axes;             /* each of the four of kz_forward_axes */
+    size_t scratch, out;
 };
 
 /*
@@ -205,9 +208,24 @@ struct kz_forward_report kz_forward(struct kz_encoder_settings settings, const f
                                     size_t out_len);
 
 /*
- * How many floats each buffer of a kz_forward call with these settings and this grid has to have: exactly so many in
- * patches, weights and each table, at least so many in scratch and output. Weights and tables are as long with every
- * grid. These are the lengths that kz_forward compares with for 7, 9, 10, 5 and 11. Refused with 1, 6.
+ * kz_forward by smaller tables, in which each position's row is looked up when it is needed: a table of rows and one of
+ * columns, each of P * head_dim / 4 floats, for cosine and for sine. With q = head_dim / 4 the row of (h, w) has q
+ * values of row h, those at h * q, then q of column w, those at w * q, and then both again, as the Rust's
+ * precompute_2d_rope makes it: where the two tables of kz_forward hold these rows, answer, output and scratch are the
+ * same. 10 compares each of the four with P * head_dim / 4; 12 examines the four whole, rows and columns that the grid
+ * does not use too. Everything else is as with kz_forward. Refused with 1, 6, 7, 9, 10, 5, 11, 12.
+ */
+struct kz_forward_report kz_forward_axes(struct kz_encoder_settings settings, const float *patches, size_t patches_len,
+                                         size_t grid_h, size_t grid_w, const float *weights, size_t weights_len,
+                                         const float *row_cos, size_t row_cos_len, const float *row_sin,
+                                         size_t row_sin_len, const float *column_cos, size_t column_cos_len,
+                                         const float *column_sin, size_t column_sin_len, float *scratch,
+                                         size_t scratch_len, float *out, size_t out_len);
+
+/*
+ * How many floats each buffer of a kz_forward or kz_forward_axes call with these settings and this grid has to have:
+ * exactly so many in patches, weights and each table, at least so many in scratch and output. Weights and tables are as
+ * long with every grid. These are the lengths that both calls compare with for 7, 9, 10, 5 and 11. Refused with 1, 6.
  */
 struct kz_lengths_report kz_lengths(struct kz_encoder_settings settings, size_t grid_h, size_t grid_w);
 

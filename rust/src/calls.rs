@@ -1,7 +1,7 @@
 //! Each call hands on slices as pointer and length: an output is lent alone, so it overlaps no other buffer, and a
 //! length is its buffer's. What else include/kyzgultam.h asks of a caller, the floating-point state, Rust asks itself.
 
-use crate::{face, EncoderSettings, PictureSettings, Refusal};
+use crate::{face, EncoderSettings, PictureSettings, Refusal, RopeAxes};
 
 /// What [`pixtral_preprocess`] wrote.
 #[derive(Clone, Copy, Debug, PartialEq, Eq, Hash)]
@@ -127,7 +127,7 @@ pub fn patch(patches: &[f32], patch_size: usize, i: usize) -> &[f32] {
 /// [`EncoderSettings::lengths`] tells the length of each buffer. The scratch may hold anything; after an accepted call,
 /// and after [`Refusal::NotFinite`], all of it is +0, and after any other refusal it is as it was. The picture's means
 /// and deviations are not read: whatever they are, the answer is the same.
-/// Refused with the first of 1, 6, 7, 9, 10, 5, 11, 12. [The crate's first example](crate) has a call.
+/// Refused with the first of 1, 6, 7, 9, 10, 5, 11, 12. The example of [`forward_axes`] has a call.
 ///
 /// No output can be lent as an input too:
 ///
@@ -161,6 +161,87 @@ pub fn forward(
             rope_cos.len(),
             rope_sin.as_ptr(),
             rope_sin.len(),
+            scratch.as_mut_ptr(),
+            scratch.len(),
+            out.as_mut_ptr(),
+            out.len(),
+        )
+    };
+    Refusal::check(report.number)?;
+    Ok(report.tokens)
+}
+
+/// The same by smaller tables: each position's row of cosines and of sines is put together from its row's and its
+/// column's floats when it is needed. [`RopeAxes`] says how, and [`rope_axes`](crate::rope_axes) makes the tables of a
+/// model.
+///
+/// Where two full tables hold these rows, as the Rust's `precompute_2d_rope` makes them, [`forward`] gives the same
+/// count or refusal, and the same bits. 10 is given where a table does not have [`EncoderSettings::axes_len`] floats; for
+/// 12 the four are examined whole, also what this grid does not use. All else is as with [`forward`], the order of the
+/// numbers too: 1, 6, 7, 9, 10, 5, 11, 12.
+///
+/// ```
+/// # fn main() -> Result<(), kyzgultam::Refusal> {
+/// # use kyzgultam::{EncoderSettings, PictureSettings};
+/// use kyzgultam::{forward, forward_axes, rope_axes};
+///
+/// # let settings = EncoderSettings {
+/// #     picture: PictureSettings::new(2, 1, 8),
+/// #     hidden_size: 8, num_heads: 1, head_dim: 8, num_layers: 1, intermediate_size: 1,
+/// #     text_hidden_size: 3, projector_bias: false, scaling: 0.5,
+/// # };
+/// # let weights: Vec<f32> = (0..settings.weights_len()?).map(|i| (i % 7) as f32 / 8.0 - 0.25).collect();
+/// # let patches: Vec<f32> = (0..settings.picture.restored_len(2, 3)?).map(|i| (i % 5) as f32 - 2.0).collect();
+/// // An image size of 8 and patches of 2: four rows and four columns.
+/// let axes = rope_axes(4, settings.head_dim, 10000.0)?;
+/// assert_eq!(axes.row_cos.len(), settings.axes_len()?);
+/// let mut scratch = vec![0.0; settings.scratch_len(2, 3)?];
+/// let mut out = vec![0.0; settings.tokens_len(2, 3)?];
+/// let count = forward_axes(&settings, &patches, 2, 3, &weights, &axes, &mut scratch, &mut out)?;
+/// assert_eq!(count, 6);
+///
+/// // The full tables, row by row of the grid, give the same bits.
+/// let full = |rows: &[f32], columns: &[f32]| -> Vec<f32> {
+///     let row = |h: usize, w: usize| [&rows[2 * h..2 * h + 2], &columns[2 * w..2 * w + 2]].concat().repeat(2);
+///     (0..16).flat_map(|at| row(at / 4, at % 4)).collect()
+/// };
+/// let (cos, sin) = (full(&axes.row_cos, &axes.column_cos), full(&axes.row_sin, &axes.column_sin));
+/// let mut same = vec![0.0; out.len()];
+/// forward(&settings, &patches, 2, 3, &weights, &cos, &sin, &mut scratch, &mut same)?;
+/// assert_eq!(out, same);
+/// # Ok(())
+/// # }
+/// ```
+#[allow(clippy::too_many_arguments)] // one more than is usual, of which two are outputs
+pub fn forward_axes<T: AsRef<[f32]>>(
+    settings: &EncoderSettings,
+    patches: &[f32],
+    grid_h: usize,
+    grid_w: usize,
+    weights: &[f32],
+    axes: &RopeAxes<T>,
+    scratch: &mut [f32],
+    out: &mut [f32],
+) -> Result<usize, Refusal> {
+    let (row_cos, row_sin) = (axes.row_cos.as_ref(), axes.row_sin.as_ref());
+    let (column_cos, column_sin) = (axes.column_cos.as_ref(), axes.column_sin.as_ref());
+    let report = unsafe {
+        face::kz_forward_axes(
+            settings.into(),
+            patches.as_ptr(),
+            patches.len(),
+            grid_h,
+            grid_w,
+            weights.as_ptr(),
+            weights.len(),
+            row_cos.as_ptr(),
+            row_cos.len(),
+            row_sin.as_ptr(),
+            row_sin.len(),
+            column_cos.as_ptr(),
+            column_cos.len(),
+            column_sin.as_ptr(),
+            column_sin.len(),
             scratch.as_mut_ptr(),
             scratch.len(),
             out.as_mut_ptr(),

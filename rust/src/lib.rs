@@ -9,10 +9,10 @@
 //!
 //! A picture larger than the image size is resized, or, where nothing may be lost, taken tile by tile: [`cut`],
 //! [`preprocess_tile`] and [`restore_tile`]. Patches that [`restore`] refuses for damaged samples, [`salvage`] brings
-//! back without these, and lists them.
+//! back without these, and lists them. [`forward`] takes the Rust's rotary tables, [`forward_axes`] small ones.
 //!
 //! ```
-//! use kyzgultam::{forward, pixtral_preprocess, restore, EncoderSettings, PictureSettings};
+//! use kyzgultam::{forward_axes, pixtral_preprocess, restore, rope_axes, EncoderSettings, PictureSettings};
 //!
 //! # fn main() -> Result<(), kyzgultam::Refusal> {
 //! // A picture of 30 rows and 50 columns, to patches.
@@ -36,10 +36,10 @@
 //! };
 //! let lengths = settings.lengths(grid.grid_h, grid.grid_w)?;
 //! let weights = vec![0.01; lengths.weights];
-//! let (rope_cos, rope_sin) = (vec![1.0; lengths.tables], vec![0.0; lengths.tables]);
+//! let axes = rope_axes(picture.image_size / picture.patch_size, settings.head_dim, 10000.0)?;
 //! let (mut scratch, mut tokens) = (vec![0.0; lengths.scratch], vec![0.0; lengths.out]);
-//! let count = forward(
-//!     &settings, &patches, grid.grid_h, grid.grid_w, &weights, &rope_cos, &rope_sin, &mut scratch, &mut tokens,
+//! let count = forward_axes(
+//!     &settings, &patches, grid.grid_h, grid.grid_w, &weights, &axes, &mut scratch, &mut tokens,
 //! )?;
 //! assert_eq!(count, 4);
 //!
@@ -61,7 +61,7 @@ mod salvage;
 mod settings;
 mod tiles;
 
-pub use calls::{forward, patch, pixtral_preprocess, restore, Patches, Picture, PixtralEncoder};
+pub use calls::{forward, forward_axes, patch, pixtral_preprocess, restore, Patches, Picture, PixtralEncoder};
 pub use number::{bf16, bf16_pack, bf16_pack_all, bf16_widen, bf16_widen_all};
 pub use number::{exp, half_to_f32, root, tanh};
 pub use refusal::Refusal;

@@ -76,15 +76,18 @@ pub struct EncoderSettings {
     pub scaling: f32,
 }
 
-/// How many floats each buffer of a [`forward`](crate::forward) call has to have, by [`EncoderSettings::lengths`].
+/// How many floats each buffer of a [`forward`](crate::forward) or [`forward_axes`](crate::forward_axes) call has to
+/// have, by [`EncoderSettings::lengths`].
 #[derive(Clone, Copy, Debug, PartialEq, Eq, Hash)]
 pub struct Lengths {
     /// The patches: exactly so many.
     pub patches: usize,
     /// The weights: exactly so many, with every grid.
     pub weights: usize,
-    /// Each of the two rotary tables: exactly so many, with every grid.
+    /// Each of the two full rotary tables: exactly so many, with every grid.
     pub tables: usize,
+    /// Each of the four tables of [`RopeAxes`](crate::RopeAxes): exactly so many, with every grid.
+    pub axes: usize,
     /// The scratch: at least so many.
     pub scratch: usize,
     /// The output: at least so many, and so many are written.
@@ -220,15 +223,16 @@ impl PictureSettings {
 }
 
 impl EncoderSettings {
-    /// How many floats each buffer of a [`forward`](crate::forward) call with this grid has to have: the lengths that
-    /// `forward` is proved to compare with. Refused with 1 or 6; the picture's means and deviations are not read.
+    /// How many floats each buffer of a [`forward`](crate::forward) or [`forward_axes`](crate::forward_axes) call with
+    /// this grid has to have: the lengths that both are proved to compare with. Refused with 1 or 6; the picture's means
+    /// and deviations are not read.
     ///
     /// ```
     /// # fn main() -> Result<(), kyzgultam::Refusal> {
     /// let settings = kyzgultam::EncoderSettings::default();
     /// let lengths = settings.lengths(2, 4)?;
     /// assert_eq!(lengths.patches, 2 * 4 * 3 * 14 * 14);
-    /// assert_eq!(lengths.tables, 110 * 110 * 64);
+    /// assert_eq!((lengths.tables, lengths.axes), (110 * 110 * 64, 110 * 16));
     /// assert_eq!(lengths.out, 2 * 5120);
     /// assert_eq!(settings.lengths(2, 3), Err(kyzgultam::Refusal::Grid));
     /// # Ok(())
@@ -242,6 +246,7 @@ impl EncoderSettings {
             patches: report.patches,
             weights: report.weights,
             tables: report.tables,
+            axes: report.axes,
             scratch: report.scratch,
             out: report.out,
         })
@@ -281,6 +286,12 @@ impl EncoderSettings {
     /// The row of the patch at row h and column w of the grid is the one at h × P + w.
     pub fn tables_len(&self) -> Result<usize, Refusal> {
         Ok(self.smallest()?.tables)
+    }
+
+    /// How many floats each of the four tables of [`RopeAxes`](crate::RopeAxes) has: P × `head_dim` / 4. Refused with 1
+    /// and 6, as [`weights_len`](Self::weights_len) is.
+    pub fn axes_len(&self) -> Result<usize, Refusal> {
+        Ok(self.smallest()?.axes)
     }
 
     /// How many floats of scratch [`forward`](crate::forward) needs for this grid. Refused with 1 or 6.

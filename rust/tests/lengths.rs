@@ -3,7 +3,7 @@
 mod common;
 
 use common::Random;
-use kyzgultam::{forward, EncoderSettings, Lengths, PictureSettings, Refusal};
+use kyzgultam::{forward, forward_axes, EncoderSettings, Lengths, PictureSettings, Refusal, RopeAxes};
 
 /// Numbers 1 and 6, and the lengths, as the scope document states them.
 fn stated(s: &EncoderSettings, grid_h: usize, grid_w: usize) -> Result<Lengths, Refusal> {
@@ -39,6 +39,7 @@ fn stated(s: &EncoderSettings, grid_h: usize, grid_w: usize) -> Result<Lengths, 
         patches: t * 3 * p * p,
         weights: h * 3 * p * p + h + s.num_layers * layer + projector,
         tables: most * most * s.head_dim,
+        axes: most * s.head_dim / 4,
         scratch: 7 * t * h + 2 * t * i + t + 2 * o * x,
         out: o * x,
     })
@@ -54,6 +55,7 @@ fn compare(s: &EncoderSettings, grid_h: usize, grid_w: usize) -> Result<Lengths,
     let smallest = stated(s, merge, merge);
     assert_eq!(s.weights_len(), smallest.map(|n| n.weights), "{s:?}");
     assert_eq!(s.tables_len(), smallest.map(|n| n.tables), "{s:?}");
+    assert_eq!(s.axes_len(), smallest.map(|n| n.axes), "{s:?}");
     // Of the encoder's own settings restore knows nothing.
     let picture = EncoderSettings { picture: s.picture, ..EncoderSettings::default() };
     let bytes = stated(&picture, grid_h, grid_w).map(|n| n.patches);
@@ -157,6 +159,7 @@ fn the_largest() {
         patches: 12_582_912,
         weights: 3_309_529_088,
         tables: 1_073_741_824,
+        axes: 131_072,
         scratch: 197_572_689_920,
         out: 34_359_738_368,
     };
@@ -177,6 +180,8 @@ fn forward_takes_just_these() {
         let found = s.lengths(grid_h, grid_w);
         let Ok(n) = found else {
             let call = forward(&s, &[], grid_h, grid_w, &[], &[], &[], &mut [], &mut []);
+            assert_eq!(call.err(), found.err(), "{s:?} {grid_h} {grid_w}");
+            let call = forward_axes(&s, &[], grid_h, grid_w, &[], &RopeAxes::<&[f32]>::default(), &mut [], &mut []);
             assert_eq!(call.err(), found.err(), "{s:?} {grid_h} {grid_w}");
             refused += 1;
             // Without a length for the weights there is no picture that gives a grid.
@@ -202,6 +207,24 @@ fn forward_takes_just_these() {
             more[k] += 1;
             assert_eq!(call(less), Err(number), "{s:?} {grid_h} {grid_w}");
             assert_eq!(call(more).err(), (k < 4).then_some(number), "{s:?} {grid_h} {grid_w}");
+        }
+        // The same with four tables.
+        let lens = [n.patches, n.weights, n.axes, n.axes, n.axes, n.axes, n.scratch, n.out];
+        let floats = lens.map(|len| random.floats(len + 1, 0.2));
+        let call = |lens: [usize; 8]| {
+            let part = |k: usize| &floats[k][..lens[k]];
+            let axes = RopeAxes { row_cos: part(2), row_sin: part(3), column_cos: part(4), column_sin: part(5) };
+            let (mut scratch, mut out) = (part(6).to_vec(), part(7).to_vec());
+            forward_axes(&s, part(0), grid_h, grid_w, part(1), &axes, &mut scratch, &mut out)
+        };
+        assert_eq!(call(lens).map(|count| count * s.text_hidden_size), Ok(n.out));
+        let numbers = [[PatchesLength, WeightsLength], [TableLength; 2], [TableLength; 2], [Scratch, Output]].concat();
+        for (k, number) in numbers.into_iter().enumerate() {
+            let (mut less, mut more) = (lens, lens);
+            less[k] -= 1;
+            more[k] += 1;
+            assert_eq!(call(less), Err(number), "{s:?} {grid_h} {grid_w}");
+            assert_eq!(call(more).err(), (k < 6).then_some(number), "{s:?} {grid_h} {grid_w}");
         }
     }
     assert!(accepted > 50 && refused > 50 && hopeless > 10, "{accepted} {refused} {hopeless}");

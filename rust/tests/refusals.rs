@@ -4,8 +4,8 @@ mod common;
 
 use common::{allowed, same, Random};
 use kyzgultam::{
-    cut, forward, pixtral_preprocess, preprocess_tile, restore, restore_tile, salvage, BadSample, EncoderSettings,
-    Patches, PictureSettings, PixtralEncoder, Refusal,
+    cut, forward, forward_axes, pixtral_preprocess, preprocess_tile, restore, restore_tile, salvage, BadSample,
+    EncoderSettings, Patches, PictureSettings, PixtralEncoder, Refusal, RopeAxes,
 };
 
 const PICTURE: PictureSettings = PictureSettings::new(2, 2, 8);
@@ -545,6 +545,83 @@ fn forward_refuses() {
     }
 }
 
+/// A call by small tables: all but the tables are the other's.
+#[derive(Clone)]
+struct ForwardAxes {
+    call: Forward,
+    axes: RopeAxes,
+}
+
+fn run_forward_axes(c: &ForwardAxes) -> Result<(), Refusal> {
+    let ForwardAxes { call: Forward { settings, patches, grid, weights, scratch, out, .. }, axes } = c;
+    let (room, scratch_room) = (*out, *scratch);
+    let marks = Random(7).floats(room.max(scratch_room), 1e9);
+    let (mut out, mut scratch) = (marks[..room].to_vec(), marks[..scratch_room].to_vec());
+    let found = forward_axes(settings, patches, grid.0, grid.1, weights, axes, &mut scratch, &mut out);
+    let floats = found.map_or(0, |count| count * settings.text_hidden_size);
+    assert!(same(&out[floats..], &marks[floats..room]));
+    if matches!(found, Ok(_) | Err(Refusal::NotFinite)) {
+        assert!(same(&scratch, &vec![0.0; scratch_room]), "the scratch is +0 all over");
+    } else {
+        assert!(same(&scratch, &marks[..scratch_room]), "the scratch is as it was");
+    }
+    found.map(drop)
+}
+
+fn good_forward_axes() -> ForwardAxes {
+    let mut random = Random(12);
+    let mut table = || random.floats(ENCODER.axes_len().unwrap(), 1.0);
+    let axes = RopeAxes { row_cos: table(), row_sin: table(), column_cos: table(), column_sin: table() };
+    ForwardAxes { call: good_forward(), axes }
+}
+
+#[test]
+fn forward_axes_refuses() {
+    let good = good_forward_axes();
+    let spoils: fn() -> Spoils<ForwardAxes> = || {
+        vec![
+            (1, |c| c.call.settings.num_layers = 49),
+            (1, |c| c.call.settings.picture.resize_rule = 0),
+            (6, |c| c.call.grid.0 = 3),
+            (7, |c| c.call.patches.truncate(c.call.patches.len() - 1)),
+            (9, |c| c.call.weights.truncate(c.call.weights.len() - 1)),
+            (10, |c| c.axes.row_cos.push(0.0)),
+            (10, |c| c.axes.row_sin.truncate(c.axes.row_sin.len() - 1)),
+            (10, |c| c.axes.column_cos.clear()),
+            (10, |c| c.axes.column_sin.push(0.0)),
+            (5, |c| c.call.out = 5),
+            (11, |c| c.call.scratch -= 10),
+            (12, |c| c.call.weights[3] = f32::NAN),
+        ]
+    };
+    each(&good, spoils(), run_forward_axes);
+    let mut odd = good.clone();
+    (odd.call.settings.picture.mean, odd.call.settings.picture.deviation) = ([f32::NAN; 3], [0.0; 3]);
+    each(&odd, spoils(), run_forward_axes);
+    let others: Spoils<ForwardAxes> = vec![
+        (6, |c| c.call.grid.1 = usize::MAX),
+        (7, |c| c.call.patches.clear()),
+        (9, |c| c.call.weights.clear()),
+        // Each as long as a full table, all of them gone, and the four as two.
+        (10, |c| c.axes.row_cos.resize(ENCODER.tables_len().unwrap(), 0.0)),
+        (10, |c| c.axes = RopeAxes::default()),
+        (10, |c| (c.axes.row_cos, c.axes.row_sin) = (c.call.cos.clone(), c.call.sin.clone())),
+        (5, |c| c.call.out = 0),
+        (11, |c| c.call.scratch = 0),
+        (12, |c| c.call.patches[0] = f32::INFINITY),
+        (12, |c| *c.axes.row_cos.last_mut().unwrap() = f32::NEG_INFINITY),
+        (12, |c| *c.axes.row_sin.last_mut().unwrap() = f32::NAN),
+        (12, |c| *c.axes.column_cos.last_mut().unwrap() = f32::INFINITY),
+        (12, |c| *c.axes.column_sin.last_mut().unwrap() = f32::NAN),
+        (12, |c| c.call.weights.fill(f32::MAX)),
+    ];
+    for (number, spoil) in others {
+        let mut bad = good.clone();
+        spoil(&mut bad);
+        assert_eq!(run_forward_axes(&bad).unwrap_err().number(), number);
+    }
+}
+
 #[test]
 fn settings_at_their_ends() {
     type Field<S> = fn(&mut S) -> &mut usize;
@@ -573,6 +650,8 @@ fn settings_at_their_ends() {
             assert_eq!(run_forward(&bad), Err(Refusal::Setting));
             assert_eq!(bad.settings.lengths(2, 4), Err(Refusal::Setting));
             assert_eq!(bad.settings.weights_len(), Err(Refusal::Setting));
+            let small = ForwardAxes { call: bad, ..good_forward_axes() };
+            assert_eq!(run_forward_axes(&small), Err(Refusal::Setting));
         }
     }
     let encoder: [(Field<EncoderSettings>, &[usize]); 6] = [
@@ -591,8 +670,11 @@ fn settings_at_their_ends() {
             assert_eq!(bad.settings.lengths(2, 4), Err(Refusal::Setting));
             assert_eq!(bad.settings.weights_len(), Err(Refusal::Setting));
             assert_eq!(bad.settings.tables_len(), Err(Refusal::Setting));
+            assert_eq!(bad.settings.axes_len(), Err(Refusal::Setting));
             assert_eq!(bad.settings.scratch_len(2, 4), Err(Refusal::Setting));
             assert_eq!(bad.settings.tokens_len(2, 4), Err(Refusal::Setting));
+            let small = ForwardAxes { call: bad, ..good_forward_axes() };
+            assert_eq!(run_forward_axes(&small), Err(Refusal::Setting));
         }
     }
     for scaling in [0.0, -0.0, -1.0, f32::INFINITY, f32::NEG_INFINITY, f32::NAN] {
@@ -601,6 +683,8 @@ fn settings_at_their_ends() {
         assert_eq!(run_forward(&bad), Err(Refusal::Setting));
         assert_eq!(bad.settings.lengths(2, 4), Err(Refusal::Setting));
         assert_eq!(bad.settings.weights_len(), Err(Refusal::Setting));
+        let small = ForwardAxes { call: bad, ..good_forward_axes() };
+        assert_eq!(run_forward_axes(&small), Err(Refusal::Setting));
     }
 }
 
@@ -626,5 +710,6 @@ fn lengths_refuse() {
         assert_eq!(settings.lengths(2, 2).err(), refusal);
         assert_eq!(settings.weights_len().err(), refusal);
         assert_eq!(settings.tables_len().err(), refusal);
+        assert_eq!(settings.axes_len().err(), refusal);
     }
 }

@@ -643,6 +643,7 @@ static void patch(void) {
 enum {
     WEIGHTS = 4 * 12 + 4 + (2 * 4 + 4 * 16 + 3 * 4 * 5) + 4 + 4 * 4 * 4 + 3 * 4 + 3 * 3,
     TABLE = 4 * 4 * 4,
+    AXIS = 4 * 4 / 4,
     SCRATCH = 7 * 8 * 4 + 2 * 8 * 5 + 8 + 2 * 2 * 3,
     TOKENS = 2 * 3
 };
@@ -722,6 +723,106 @@ static void forward(void) {
     }
 }
 
+/* By tables of rows and of columns: what kz_forward gives by the full tables that they stand for. */
+static void forward_axes(void) {
+    /* So large a scale that each table counts. */
+    const struct kz_encoder_settings good = {KZ_PICTURE_SETTINGS(2, 2, 8), 4, 1, 4, 1, 5, 3, 0, 32.0f};
+    float weights[WEIGHTS], rope_cos[TABLE], rope_sin[TABLE], scratch[SCRATCH + TAIL], out[TOKENS + TAIL];
+    float axes[4][TABLE]; /* row_cos, row_sin, column_cos, column_sin, and behind each what no call is to read */
+    float right[TOKENS], first[TOKENS];
+    struct kz_encoder_settings other = good;
+    struct kz_forward_report r;
+
+    for (size_t i = 0; i < WEIGHTS; i++) weights[i] = (float)(int)(i * 37 % 41) / 82.0f - 0.2f;
+    for (size_t k = 0; k < 4; k++)
+        for (size_t i = 0; i < TABLE; i++) axes[k][i] = i < AXIS ? (float)(int)((k * AXIS + i) * 7 % 17) / 17.0f : NAN;
+    /* The row of (h, w) at h * 4 + w: h's value, w's value, and both again. */
+    for (size_t i = 0; i < TABLE; i++) {
+        size_t h = i / 16, w = i / 4 % 4;
+        rope_cos[i] = i % 2 ? axes[2][w] : axes[0][h];
+        rope_sin[i] = i % 2 ? axes[3][w] : axes[1][h];
+    }
+    r = kz_forward(good, patches, FLOATS, 2, 4, weights, WEIGHTS, rope_cos, TABLE, rope_sin, TABLE, scratch, SCRATCH,
+                   right, TOKENS);
+    EXPECT(r.number == KZ_ACCEPTED && r.tokens == 2);
+    for (size_t rule = 1; rule <= 2; rule++) {
+        other.picture = ruled(rule);
+        mark_all(scratch, SCRATCH + TAIL);
+        mark_all(out, TOKENS + TAIL);
+        r = kz_forward_axes(other, patches, FLOATS, 2, 4, weights, WEIGHTS, axes[0], AXIS, axes[1], AXIS, axes[2], AXIS,
+                            axes[3], AXIS, scratch, SCRATCH + TAIL, out, TOKENS + TAIL);
+        EXPECT(r.number == KZ_ACCEPTED && r.tokens == 2 && memcmp(out, right, sizeof right) == 0);
+        EXPECT(marked(out, TOKENS, TOKENS + TAIL) && zeroed(scratch, SCRATCH + TAIL));
+    }
+    /* Means and deviations it never reads, and the tables in another order are others. */
+    other.picture = with(3, NAN, 0);
+    r = kz_forward_axes(other, patches, FLOATS, 2, 4, weights, WEIGHTS, axes[0], AXIS, axes[1], AXIS, axes[2], AXIS,
+                        axes[3], AXIS, scratch, SCRATCH, first, TOKENS);
+    EXPECT(r.number == KZ_ACCEPTED && memcmp(first, right, sizeof right) == 0);
+    r = kz_forward_axes(good, patches, FLOATS, 2, 4, weights, WEIGHTS, axes[2], AXIS, axes[3], AXIS, axes[0], AXIS,
+                        axes[1], AXIS, scratch, SCRATCH, first, TOKENS);
+    EXPECT(r.number == KZ_ACCEPTED && memcmp(first, right, sizeof right) != 0);
+    r = kz_forward_axes(good, patches, FLOATS, 2, 4, weights, WEIGHTS, axes[1], AXIS, axes[0], AXIS, axes[2], AXIS,
+                        axes[3], AXIS, scratch, SCRATCH, first, TOKENS);
+    EXPECT(r.number == KZ_ACCEPTED && memcmp(first, right, sizeof right) != 0);
+
+    struct {
+        uint32_t number;
+        size_t rule, layers, grid_w, patches_len, weights_len, axis_len[4], out_len, scratch_len;
+        float damage; /* over the last weight */
+    } calls[] = {
+        {KZ_SETTING, 0, 1, 4, FLOATS, WEIGHTS, {AXIS, AXIS, AXIS, AXIS}, TOKENS, SCRATCH, 0},
+        {KZ_SETTING, SIZE_MAX, 1, 5, 0, 0, {0, 0, 0, 0}, 0, 0, 1},
+        {KZ_SETTING, 1, 49, 4, FLOATS, WEIGHTS, {AXIS, AXIS, AXIS, AXIS}, TOKENS, SCRATCH, 0},
+        {KZ_GRID, 1, 1, 5, 0, 0, {0, 0, 0, 0}, 0, 0, 1},
+        {KZ_PATCHES_LENGTH, 1, 1, 4, FLOATS - 1, 0, {0, 0, 0, 0}, 0, 0, 0},
+        {KZ_WEIGHTS_LENGTH, 1, 1, 4, FLOATS, WEIGHTS - 1, {AXIS, 0, AXIS, 0}, 0, 0, 0},
+        {KZ_TABLE_LENGTH, 1, 1, 4, FLOATS, WEIGHTS, {AXIS - 1, AXIS, AXIS, AXIS}, 0, 0, 1},
+        {KZ_TABLE_LENGTH, 1, 1, 4, FLOATS, WEIGHTS, {AXIS + 1, AXIS, AXIS, AXIS}, TOKENS, SCRATCH, 0},
+        {KZ_TABLE_LENGTH, 1, 1, 4, FLOATS, WEIGHTS, {AXIS, AXIS - 1, AXIS, AXIS}, TOKENS, SCRATCH, 0},
+        {KZ_TABLE_LENGTH, 1, 1, 4, FLOATS, WEIGHTS, {AXIS, AXIS + 1, AXIS, AXIS}, TOKENS, SCRATCH, 0},
+        {KZ_TABLE_LENGTH, 1, 1, 4, FLOATS, WEIGHTS, {AXIS, AXIS, AXIS - 1, AXIS}, TOKENS, SCRATCH, 0},
+        {KZ_TABLE_LENGTH, 1, 1, 4, FLOATS, WEIGHTS, {AXIS, AXIS, AXIS + 1, AXIS}, TOKENS, SCRATCH, 0},
+        {KZ_TABLE_LENGTH, 1, 1, 4, FLOATS, WEIGHTS, {AXIS, AXIS, AXIS, AXIS - 1}, TOKENS, SCRATCH, 0},
+        {KZ_TABLE_LENGTH, 1, 1, 4, FLOATS, WEIGHTS, {AXIS, AXIS, AXIS, AXIS + 1}, 0, 0, 0},
+        {KZ_TABLE_LENGTH, 1, 1, 4, FLOATS, WEIGHTS, {0, 0, 0, 0}, TOKENS, SCRATCH, 0},
+        {KZ_TABLE_LENGTH, 1, 1, 4, FLOATS, WEIGHTS, {TABLE, TABLE, TABLE, TABLE}, TOKENS, SCRATCH, 0},
+        {KZ_TABLE_LENGTH, 1, 1, 4, FLOATS, WEIGHTS, {TABLE, TABLE, 0, 0}, TOKENS, SCRATCH, 0},
+        {KZ_OUTPUT, 1, 1, 4, FLOATS, WEIGHTS, {AXIS, AXIS, AXIS, AXIS}, TOKENS - 1, 0, 1},
+        {KZ_SCRATCH, 1, 1, 4, FLOATS, WEIGHTS, {AXIS, AXIS, AXIS, AXIS}, TOKENS, SCRATCH - 1, 1},
+        {KZ_NOT_FINITE, 1, 1, 4, FLOATS, WEIGHTS, {AXIS, AXIS, AXIS, AXIS}, TOKENS, SCRATCH, 1},
+    };
+    for (size_t i = 0; i < sizeof calls / sizeof *calls; i++) {
+        struct kz_encoder_settings s = good;
+        float last = weights[WEIGHTS - 1];
+        const size_t *len = calls[i].axis_len;
+        s.picture = ruled(calls[i].rule);
+        s.num_layers = calls[i].layers;
+        if (calls[i].damage != 0) weights[WEIGHTS - 1] = strtof("inf", NULL);
+        mark_all(scratch, SCRATCH);
+        mark_all(out, TOKENS);
+        r = kz_forward_axes(s, patches, calls[i].patches_len, 2, calls[i].grid_w, weights, calls[i].weights_len,
+                            len[0] ? axes[0] : NULL, len[0], len[1] ? axes[1] : NULL, len[1], len[2] ? axes[2] : NULL,
+                            len[2], len[3] ? axes[3] : NULL, len[3], scratch, calls[i].scratch_len, out,
+                            calls[i].out_len);
+        EXPECT(r.number == calls[i].number && r.tokens == 0);
+        EXPECT(marked(out, 0, TOKENS));
+        EXPECT(r.number == KZ_NOT_FINITE ? zeroed(scratch, SCRATCH) : marked(scratch, 0, SCRATCH));
+        weights[WEIGHTS - 1] = last;
+    }
+    /* 12: each float of the four is examined, those of rows that a grid of 2 * 4 has not too. */
+    for (size_t k = 0; k < 4 * AXIS; k++) {
+        float kept = axes[k / AXIS][k % AXIS];
+        axes[k / AXIS][k % AXIS] = k % 2 ? NAN : -INFINITY;
+        mark_all(scratch, SCRATCH);
+        mark_all(out, TOKENS);
+        r = kz_forward_axes(good, patches, FLOATS, 2, 4, weights, WEIGHTS, axes[0], AXIS, axes[1], AXIS, axes[2], AXIS,
+                            axes[3], AXIS, scratch, SCRATCH, out, TOKENS);
+        EXPECT(r.number == KZ_NOT_FINITE && r.tokens == 0 && marked(out, 0, TOKENS) && zeroed(scratch, SCRATCH));
+        axes[k / AXIS][k % AXIS] = kept;
+    }
+}
+
 /* With a bias of linear_1 and of linear_2, each behind its matrix. */
 static void projector_bias(void) {
     enum { BIAS_1 = WEIGHTS - 3 * 3, BIAS_2 = WEIGHTS + 3, BIASED = WEIGHTS + 2 * 3 };
@@ -798,11 +899,11 @@ static void lengths(void) {
     struct kz_lengths_report r = kz_lengths(good, 2, 4);
 
     EXPECT(r.number == KZ_ACCEPTED && r.patches == FLOATS && r.weights == WEIGHTS);
-    EXPECT(r.tables == TABLE && r.scratch == SCRATCH && r.out == TOKENS);
+    EXPECT(r.tables == TABLE && r.axes == AXIS && r.scratch == SCRATCH && r.out == TOKENS);
     /* Weights and tables are as long with every grid. */
     r = kz_lengths(good, 2, 2);
     EXPECT(r.number == KZ_ACCEPTED && r.patches == FLOATS / 2 && r.weights == WEIGHTS);
-    EXPECT(r.tables == TABLE && r.scratch == SCRATCH / 2 && r.out == TOKENS / 2);
+    EXPECT(r.tables == TABLE && r.axes == AXIS && r.scratch == SCRATCH / 2 && r.out == TOKENS / 2);
     /* And with any means and deviations. */
     {
         struct kz_encoder_settings other = good;
@@ -810,12 +911,13 @@ static void lengths(void) {
         other.picture = with(3, NAN, 0);
         same = kz_lengths(other, 2, 2);
         EXPECT(same.number == KZ_ACCEPTED && same.patches == r.patches && same.weights == r.weights);
-        EXPECT(same.tables == r.tables && same.scratch == r.scratch && same.out == r.out);
+        EXPECT(same.tables == r.tables && same.axes == r.axes && same.scratch == r.scratch && same.out == r.out);
     }
     /* More than 32 bits can count. */
     r = kz_lengths(largest, 2048, 2048);
     EXPECT(r.number == KZ_ACCEPTED && r.patches == t * 3);
     EXPECT(r.weights == h * 3 + h + 48 * (2 * h + 4 * h * h + 3 * h * i) + h + h * h + x * h + x + x * x + x);
+    EXPECT(r.axes == 2048 * 64);
     EXPECT(r.tables == t * 256 && r.scratch == 7 * t * h + 2 * t * i + t + 2 * t * x && r.out == t * x);
 
     struct {
@@ -846,7 +948,7 @@ static void lengths(void) {
     for (size_t k = 0; k < sizeof calls / sizeof *calls; k++) {
         r = kz_lengths(calls[k].settings, calls[k].grid_h, calls[k].grid_w);
         EXPECT(r.number == calls[k].number && r.patches == 0 && r.weights == 0);
-        EXPECT(r.tables == 0 && r.scratch == 0 && r.out == 0);
+        EXPECT(r.tables == 0 && r.axes == 0 && r.scratch == 0 && r.out == 0);
     }
 }
 
@@ -891,6 +993,7 @@ int main(void) {
     restore_tile();
     patch();
     forward();
+    forward_axes();
     projector_bias();
     lengths();
     number();

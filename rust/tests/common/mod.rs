@@ -3,7 +3,7 @@
 
 pub mod tool;
 
-use kyzgultam::{EncoderSettings, PictureSettings};
+use kyzgultam::{EncoderSettings, PictureSettings, RopeAxes};
 
 pub struct Random(pub u64);
 
@@ -93,4 +93,20 @@ pub fn alike(mean: f32, deviation: f32, settings: PictureSettings) -> PictureSet
 /// Whether two buffers have the same bits, NaNs too.
 pub fn same(a: &[f32], b: &[f32]) -> bool {
     a.len() == b.len() && a.iter().zip(b).all(|(x, y)| x.to_bits() == y.to_bits())
+}
+
+/// The full tables of a side that small ones stand for, row by row as the paper has it: cosines and sines.
+pub fn expand(axes: &RopeAxes, side: usize, head_dim: usize) -> (Vec<f32>, Vec<f32>) {
+    let quarter = head_dim / 4;
+    let full = |rows: &[f32], columns: &[f32]| {
+        let mut table = Vec::new();
+        for (h, w) in (0..side).flat_map(|h| (0..side).map(move |w| (h, w))) {
+            for _ in 0..2 {
+                table.extend(&rows[h * quarter..(h + 1) * quarter]);
+                table.extend(&columns[w * quarter..(w + 1) * quarter]);
+            }
+        }
+        table
+    };
+    (full(&axes.row_cos, &axes.column_cos), full(&axes.row_sin, &axes.column_sin))
 }
