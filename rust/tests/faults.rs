@@ -227,12 +227,13 @@ fn memory_is_asked_for_first() {
     sparse(&folder, "large.pgm", b"P5 2048 2048 255\n", 17 + 2048 * 2048);
     sparse(&folder, "largest.ppm", b"P6 8192 8192 255\n", 17 + 3 * 8192 * 8192);
     sparse(&folder, "large.patches", b"", 4 * 3 * 2048 * 2048);
+    sparse(&folder, "large.tables", b"", 4 * 2 * 2048 * 2048 * 256);
     sweep(&folder, "a.ppm", 8, 8, 1);
     let fine = "patch=1,merge=1,image=2048";
     for (kib, words, parts) in [
         (
             900_000,
-            format!("encode a.ppm -o out --settings {fine},hidden=256,heads=1"),
+            format!("encode a.ppm -o out --tables large.tables --settings {fine},hidden=256,heads=1"),
             ["--settings: there is no memory for a rotary table (image=2048, patch=1, head=256)", "4294967296 bytes"],
         ),
         (
@@ -296,12 +297,14 @@ fn weights_are_held_once() {
         return;
     };
     assert_eq!(status, Some(0), "{said}");
-    // The tables too: 2 x 67 MB in 190 MB.
+    // The tables too: 2 x 67 MB in 190 MB. Without, the built-in ones are small.
     let settings = "--settings patch=1,merge=1,image=1024,hidden=16,heads=1,layers=0,intermediate=1,text=1";
     sparse(&folder, "t", b"", 4 * 2 * 1024 * 1024 * 16);
-    let words = format!("encode a.ppm -o out --tables t --force {settings}");
-    let (status, said) = limited(&folder, 190_000, &words).unwrap();
-    assert_eq!(status, Some(0), "{said}");
+    for (kib, tables) in [(190_000, "--tables t"), (20_000, "")] {
+        let words = format!("encode a.ppm -o out {tables} --force {settings}");
+        let (status, said) = limited(&folder, kib, &words).unwrap();
+        assert_eq!(status, Some(0), "{said}");
+    }
 }
 
 #[test]

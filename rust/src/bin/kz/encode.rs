@@ -24,9 +24,9 @@ Writes the token vectors of each SWEEP (P5 or P6) to DIR/SWEEP.tokens.npy,
 an array of NumPy: rows x columns x text; with --tiles those of each tile, not
 resized (this and --log: `kz patches --help`); with --bf16 rounded to bf16, as
 '<u2', in half the room. Weights and tables are plain floats: f32, little-
-endian, in the order of include/kyzgultam.h; of tables all cosines, then all
-sines. Without --weights they come from a seed, without --tables they are the
-Rust's for theta 10000. --skip-existing goes on with a list that was cut off.
+endian, in the order of include/kyzgultam.h; full tables: all cosines, then all
+sines. Without --weights they come from a seed, without --tables they are small
+ones for theta 10000. --skip-existing goes on with a list that was cut off.
 
 --settings is a list as patch=14,image=560; what it leaves out is built in:
   patch 14 (1..32)   hidden 64 (4..2048)  layers 2 (0..48)

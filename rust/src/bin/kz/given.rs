@@ -148,7 +148,8 @@ impl Given {
             0 | 1 => bias == 1,
             _ => return Err(refused_settings(Refusal::Setting)),
         };
-        s.scaling = scale.unwrap_or((s.head_dim as f32).powf(-0.5));
+        // The f32 nearest to 1 / root of head, for every head that is allowed, as is the Rust's powf with glibc's.
+        s.scaling = scale.unwrap_or((1.0 / (s.head_dim as f64).sqrt()) as f32);
         Ok(s)
     }
 }

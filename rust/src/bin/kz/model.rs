@@ -5,7 +5,9 @@ use crate::given::Given;
 use crate::room;
 use crate::shown::shown;
 use crate::source::{unread, Source};
-use kyzgultam::{pixtral_preprocess, EncoderSettings, PictureSettings, PixtralEncoder, Refusal};
+use kyzgultam::{
+    forward, forward_axes, pixtral_preprocess, rope_axes, EncoderSettings, PictureSettings, Refusal, RopeAxes,
+};
 use std::path::{Path, PathBuf};
 
 /// What forward is lent, from one sweep to the next.
@@ -15,23 +17,54 @@ pub struct Lent {
     pub tokens: Vec<f32>,
 }
 
+/// Rotary tables: those of a file are full, and those built in small.
+pub enum Tables {
+    Full { cos: Vec<f32>, sin: Vec<f32> },
+    Axes(RopeAxes),
+}
+
 pub struct Model {
     pub settings: EncoderSettings,
     pub weights: Vec<f32>,
-    pub cos: Vec<f32>,
-    pub sin: Vec<f32>,
+    pub tables: Tables,
     files: [Option<PathBuf>; 2],
+}
+
+impl Tables {
+    /// The full tables that the built-in ones stand for.
+    pub fn full(s: &EncoderSettings) -> Result<Tables, Fail> {
+        let (axes, len) = (built_in(s).map_err(refused_settings)?, s.tables_len().map_err(refused_settings)?);
+        let (most, quarter) = (s.picture.image_size / s.picture.patch_size, s.head_dim / 4);
+        let expand = |rows: &[f32], columns: &[f32]| {
+            let mut table = table_room(s, len)?;
+            for (row, column) in (0..most * most).map(|at| (at / most * quarter, at % most * quarter)) {
+                for part in [&rows[row..], &columns[column..], &rows[row..], &columns[column..]] {
+                    table.extend(&part[..quarter]);
+                }
+            }
+            Ok(table)
+        };
+        Ok(Tables::Full {
+            cos: expand(&axes.row_cos, &axes.column_cos)?,
+            sin: expand(&axes.row_sin, &axes.column_sin)?,
+        })
+    }
 }
 
 impl Model {
     pub fn read(given: &Given) -> Result<Model, Fail> {
-        let settings = given.settings()?;
+        Model::of(given.settings()?, ["--weights", "--tables"].map(|name| given.path(name)))
+    }
+
+    /// Weights and tables from files, or built in.
+    pub fn of(settings: EncoderSettings, files: [Option<PathBuf>; 2]) -> Result<Model, Fail> {
         allowed(&settings.picture)?;
-        let files = ["--weights", "--tables"].map(|name| given.path(name));
         let merge = settings.picture.spatial_merge_size;
         let lengths = match settings.lengths(merge, merge) {
             // No grid is allowed: each picture is refused with 4, before the model is used.
-            Err(Refusal::Grid) => return Ok(Model { settings, weights: vec![], cos: vec![], sin: vec![], files }),
+            Err(Refusal::Grid) => {
+                return Ok(Model { settings, weights: vec![], tables: Tables::Axes(RopeAxes::default()), files })
+            }
             lengths => lengths.map_err(refused_settings)?,
         };
         let room = || weights_room(&settings, lengths.weights);
@@ -41,11 +74,14 @@ impl Model {
         };
         let room = || table_room(&settings, lengths.tables);
         let order = ", the cosines and then the sines";
-        let [cos, sin] = match &files[1] {
-            Some(file) => floats(file, lengths.tables, room, Refusal::TableLength, order)?,
-            None => precompute_2d_rope(&settings, 10000.0, [room()?, room()?]),
+        let tables = match &files[1] {
+            Some(file) => {
+                let [cos, sin] = floats(file, lengths.tables, room, Refusal::TableLength, order)?;
+                Tables::Full { cos, sin }
+            }
+            None => Tables::Axes(built_in(&settings).map_err(refused_settings)?),
         };
-        Ok(Model { settings, weights, cos, sin, files })
+        Ok(Model { settings, weights, tables, files })
     }
 
     /// Room for the token vectors and the scratch of a grid; words where there is none.
@@ -62,15 +98,32 @@ impl Model {
 
     /// The token vectors of patches, to what was lent for their grid.
     pub fn forward(&self, patches: &[f32], grid: (usize, usize), lent: &mut Lent) -> Result<(), Refusal> {
-        let settings = self.settings;
-        let encoder = PixtralEncoder { settings, weights: &self.weights, rope_cos: &self.cos, rope_sin: &self.sin };
-        encoder.forward(patches, grid.0, grid.1, &mut lent.scratch, &mut lent.tokens).map(drop)
+        self.forward_by(&self.tables, patches, grid, lent)
+    }
+
+    /// The same by other tables.
+    pub fn forward_by(
+        &self,
+        tables: &Tables,
+        patches: &[f32],
+        (h, w): (usize, usize),
+        Lent { scratch, tokens }: &mut Lent,
+    ) -> Result<(), Refusal> {
+        let Model { settings, weights, .. } = self;
+        let done = match tables {
+            Tables::Full { cos, sin } => forward(settings, patches, h, w, weights, cos, sin, scratch, tokens),
+            Tables::Axes(axes) => forward_axes(settings, patches, h, w, weights, axes, scratch, tokens),
+        };
+        done.map(drop)
     }
 
     /// What to do about a refusal of `forward`.
     pub fn advice(&self, refusal: Refusal) -> String {
         let odd = |floats: &[f32]| floats.iter().position(|x| !x.is_finite());
-        let tables = odd(&self.cos).or(odd(&self.sin).map(|i| self.cos.len() + i));
+        let tables = match &self.tables {
+            Tables::Full { cos, sin } => odd(cos).or(odd(sin).map(|i| cos.len() + i)),
+            Tables::Axes(_) => None,
+        };
         let place = |file: &Option<PathBuf>, i: usize| match file {
             Some(file) => format!("float {i} of {} is not; write that file again", shown(file)),
             None => "the built-in weights are too large for these --settings; give --weights".into(),
@@ -106,6 +159,11 @@ fn weights_room(s: &EncoderSettings, len: usize) -> Result<Vec<f32>, Fail> {
     let text = s.text_hidden_size;
     let what = format!("the weights (hidden={hidden}, layers={layers}, intermediate={intermediate}, text={text})");
     room::empty(len, &what, SMALLER).map_err(|words| Fail::Refused(format!("--settings: {words}")))
+}
+
+/// The tables of a Pixtral, as long as the settings have them.
+fn built_in(s: &EncoderSettings) -> Result<RopeAxes, Refusal> {
+    rope_axes(s.picture.image_size / s.picture.patch_size, s.head_dim, 10000.0)
 }
 
 fn table_room(s: &EncoderSettings, len: usize) -> Result<Vec<f32>, Fail> {
@@ -169,7 +227,8 @@ impl Random {
 }
 
 /// Weights that keep values near 1 in size: norms of 1, and matrices even in ±√(3 / inputs). Those of patch_conv are
-/// smooth over a patch, so that a token says more of brightness and slope than of grain.
+/// smooth over a patch, so that a token says more of brightness and slope than of grain. They have the same bits on every
+/// machine.
 fn seeded(s: &EncoderSettings, mut weights: Vec<f32>) -> Vec<f32> {
     let (h, i, x) = (s.hidden_size, s.intermediate_size, s.text_hidden_size);
     let (p, m) = (s.picture.patch_size, s.picture.spatial_merge_size);
@@ -190,36 +249,20 @@ fn seeded(s: &EncoderSettings, mut weights: Vec<f32>) -> Vec<f32> {
     weights
 }
 
-/// A row of patch_conv: waves of at most one period over a patch, the longer ones stronger, in each channel.
+/// A row of patch_conv: 1, a slope and a bend down and across a patch, each by itself and by each other, the plainer ones
+/// stronger, in each channel. They are Legendre's polynomials and no waves, since +, −, × and ÷ are rounded alike on
+/// every machine, and a cosine is not.
 fn smooth(random: &mut Random, p: usize) -> Vec<f32> {
-    let waves: [[f32; 3]; 3] = std::array::from_fn(|i| std::array::from_fn(|j| random.float() / (1 + i + j) as f32));
+    let sizes: [[f32; 3]; 3] = std::array::from_fn(|i| std::array::from_fn(|j| random.float() / (1 + i + j) as f32));
     let channels: [f32; 3] = std::array::from_fn(|_| 1.0 + 0.5 * random.float());
-    let wave = |k: usize, x: usize| (std::f32::consts::PI * k as f32 * (x as f32 + 0.5) / p as f32).cos();
+    let shapes = |x: usize| {
+        let z = 1.0 - (2 * x + 1) as f32 / p as f32;
+        [1.0, z, 1.5 * z * z - 0.5]
+    };
     let value = |k: usize| {
-        let (y, x) = (k / p % p, k % p);
-        let sum: f32 = (0..9).map(|n| waves[n / 3][n % 3] * wave(n / 3, y) * wave(n % 3, x)).sum();
+        let (down, across) = (shapes(k / p % p), shapes(k % p));
+        let sum: f32 = (0..9).map(|n| sizes[n / 3][n % 3] * down[n / 3] * across[n % 3]).sum();
         channels[k / (p * p)] * sum / (p * p) as f32
     };
     (0..3 * p * p).map(value).collect()
-}
-
-/// The rotary tables as the Rust's `precompute_2d_rope` makes them: half of the angles turn with the row, half with
-/// the column.
-fn precompute_2d_rope(s: &EncoderSettings, theta: f32, [mut cos, mut sin]: [Vec<f32>; 2]) -> [Vec<f32>; 2] {
-    let (most, head_dim) = (s.picture.image_size / s.picture.patch_size, s.head_dim);
-    let (half, quarter) = (head_dim / 2, head_dim / 4);
-    let freqs: Vec<f32> = (0..half).map(|i| 1.0 / theta.powf(2.0 * i as f32 / head_dim as f32)).collect();
-    for h in 0..most {
-        for w in 0..most {
-            let rows = (0..quarter).map(|j| h as f32 * freqs[2 * j]);
-            let columns = (0..quarter).map(|j| w as f32 * freqs[2 * j + 1]);
-            let angles = rows.chain(columns);
-            // The first half and, again, the second.
-            for angle in angles.clone().chain(angles) {
-                cos.push(angle.cos());
-                sin.push(angle.sin());
-            }
-        }
-    }
-    [cos, sin]
 }
