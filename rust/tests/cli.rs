@@ -3,8 +3,8 @@
 mod common;
 
 use common::tool::{npy, p6, plain, sweep, Folder, LIST, TABLE, TINY, WEIGHTS};
-use common::{alike, Random};
-use kyzgultam::{pixtral_preprocess, restore, PictureSettings};
+use common::{alike, expand, Random};
+use kyzgultam::{pixtral_preprocess, restore, rope_axes, PictureSettings};
 use std::fs;
 use std::path::Path;
 
@@ -340,7 +340,44 @@ fn encode_is_forward() {
     folder.done(&format!("encode a.ppm -o second {LIST}"));
     assert_eq!(folder.get("first/a.tokens.npy"), folder.get("second/a.tokens.npy"));
     assert_ne!(folder.get("first/a.tokens.npy"), folder.get("out/a.tokens.npy"));
+
+    // The built-in tables are the small ones of a Pixtral; a file of the full ones that they stand for gives the same.
+    let axes = rope_axes(8, 4, 10000.0).unwrap();
+    let (cos, sin) = expand(&axes, 8, 4);
+    folder.put("full", &plain(&[cos, sin].concat()));
+    folder.done(&format!("encode a.ppm -o small --weights w {LIST}"));
+    folder.done(&format!("encode a.ppm -o full_out --weights w --tables full {LIST}"));
+    kyzgultam::forward_axes(&settings, &patches, 4, 6, &weights, &axes, &mut scratch, &mut out).unwrap();
+    assert_eq!(folder.get("small/a.tokens.npy"), npy([2, 3, 3], &out));
+    assert_eq!(folder.get("full_out/a.tokens.npy"), npy([2, 3, 3], &out));
+    // A file of the small ones is refused.
+    let small = [axes.row_cos, axes.row_sin, axes.column_cos, axes.column_sin].concat();
+    folder.put("axes", &plain(&small));
+    let parts = ["axes: ", "number 10", "128 bytes", "2048"];
+    folder.fails(1, &format!("encode a.ppm -o out2 --weights w --tables axes {LIST}"), &parts);
 }
+
+/// What nothing but the settings decides has the same bits on every machine: weights, tables and scale of the built-in
+/// model, seen in the token vectors of patches that are the same everywhere.
+#[test]
+fn built_in_bits() {
+    let folder = Folder::new("bits");
+    let hash = |bytes: Vec<u8>| {
+        bytes.iter().fold(0xCBF2_9CE4_8422_2325u64, |h, b| (h ^ u64::from(*b)).wrapping_mul(0x0100_0000_01B3))
+    };
+    sweep(&folder, "a.ppm", 70, 98, 5);
+    for (settings, right) in BUILT_IN {
+        folder.done(&format!("encode a.ppm -o out --force --settings {settings}"));
+        let found = hash(folder.get("out/a.tokens.npy"));
+        assert_eq!(found, right, "{settings}: {found:#018x}");
+    }
+}
+
+const BUILT_IN: [(&str, u64); 3] = [
+    ("image=1540", 0x0120_0B0B_72E0_861B),
+    ("image=224,hidden=72,heads=6,layers=1,bias=1", 0x596C_8689_E400_878E),
+    ("patch=9,merge=3,hidden=140,heads=5", 0xAF94_55F5_ADED_A57F),
+];
 
 #[test]
 fn encode_with_a_bias() {
@@ -555,6 +592,7 @@ fn bench_times_every_call() {
     by_choices(&said, "8x8");
     a_tile(&said);
     a_salvage(&said);
+    small_tables(&said);
 }
 
 /// The lines of a tile: two calls, each with two times and their ratio.
@@ -571,6 +609,15 @@ fn a_salvage(said: &str) {
     let [_, none, every, ..] = &lines[..] else { panic!("{said}") };
     times_and_ratio(none, "no sample bad ");
     times_and_ratio(every, "every sample bad ");
+}
+
+/// The lines of forward by small tables beside full ones: two models, each with two times and the ratio of speeds.
+fn small_tables(said: &str) {
+    let lines: Vec<&str> = said.lines().skip_while(|line| !line.starts_with("forward by tables, ms ")).collect();
+    let [_, built_in, wide, ..] = &lines[..] else { panic!("{said}") };
+    for (line, name) in [(built_in, "hidden 64, grid 20x20 "), (wide, "hidden 1024, grid 8x8 ")] {
+        assert!(line.starts_with(name) && line.ends_with(" of the speed"), "{line}");
+    }
 }
 
 /// A name, two times and how many times as long the first is.
@@ -623,6 +670,7 @@ fn bench_beside_the_rust() {
         }
         a_tile(&said);
         a_salvage(&said);
+        small_tables(&said);
     }
     // Without the source the port is timed alone.
     let (status, said, errors) = bench_with(&folder, Some(&folder.path("none")));
@@ -632,6 +680,7 @@ fn bench_beside_the_rust() {
     by_choices(&said, "1540x1540");
     a_tile(&said);
     a_salvage(&said);
+    small_tables(&said);
     // With a source that is another, oracle/run fails, and kz says so.
     fs::create_dir_all(folder.path("empty/crates/vision/src")).unwrap();
     for name in ["pixtral.rs", "image_process.rs"] {

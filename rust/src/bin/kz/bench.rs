@@ -1,10 +1,10 @@
 //! `kz bench`: how long each call takes, here and in the Rust.
 
 use crate::fail::Fail;
-use crate::given::Given;
-use crate::model::{refused_settings, Lent, Model, Random};
+use crate::given::{Given, SMALL};
+use crate::model::{refused_settings, Lent, Model, Random, Tables};
 use crate::{room, say};
-use kyzgultam::{BadSample, PictureSettings, Refusal};
+use kyzgultam::{BadSample, EncoderSettings, PictureSettings, Refusal};
 use std::fs;
 use std::hint::black_box;
 use std::io::{stderr, Write};
@@ -26,13 +26,14 @@ with the archives that kz was linked with; the Rust's source is
 ../shared/docs/src from its root, or KZ_RUST_SRC. A tile, the first of a sweep
 of 3000x2000, is timed in turn with a picture of the same 1540x1540 pixels;
 salvage of as many, with no sample bad and with every one, in turn with restore
-of the good ones; and bf16 packed and widened, in turn with a copy.
+of the good ones; forward by small tables, in turn with forward by full ones;
+and bf16 packed and widened, in turn with a copy.
 
 The second form, and the first where the source or rustc is missing, times
 the port alone on noise, on one core: the best of the runs that fit into half
 a second, at least one. `share` is the part of a sweep's time. Without --size
 three sizes are timed, the largest without forward. The model is as for
-`kz encode`. Then tile, salvage and bf16 are timed as above and, last, restore
+`kz encode`. Then come tile, salvage, tables, bf16 as above and, last, restore
 of the largest by three choices of mean and deviation, whatever --settings say:
 the Rust's, 0.2 and 0.25, and 0.2 and 1e38, with bytes found by halving.
 ";
@@ -78,6 +79,8 @@ fn beside_the_rust(grids: Option<&str>) -> Result<bool, Fail> {
             tiles()?;
             say(format_args!(""));
             salvages()?;
+            say(format_args!(""));
+            tables()?;
             say(format_args!(""));
             packs()?;
             say(format_args!(""));
@@ -128,6 +131,8 @@ fn alone(given: &Given) -> Result<(), Fail> {
     tiles()?;
     say(format_args!(""));
     salvages()?;
+    say(format_args!(""));
+    tables()?;
     say(format_args!(""));
     packs()?;
     let (height, width) = sizes[sizes.len() - 1];
@@ -223,6 +228,36 @@ fn salvages() -> Result<(), Fail> {
         let right = if bad == 0 { saved == rgb } else { saved.iter().all(|byte| *byte == 0) };
         if found != Ok(bad) || !right || back != rgb {
             return Err(Fail::Refused("salvage does not give the picture back: this is a fault, report it".into()));
+        }
+    }
+    Ok(())
+}
+
+/// Times forward by small tables, in turn with forward by the full ones that they stand for: of the built-in model, and
+/// of one layer of real width.
+fn tables() -> Result<(), Fail> {
+    let wide = EncoderSettings { num_layers: 1, text_hidden_size: 1024, ..EncoderSettings::default() };
+    say(format_args!("{:<24}{:>10}{:>10}", "forward by tables, ms", "small", "full"));
+    for (settings, side) in [(SMALL, 20), (wide, 8)] {
+        let model = Model::of(settings, [None, None])?;
+        let full = Tables::full(&settings)?;
+        let pixels = settings.picture.patch_size * side;
+        let Buffers { rgb, mut patches, .. } = Buffers::new(&settings.picture, pixels, pixels)?;
+        kyzgultam::pixtral_preprocess(&rgb, pixels, pixels, &settings.picture, &mut patches)
+            .map_err(refused_settings)?;
+        let (mut one, mut two) = (Lent::default(), Lent::default());
+        model.lend((side, side), &mut one).and_then(|()| model.lend((side, side), &mut two)).map_err(Fail::Refused)?;
+        let times = in_turn(
+            || model.forward(&patches, (side, side), &mut one),
+            || model.forward_by(&full, &patches, (side, side), &mut two),
+        );
+        let [small, full] = times.map_err(refused_settings)?.map(|time| time.as_secs_f64() * 1e3);
+        let name = format!("hidden {}, grid {side}x{side}", settings.hidden_size);
+        say(format_args!("{name:<24}{small:>10.2}{full:>10.2}   {:.3} of the speed", full / small));
+        if one.tokens.iter().zip(&two.tokens).any(|(a, b)| a.to_bits() != b.to_bits()) {
+            return Err(Fail::Refused(
+                "small and full tables give different vectors: this is a fault, report it".into(),
+            ));
         }
     }
     Ok(())
