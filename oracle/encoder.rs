@@ -1,4 +1,5 @@
-//! Compares libkyzgultam's kz_forward with the Rust, byte for byte, and kz_lengths with the text of the paper.
+//! Compares libkyzgultam's kz_forward and kz_forward_axes with the Rust, byte for byte, and kz_lengths with the text of
+//! the paper.
 //!
 //! The Rust's `PixtralEncoder::forward`, the types and all that it calls are cut from its source, with E and T in the
 //! place of the platform's exp and tanh (`run` does it), one thread, and no log and no progress bar. The Rust has no
@@ -8,7 +9,8 @@
 //! too. Each call is made twice, with 01's means and deviations and with others, between which forward and lengths make
 //! no difference.
 //!
-//!     encoder            edges, a call for each stage (stages.rs), and random calls with a fixed seed
+//!     encoder            edges, a call for each stage (stages.rs), calls by small tables (axes.rs), and random
+//!                        calls with a fixed seed
 //!     encoder --bench    times ours and the Rust, on one thread (bench.rs); with --quick, on
 //!                        small grids alone, with --large, on these and 64x64, with one layer
 //!     encoder --sample   prints the Rust's answers as crates/encoder_replay/stdin holds them
@@ -16,6 +18,8 @@
 use std::collections::{BTreeMap, BTreeSet};
 use std::io::Write;
 
+#[path = "axes.rs"]
+mod axes;
 #[path = "bench.rs"]
 mod bench;
 mod rules;
@@ -121,6 +125,9 @@ mod rust {
         pub fn gelu(x: &mut [f32]) {
             gelu_inplace(x)
         }
+        pub fn rope(max_patches: usize, head_dim: usize, theta: f32) -> (Vec<f32>, Vec<f32>) {
+            precompute_2d_rope(max_patches, head_dim, theta)
+        }
         pub fn attention(a: &PixtralAttention, h: &[f32], c: &[f32], s: &[f32], p: &[usize]) -> Vec<f32> {
             let mut y = vec![0.0; h.len()];
             pixtral_attention_forward(a, h, c, s, p, p.len(), &mut y);
@@ -165,8 +172,9 @@ struct Lengths {
     number: u32,
     patches: usize,
     weights: usize,
-    /// Of each table.
+    /// Of each full table, and of each of the four small ones.
     tables: usize,
+    axes: usize,
     scratch: usize,
     out: usize,
 }
@@ -186,6 +194,27 @@ extern "C" {
         rope_cos_len: usize,
         rope_sin: *const f32,
         rope_sin_len: usize,
+        scratch: *mut f32,
+        scratch_len: usize,
+        out: *mut f32,
+        out_len: usize,
+    ) -> Report;
+    fn kz_forward_axes(
+        s: Settings,
+        patches: *const f32,
+        patches_len: usize,
+        grid_h: usize,
+        grid_w: usize,
+        weights: *const f32,
+        weights_len: usize,
+        row_cos: *const f32,
+        row_cos_len: usize,
+        row_sin: *const f32,
+        row_sin_len: usize,
+        column_cos: *const f32,
+        column_cos_len: usize,
+        column_sin: *const f32,
+        column_sin_len: usize,
         scratch: *mut f32,
         scratch_len: usize,
         out: *mut f32,
@@ -278,6 +307,7 @@ fn lengths(s: &Settings, grid: [usize; 2]) -> Lengths {
         patches: t * 3 * s.patch_size * s.patch_size,
         weights: weight_floats(s),
         tables: most * most * s.head_dim,
+        axes: most * s.head_dim / 4,
         scratch: scratch_floats(s, t, o),
         out: o * s.text_hidden_size,
     }
@@ -550,6 +580,33 @@ fn ours(s: Settings, c: &Call, scratch: &mut [f32], out: &mut [f32]) -> Report {
     }
 }
 
+/// The port's forward of a call by small tables, in the place of the call's own.
+fn ours_by(axes: &axes::Axes, s: Settings, c: &Call, scratch: &mut [f32], out: &mut [f32]) -> Report {
+    unsafe {
+        kz_forward_axes(
+            s,
+            c.patches.as_ptr(),
+            c.patches.len(),
+            c.grid[0],
+            c.grid[1],
+            c.weights.as_ptr(),
+            c.weights.len(),
+            axes[0].as_ptr(),
+            axes[0].len(),
+            axes[1].as_ptr(),
+            axes[1].len(),
+            axes[2].as_ptr(),
+            axes[2].len(),
+            axes[3].as_ptr(),
+            axes[3].len(),
+            scratch.as_mut_ptr(),
+            scratch.len(),
+            out.as_mut_ptr(),
+            out.len(),
+        )
+    }
+}
+
 /// The settings, and the same with odd or random bits for means and deviations, which the call's index draws.
 fn with_others(s: &Settings, index: usize) -> [Settings; 2] {
     let odd =
@@ -562,6 +619,7 @@ fn with_others(s: &Settings, index: usize) -> [Settings; 2] {
 #[derive(Default)]
 struct Tally {
     calls: usize,
+    axes: usize,
     lengths: usize,
     accepted: usize,
     differ: usize,
@@ -576,16 +634,25 @@ impl Tally {
             let found = unsafe { kz_lengths(s, grid[0], grid[1]) };
             self.lengths += 1;
             if found != right {
-                self.differ += 1;
-                if self.differ <= 5 {
-                    println!("encoder: {s:?} grid {grid:?}: {found:?}, expected {right:?}");
-                }
+                self.wrong(format!("{s:?} grid {grid:?}: {found:?}, expected {right:?}"));
             }
+        }
+    }
+
+    fn wrong(&mut self, words: String) {
+        self.differ += 1;
+        if self.differ <= 5 {
+            println!("encoder: {words}");
         }
     }
 
     /// The stage that the call stops at.
     fn compare(&mut self, c: &Call) -> Option<&'static str> {
+        self.by(c, None)
+    }
+
+    /// The same; where the call's tables are those that small ones stand for, by these too.
+    fn by(&mut self, c: &Call, axes: Option<&axes::Axes>) -> Option<&'static str> {
         self.lengths(&c.s, c.grid);
         let a = answer(c);
         let number = a.number;
@@ -594,15 +661,19 @@ impl Tally {
         }
         let (tokens, left, work) = left(c, &a);
         for s in with_others(&c.s, self.calls) {
-            let (mut scratch, mut out) = (c.scratch.clone(), c.out.clone());
-            let report = ours(s, c, &mut scratch, &mut out);
-            self.accepted += usize::from(number == 0);
             self.calls += 1;
-            *self.numbers.entry(number).or_default() += 1;
-            if report != (Report { number, tokens }) || bits(&out) != bits(&left) || bits(&scratch) != bits(&work) {
-                self.differ += 1;
-                if self.differ <= 5 {
-                    println!("encoder: {s:?} grid {:?}: {report:?}, expected {number} with {tokens}", c.grid);
+            self.axes += usize::from(axes.is_some());
+            for axes in [None, axes].into_iter().take(1 + usize::from(axes.is_some())) {
+                let (mut scratch, mut out) = (c.scratch.clone(), c.out.clone());
+                let report = match axes {
+                    None => ours(s, c, &mut scratch, &mut out),
+                    Some(axes) => ours_by(axes, s, c, &mut scratch, &mut out),
+                };
+                self.accepted += usize::from(number == 0);
+                *self.numbers.entry(number).or_default() += 1;
+                if report != (Report { number, tokens }) || bits(&out) != bits(&left) || bits(&scratch) != bits(&work) {
+                    let by = if axes.is_some() { "by small tables " } else { "" };
+                    self.wrong(format!("{by}{s:?} grid {:?}: {report:?}, expected {number} with {tokens}", c.grid));
                 }
             }
         }
@@ -824,7 +895,7 @@ fn every_end(tally: &mut Tally) {
 }
 
 fn edges_and_random() -> bool {
-    let mut r = Random(SEED);
+    let (mut r, mut by_axes) = (Random(SEED), Random(SEED + 6));
     let mut tally = Tally::default();
     for i in 0..4000 {
         let mut c = small(&mut r);
@@ -835,14 +906,25 @@ fn edges_and_random() -> bool {
             let to = (at + part).min(c.weights.len());
             c.weights[at..to].iter_mut().for_each(|w| *w *= size);
         }
+        // Every other four by small tables too.
+        let mut small = (i / 4 % 2 == 1).then(|| axes::random(&mut by_axes, &c.s));
         if i % 4 >= 2 {
             changed(&mut r, &mut c);
         }
         if i % 4 == 3 {
             changed(&mut r, &mut c);
         }
-        tally.compare(&c);
+        match &mut small {
+            Some(small) => {
+                if i % 4 >= 2 && i % 3 == 0 {
+                    axes::changed(&mut by_axes, small);
+                }
+                axes::compare(&mut tally, &c, small);
+            }
+            None => drop(tally.compare(&c)),
+        }
     }
+    axes::all(&mut by_axes, &mut tally);
     // The settings of 1540: a grid too tall, and one that merge does not divide.
     for grid in [[112, 2], [3, 2], [2, 112], [2, 3], [0, 2], [2, 0], [110, 2], [2, 2]] {
         let s = Settings {
@@ -878,9 +960,10 @@ fn edges_and_random() -> bool {
     let all = tally.every_stage();
     eprintln!("encoder: numbers {:?}, stages {:?}", tally.numbers, tally.stages);
     println!(
-        "encoder: {} forward and {} lengths calls compared with the Rust; of forward {} accepted, stopped at {} stages \
-         of {}; {} differ",
+        "encoder: {} forward calls by full tables, {} by small ones and {} lengths calls compared with the Rust; of \
+         forward {} accepted, stopped at {} stages of {}; {} differ",
         tally.calls,
+        tally.axes,
         tally.lengths,
         tally.accepted,
         tally.stages.len(),
