@@ -249,7 +249,7 @@ fn tables_that_are_refused() {
     assert_eq!(rope_axes(2048, 256, 10000.0).unwrap().column_sin.len(), largest.axes_len().unwrap());
 }
 
-/// On a thread with 136 KiB of stack, as each call, with the widest head.
+/// Both forward calls run on a thread with 140 KiB of stack, with the widest head.
 #[test]
 fn little_stack() {
     let s = EncoderSettings { hidden_size: 512, num_heads: 2, head_dim: 256, num_layers: 1, ..SETTINGS };
@@ -257,8 +257,7 @@ fn little_stack() {
     let axes = random_axes(&mut random, s.axes_len().unwrap(), 1.0);
     let lent = Lent::new(&mut random, &s, GRID, 0.1);
     let (cos, sin) = expand(&axes, 4, 256);
-    let right = lent.full(&s, GRID, &cos, &sin);
-    let run = move || lent.axes(&s, GRID, &axes);
-    let found = std::thread::Builder::new().stack_size(136 << 10).spawn(run).unwrap().join().unwrap();
-    assert!(found.0 == Ok(6) && alike(&found, &right));
+    let run = move || (lent.axes(&s, GRID, &axes), lent.full(&s, GRID, &cos, &sin));
+    let (small, full) = std::thread::Builder::new().stack_size(140 << 10).spawn(run).unwrap().join().unwrap();
+    assert!(small.0 == Ok(6) && alike(&small, &full));
 }
