@@ -17,7 +17,8 @@ use Rattle.buffers.proofs.Regions.{put-put, region-put, region-put-same, region
 use Rattle.buffers.proofs.Lists.{fit, length-tab, length-rows, put-rows}
 use Rattle.buffers.specs.Each.{blank}
 use Rattle.encoder_kernels.specs.Finite.{allFinite}
-use Rattle.encoder_attention.specs.Attention.{scoreRow, expLess, scaled, softened, softmaxOf, headScores, headSums, tokenScores, tokenSums, attentionOf}
+use Rattle.encoder_attention.specs.Attention.{scoreRow, headScores, headSums, tokenScores, tokenSums, attentionOf}
+use Rattle.encoder_softmax.specs.Softmax.{scaled, softmaxOf}
 use Rattle.encoder_linear.specs.Linear.{weighedRow}
 use Rattle.encoder_attention.specs.inner.Keys.{keysOf}
 use Rattle.encoder_attention.proofs.Keys.{turned-scores}
@@ -25,22 +26,11 @@ use Rattle.encoder_attention.specs.inner.Fits.{AttendFits, HeadAt, Token
 use Rattle.buffers.proofs.Steps.{blank-same, blank-put, blank-rest}
 use Rattle.encoder_kernels.proofs.Finites.{all-finite-append}
 use Rattle.encoder_linear.proofs.Sums.{length-weighed}
+use Rattle.encoder_softmax.proofs.Lengths.{length-softmax}
 
 pub length-scoreRow : (t dim hd o : ℕ) (scaling : Float) (q k : List Float) → length (scoreRow t dim hd o scaling q k) ≡ t
 unfolding scoreRow
 length-scoreRow t dim hd o scaling q k = simp length-tab
-
-pub length-softened : (t : ℕ) (l : List Float) → length (softened t l) ≡ t
-unfolding softened expLess
-length-softened t l = simp length-tab
-
-pub length-scaled : (t : ℕ) (m : Float) (l : List Float) → length (scaled t m l) ≡ t
-unfolding scaled
-length-scaled t m l = simp length-tab
-
-pub length-softmax : (t : ℕ) (l : List Float) → length (softmaxOf t l) ≡ t
-unfolding softmaxOf scaled
-length-softmax t l = simp length-tab
 
 pub length-tokenSums : (t heads hd : ℕ) (scaling : Float) (q k v : List Float) (i : ℕ) → length (tokenSums t heads hd scaling q k v i) ≡ heads * hd
 unfolding tokenSums

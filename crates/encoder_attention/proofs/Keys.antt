@@ -17,7 +17,8 @@ use Rattle.buffers.proofs.Lists.{fit, getD-tab, tab-ext, tab-mul, tab-self}
 use Rattle.encoder_linear.specs.Linear.{sumOf, columnOf, weighedRow}
 use Rattle.encoder_linear.proofs.Sums.{sum-ext}
 use Rattle.encoder_linear.proofs.Pieces.{grid-ext, length-grid, getD-grid}
-use Rattle.encoder_attention.specs.Attention.{scoreRow, scaled, scoresOf, attentionOf}
+use Rattle.encoder_attention.specs.Attention.{scoreRow, scoresOf, attentionOf}
+use Rattle.encoder_softmax.specs.Softmax.{scaled}
 use Rattle.encoder_attention.specs.inner.Fits.{KeysFit}
 use Rattle.encoder_attention.specs.inner.Keys.{turnedKeys, keysOf}
 use Rattle.encoder_attention.proofs.Bands.{blank-back}

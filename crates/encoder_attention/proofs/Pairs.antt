@@ -22,10 +22,12 @@ use Rattle.encoder_kernels.proofs.Finites.{all-finite-append}
 use Rattle.encoder_linear.specs.Linear.{weighedRow}
 use Rattle.encoder_linear.specs.inner.Weighed.{weighedPair}
 use Rattle.encoder_linear.specs.inner.Fits.{WeighPairFits}
-use Rattle.encoder_attention.specs.Attention.{scaled, softmaxOf, headScores}
+use Rattle.encoder_attention.specs.Attention.{headScores}
+use Rattle.encoder_softmax.specs.Softmax.{scaled, softmaxOf}
 use Rattle.encoder_attention.specs.inner.Keys.{keysOf}
 use Rattle.encoder_attention.specs.inner.Fits.{QueriesAt, PairAt}
-use Rattle.encoder_attention.proofs.Attends.{row-scores, head-rows, length-scoreRow, length-softmax, all-finite-more}
+use Rattle.encoder_attention.proofs.Attends.{row-scores, head-rows, length-scoreRow, all-finite-more}
+use Rattle.encoder_softmax.proofs.Lengths.{length-softmax}
 use Rattle.encoder_attention.proofs.Bands.{puts-seen, blank-in}
 use Rattle.encoder_attention.proofs.Values.{scored, summed, goes, length-summed}
 

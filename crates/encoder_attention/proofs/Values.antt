@@ -20,7 +20,8 @@ use Rattle.encoder_kernels.specs.Finite.{allFinite}
 use Rattle.encoder_linear.specs.Linear.{sumOf, columnOf, weighedRow}
 use Rattle.encoder_linear.proofs.Sums.{sum-ext, length-weighed}
 use Rattle.encoder_linear.proofs.Pieces.{length-grid, getD-grid}
-use Rattle.encoder_attention.specs.Attention.{softmaxOf, headScores}
+use Rattle.encoder_attention.specs.Attention.{headScores}
+use Rattle.encoder_softmax.specs.Softmax.{softmaxOf}
 use Rattle.encoder_attention.specs.inner.Keys.{keysOf}
 use Rattle.encoder_attention.specs.inner.Values.{headValues}
 use Rattle.encoder_attention.specs.inner.Fits.{QueriesAt, HeadsFit}

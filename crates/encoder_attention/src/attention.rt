@@ -4,7 +4,7 @@ ghost use mathlib.Core.Path.{_≡_};
 ghost use mathlib.Core.Bool.{_&&_, cond};
 ghost use Prim.Native.Nat.{_+_, _*_, _≤_};
 ghost use lib.ListN.{length, getD};
-ghost use lib.Ieee.{lt, nan};
+ghost use lib.Ieee.{nan};
 ghost use Rattle.buffers.specs.Region.{region, put};
 ghost use Rattle.number_floats.specs.Constants.{zero32};
 ghost use Rattle.buffers.specs.Each.{blank};
@@ -12,66 +12,20 @@ ghost use Rattle.encoder_kernels.specs.Finite.{allFinite};
 ghost use Rattle.encoder_linear.specs.inner.Lanes.{spread};
 ghost use Rattle.encoder_linear.specs.Linear.{weighedRow};
 ghost use Rattle.encoder_linear.specs.inner.Fits.{WeighFits};
-ghost use Rattle.encoder_attention.specs.Attention.{maxOf, totalOf, inverseOf, scaled, headScores, softmaxOf, tokenScores, tokenSums, scoresOf, attentionOf};
+ghost use Rattle.encoder_attention.specs.Attention.{headScores, tokenScores, tokenSums, scoresOf, attentionOf};
+ghost use Rattle.encoder_softmax.specs.Softmax.{scaled, softmaxOf};
 ghost use Rattle.encoder_attention.specs.inner.Keys.{turnedKeys, keysOf};
 ghost use Rattle.encoder_attention.specs.inner.Room.{attendFits};
 ghost use Rattle.encoder_attention.specs.inner.Fits.{TurnFits, KeyAt, HeadAt, TokenAt, AttendFits, KeysFit};
 use crate::heads::attend_heads;
 use crate::room::attend_fits;
 use crate::room::spare;
-use crate::soften::exp_row;
 use buffers::clear_at;
 use buffers::part;
 use encoder_kernels::finite::finite;
 use encoder_linear::weigh::weigh;
-
-// b where a < b, else a.
-pub(crate) fn larger(a: f32, b: f32) -> f32
-    ensures { λ r. ⌜ r ≡ cond (lt a b) b a ⌝ }
-{
-    if a < b { b } else { a }
-}
-
-pub(crate) fn row_max(x: &[f32]) -> f32
-    ensures { λ r. ⌜ r ≡ maxOf (now (x .entry)) ⌝ }
-{
-    let mut m = -1.0f32 / 0.0;
-    let mut i = 0usize;
-    while i < x.len() {
-        m = larger(m, x[i]);
-        i += 1;
-    }
-    m
-}
-
-pub(crate) fn total(x: &[f32]) -> f32
-    ensures { λ r. ⌜ r ≡ totalOf (now (x .entry)) ⌝ }
-{
-    let mut acc = 0.0f32;
-    let mut i = 0usize;
-    while i < x.len() {
-        acc = acc + x[i];
-        i += 1;
-    }
-    acc
-}
-
-pub(crate) fn inverse(x: f32) -> f32
-    ensures { λ r. ⌜ r ≡ inverseOf x ⌝ }
-{
-    if 0.0 < x { 1.0 / x } else { 0.0 }
-}
-
-pub(crate) fn scale_row(s: &mut [f32], y: usize, n: usize, m: f32)
-    requires { ⌜ y + n ≤ length (now s) ⌝ }
-    ensures { λ _. ⌜ now (s .exit) ≡ put (now (s .entry)) y (scaled n m (region (now (s .entry)) y n)) ⌝ }
-{
-    let mut i = 0usize;
-    while i < n {
-        s[y + i] = s[y + i] * m;
-        i += 1;
-    }
-}
+use encoder_softmax::softmax::scale_row;
+use encoder_softmax::softmax::softmax;
 
 // One query against t keys, turned, into the score row.
 pub(crate) fn scores(
@@ -88,17 +42,6 @@ pub(crate) fn scores(
 {
     weigh(s, q, k, row, hd, t, t, 0);
     scale_row(s, row, t, scaling);
-}
-
-// The row's scores become its weights.
-pub(crate) fn softmax(s: &mut [f32], row: usize, t: usize)
-    requires { ⌜ row + t ≤ length (now s) ⌝ }
-    ensures { λ _. ⌜ now (s .exit) ≡ put (now (s .entry)) row (softmaxOf t (region (now (s .entry)) row t)) ⌝ }
-{
-    let m = row_max(part(s, row, t));
-    exp_row(s, row, t, m);
-    let f = inverse(total(part(s, row, t)));
-    scale_row(s, row, t, f);
 }
 
 // One query of one head: its scores over the keys, turned at k, softened, weigh the values, which stand at e of each row of

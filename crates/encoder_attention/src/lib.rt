@@ -3,4 +3,3 @@ pub mod attention;
 mod heads;
 mod pair;
 mod room;
-mod soften;

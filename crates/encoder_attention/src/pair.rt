@@ -9,14 +9,15 @@ ghost use Rattle.number_floats.specs.Constants.{zero32};
 ghost use Rattle.encoder_kernels.specs.Finite.{allFinite};
 ghost use Rattle.encoder_linear.specs.Linear.{weighedRow};
 ghost use Rattle.encoder_linear.specs.inner.Fits.{WeighPairFits};
-ghost use Rattle.encoder_attention.specs.Attention.{scaled, headScores, softmaxOf};
+ghost use Rattle.encoder_attention.specs.Attention.{headScores};
+ghost use Rattle.encoder_softmax.specs.Softmax.{scaled, softmaxOf};
 ghost use Rattle.encoder_attention.specs.inner.Keys.{keysOf};
 ghost use Rattle.encoder_attention.specs.inner.Fits.{PairAt};
-use crate::attention::scale_row;
-use crate::attention::softmax;
 use buffers::part;
 use encoder_kernels::finite::finite;
 use encoder_linear::pair::weigh_pair;
+use encoder_softmax::softmax::scale_row;
+use encoder_softmax::softmax::softmax;
 
 // The queries at a and at b against t keys, turned, into two rows.
 pub(crate) fn scores_pair(

@@ -7,6 +7,7 @@ use lib.ListN.{length}
 use Rattle.buffers.proofs.Lists.{fit}
 use Rattle.buffers.proofs.Regions.{apart-sub, apart-sym}
 use Rattle.encoder_kernels.specs.Finite.{allFinite}
+use Rattle.buffers.proofs.Rooms.{written}
 use Rattle.encoder_attention.proofs.Attends.{head-run, head-rows}
 use Rattle.encoder_linear.specs.inner.Fits.{WeighFits}
 use Rattle.encoder_linear.proofs.Rooms.{weigh-fits}
@@ -59,7 +60,7 @@ finite-requires : tie.Need-finite-requires
 finite-requires c κs = search needs
 
 softmax-requires : tie.Need-softmax-requires
-softmax-requires c κs = omega (arith, c .before .before .before .before .before .before .before .before .before .pre .fits)
+softmax-requires c κs = search needs
 
 add-weigh : tie.Need-add-weigh
 add-weigh c = let g = c .before .before .before .before .before .before .before .before .before .before .before .before .before .pre in omega (arith, fit (c .before .before .before .before .before .before .before .before .before .before .before .before .before .args .heads * c .before .before .before .before .before .before .before .before .before .before .before .before .before .args .hd) (g .token), fit (c .before .before .before .before .before .before .before .before .before .before .before .before .before .args .hd) (g .head), g .fits)
@@ -96,7 +97,7 @@ returns c =
     let l : length (so .last .0) ≡ length (a .s .now) = so .kept .0 ∙ sc .kept .0 in
     let f = weigh-fits (weighed (k .pre)) in
     let r = head-run (a .s .now) (a .q) (a .k) (a .v) (a .row) (a .out) (a .t) (a .heads) (a .hd) (a .scaling) (a .w) (a .e) (a .i) (a .h) (k .pre)
-    (sc .last .0) (so .last .0) (w .last .0) (sc .ensures) (so .ensures) (rw (l, f) at (w .ensures)) in
+    (sc .last .0) (so .last .0) (w .last .0) (sc .ensures) (written (sc .last .0) (so .last .0) _ (a .row) (a .t) (omega (arith, sc .kept .0, k .pre .fits .rowIn)) (so .ensures)) (rw (l, f) at (w .ensures)) in
     (c .before .before .before .before .before .before .before .before .finite .ensures ∙ ap allFinite (c .before .before .before .before .before .before .before .before .before .part .ensures ∙ r .0), r .1)
 
 pub attend-head-spec : {M : Type 1} → statement M

@@ -9,10 +9,11 @@ use lib.Ieee.{Float}
 use Rattle.buffers.specs.Region.{region, put}
 use Rattle.buffers.proofs.Regions.{put-put, region-put-same}
 use Rattle.buffers.proofs.Lists.{length-tab}
+use Rattle.buffers.proofs.Rooms.{written}
 use Rattle.encoder_linear.specs.Linear.{weighedRow}
 use Rattle.encoder_linear.proofs.Sums.{length-weighed}
 use Rattle.encoder_linear.proofs.Rooms.{weigh-fits}
-use Rattle.encoder_attention.specs.Attention.{scaled}
+use Rattle.encoder_softmax.specs.Softmax.{scaled}
 use Rattle.encoder_attention.proofs.attention.scores.Statement.{statement}
 use Rattle.encoder_attention.proofs.attention.scores.Tie as tie
 
@@ -28,7 +29,7 @@ weigh-requires : tie.Need-weigh-requires
 weigh-requires c κs = search needs
 
 scale-row-requires : tie.Need-scale-row-requires
-scale-row-requires c κs = omega (arith, c .before .before .before .weigh .kept .0, c .before .before .before .before .before .before .pre .outIn)
+scale-row-requires c κs = search needs
 
 same-length : tie.Need-same-length
 same-length c = search needs
@@ -39,7 +40,7 @@ returns c =
     let a = k .args in
     let w = c .before .before .before .before .before .before .weigh in
     both (a .s .now) (w .last .0) _ (weighedRow (a .hd) (a .t) (a .t) 0 (region (a .s .now) (a .q) (a .hd)) (region (a .s .now) (a .k) (a .hd * a .t))) (a .row) (a .t) (a .scaling) (k .pre .outIn) (length-weighed _ _ _ _ _ _)
-    (rw (weigh-fits (k .pre)) at (w .ensures)) (c .before .before .scale-row .ensures)
+    (rw (weigh-fits (k .pre)) at (w .ensures)) (written (w .last .0) (c .before .before .scale-row .last .0) _ (a .row) (a .t) (omega (arith, w .kept .0, k .pre .outIn)) (c .before .before .scale-row .ensures))
 
 pub scores-spec : {M : Type 1} → statement M
 scores-spec = tie.close (tie.spec weigh-requires scale-row-requires same-length returns)

@@ -4,13 +4,14 @@ use Prim.Native.Nat.{ℕ, _+_, _*_, _≤_}
 use native.Mathlib.Omega.{arith}
 use borrow.Author.Needs.{needs}
 use Rattle.buffers.specs.Region.{region}
+use Rattle.buffers.proofs.Rooms.{written}
 use Rattle.encoder_linear.specs.Linear.{weighedRow}
 use Rattle.encoder_linear.specs.inner.Weighed.{weighedPair}
 use Rattle.encoder_linear.specs.inner.Fits.{WeighPairFits}
 use Rattle.encoder_linear.proofs.Sums.{length-weighed}
 use Rattle.encoder_linear.proofs.Rooms.{weigh-pair-fits}
-use Rattle.encoder_attention.specs.Attention.{scaled}
-use Rattle.encoder_attention.proofs.Attends.{length-scaled}
+use Rattle.encoder_softmax.specs.Softmax.{scaled}
+use Rattle.encoder_softmax.proofs.Lengths.{length-scaled}
 use Rattle.encoder_attention.proofs.Pairs.{rows-each, rows-then}
 use Rattle.encoder_attention.proofs.pair.scores_pair.Statement.{statement}
 use Rattle.encoder_attention.proofs.pair.scores_pair.Tie as tie
@@ -25,10 +26,10 @@ weigh-pair-requires : tie.Need-weigh-pair-requires
 weigh-pair-requires c κs = search needs
 
 scale-row-requires : tie.Need-scale-row-requires
-scale-row-requires c κs = omega (arith, c .before .before .before .weigh-pair .kept .0, c .before .before .before .before .before .before .pre .first .outIn)
+scale-row-requires c κs = search needs
 
 scale-row-requires-2 : tie.Need-scale-row-requires-2
-scale-row-requires-2 c κs = omega (arith, c .before .before .before .scale-row .kept .0, c .before .before .before .before .before .before .before .weigh-pair .kept .0, c .before .before .before .before .before .before .before .before .before .before .pre .second .outIn)
+scale-row-requires-2 c κs = search needs
 
 same-length : tie.Need-same-length
 same-length c = c .before .before .scale-row2 .kept .0 ∙ c .before .before .before .before .before .before .scale-row .kept .0 ∙ c .before .before .before .before .before .before .before .before .before .before .weigh-pair .kept .0
@@ -45,7 +46,7 @@ returns c =
     let C = weighedRow (a .hd) (a .t) (a .t) 0 (region (a .s .now) (a .b) (a .hd)) (region (a .s .now) (a .k) (a .hd * a .t)) in
     rows-then (a .t) (scaled (a .t) (a .scaling)) (length-scaled (a .t) (a .scaling)) (a .s .now) (w .last .0) (n .last .0) A C (a .row) (room (k .pre)) (length-weighed _ _ _ _ _ _) (length-weighed _ _ _ _ _ _)
     (rw (weigh-pair-fits (k .pre)) at (w .ensures))
-    (rows-each (a .t) (scaled (a .t) (a .scaling)) (length-scaled (a .t) (a .scaling)) (w .last .0) (m .last .0) (n .last .0) (a .row) (m .ensures) (n .ensures))
+    (rows-each (a .t) (scaled (a .t) (a .scaling)) (length-scaled (a .t) (a .scaling)) (w .last .0) (m .last .0) (n .last .0) (a .row) (written (w .last .0) (m .last .0) _ (a .row) (a .t) (omega (arith, w .kept .0, k .pre .first .outIn)) (m .ensures)) (written (m .last .0) (n .last .0) _ (a .row + a .t) (a .t) (omega (arith, m .kept .0, w .kept .0, k .pre .second .outIn)) (n .ensures)))
 
 pub scores-pair-spec : {M : Type 1} → statement M
 scores-pair-spec =

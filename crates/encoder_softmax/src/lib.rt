@@ -1,0 +1,3 @@
+// The softmax of a row.
+mod soften;
+pub mod softmax;
