@@ -1,0 +1,3 @@
+// Attention in the source's form.
+pub mod plain;
+mod room;
