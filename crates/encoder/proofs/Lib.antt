@@ -8,3 +8,4 @@ pub mod Numbers
 pub mod Unread
 pub mod Expands
 pub mod Same
+pub mod PlainSame

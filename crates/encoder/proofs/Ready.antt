@@ -1,5 +1,6 @@
 -- What an acceptance says of a run: its places and sizes fit. Assumes nothing.
 use mathlib.Core.Path.{_≡_, refl, sym, ap, _∙_}
+use mathlib.Core.Bool.{Bool, true, false}
 use mathlib.Core.List.{List}
 use Prim.Native.Nat.{ℕ, zero, suc, _+_, _*_, _-_, _/_, _≤_, _<_}
 use native.Mathlib.Nat.{suc-mul, mul-le-mul-right, mul-comm, mul-left-comm, mul-mul-mul-comm, mul-pos, mul-div-cancel, div-le-self, div-mul-cancel, dvd-of-mod-eq-zero, le-div-iff-mul-le}
@@ -10,7 +11,7 @@ use Rattle.picture_limits.specs.Places.{patchFloats}
 use Rattle.picture_limits.specs.Shape.{most}
 use Rattle.encoder_settings.specs.declared.EncoderSettings.{EncoderSettings}
 use Rattle.encoder_settings.specs.declared.Form.{Form}
-use Rattle.encoder_settings.specs.Settings.{mergeArea, tablesFit}
+use Rattle.encoder_settings.specs.Settings.{mergeArea, tablesFit, scratchFloats, plainFloats}
 use Rattle.encoder_settings.specs.Weights.{floats}
 use Rattle.encoder_settings.proofs.Weights.{layer-long}
 use Rattle.encoder_settings.proofs.Accepted.{Lengths, Ready}
@@ -18,6 +19,7 @@ use Rattle.encoder_blocks.specs.declared.Sizes.{Sizes}
 use Rattle.encoder_blocks.specs.Block.{partsOf}
 use Rattle.encoder.specs.inner.Live.{regionsOf, countsOf}
 use Rattle.encoder.specs.Stages.{sizesOf, runOf, forwardRun}
+use Rattle.encoder_blocks.specs.inner.Room.{scoreFloats}
 use Rattle.encoder_blocks.specs.inner.Fits.{RotationFits, LayersFits}
 use Rattle.encoder.specs.inner.Fits.{CountsFit, RegionsFit, EmbedFits, SourceFits, MergeFits, ProjFits, RunFits}
 
@@ -27,8 +29,13 @@ squares m gh gw h e g =
     let p : gh * gw ≡ gh / m * (gw / m) * (m * m) = cc (mul-mul-mul-comm (gh / m) m (gw / m) m) in
     sym (ap (λ (k : ℕ). k / (m * m)) p ∙ mul-div-cancel (gh / m * (gw / m)) h)
 
+-- a square is not below its side
+square-le : (t : ℕ) → t ≤ t * t
+square-le zero = omega arith
+square-le (suc t) = omega (arith, suc-mul t (suc t))
+
 module _ (f : Form) (s : EncoderSettings) (gh gw lenx lenw lenc lenn lend lenm out lens t o : ℕ) (r : Ready s gh gw lenx t o)
-    (l : Lengths s t o lenw (tablesFit f s lenc lenn lend lenm) out lens) where
+    (l : Lengths f s t o lenw (tablesFit f s lenc lenn lend lenm) out lens) where
   abbrev z : Sizes
   z = sizesOf s t gw
 
@@ -68,6 +75,14 @@ module _ (f : Form) (s : EncoderSettings) (gh gw lenx lenw lenc lenn lend lenm o
   merged : o * (H * (m * m)) ≡ t * H
   merged = mul-left-comm o H (m * m) ∙ ap (λ (k : ℕ). H * k) whole ∙ mul-comm H t
 
+  -- the scratch has room for forward's, and for the scores of the form behind it
+  both : (b : Bool) → f .plain ≡ b → (scratchFloats s t o ≤ lens) × (regionsOf z (o * s .«text_hidden_size») .row + scoreFloats f z ≤ lens)
+  both true e = let h : plainFloats s t o ≤ lens = rw e at (l .scratch-holds) in rw e (omega (arith, h, square-le t), omega (arith, h, square-le t))
+  both false e = let h : scratchFloats s t o ≤ lens = rw e at (l .scratch-holds) in rw e (h, omega (arith, h))
+
+  held : scratchFloats s t o ≤ lens
+  held = both (f .plain) refl .0
+
   counts-fit : CountsFit s z
   counts-fit =
       let b = r .bounds in
@@ -97,7 +112,7 @@ module _ (f : Form) (s : EncoderSettings) (gh gw lenx lenw lenc lenn lend lenm o
       record {
         small = r .bounds .hidden-high;
         xin = r .patches-are ∙ ap (λ (k : ℕ). k * patchFloats (s .picture .«patch_size»)) (sym (r .tokens-are));
-        room = omega (arith, l .scratch-holds);
+        room = omega (arith, held);
         weights = omega arith;
       }
 
@@ -107,12 +122,12 @@ module _ (f : Form) (s : EncoderSettings) (gh gw lenx lenw lenc lenn lend lenm o
   rotation-fits : RotationFits f z lens lenc lenn lend lenm
   rotation-fits =
       record {
-        scratch = omega (arith, l .scratch-holds);
+        scratch = omega (arith, held);
         whole = r .settings .split;
         fourth = r .settings .fourth;
         small = r .bounds .hidden-high;
         narrow = r .settings .ranges .width .1;
-        dimIn = omega (arith, l .scratch-holds, hiddens);
+        dimIn = omega (arith, held, hiddens);
         tables = r .bounds .most-high;
         some = r .grid .wide .low;
         wide = side-holds gw (r .grid .wide .high);
@@ -126,7 +141,7 @@ module _ (f : Form) (s : EncoderSettings) (gh gw lenx lenw lenc lenn lend lenm o
         weights = let e : countsOf s z .layers ≡ s .«num_layers» * floats (partsOf z) = ap (λ (n : ℕ). s .«num_layers» * n) (layer-long (z .hidden) (z .inter)) in omega arith;
         inner = r .settings .ranges .inner .1;
         rotation = rotation-fits;
-        scores = record { behind = omega arith; inside = omega (arith, l .scratch-holds) };
+        scores = record { behind = omega arith; inside = both (f .plain) refl .1 };
       }
 
   total : o * (z .hidden * (m * m)) ≡ gh / m * (gw / m) * (z .hidden * (m * m))
@@ -162,7 +177,7 @@ module _ (f : Form) (s : EncoderSettings) (gh gw lenx lenw lenc lenn lend lenm o
   merge-fits =
       let e : gh * gw * z .hidden ≡ t * z .hidden = ap (λ (k : ℕ). k * z .hidden) (sym (r .tokens-are)) in
       let f : o * (z .hidden * (m * m)) ≡ t * z .hidden = merged in
-      let g : 7 * (t * z .hidden) ≤ lens = omega (arith, l .scratch-holds) in
+      let g : 7 * (t * z .hidden) ≤ lens = omega (arith, held) in
       record {
         each = source-fits;
         total-is = total;
@@ -187,7 +202,7 @@ module _ (f : Form) (s : EncoderSettings) (gh gw lenx lenw lenc lenn lend lenm o
         wideIn = omega (arith, f);
         foldIn = mul-le-mul-right (z .hidden) few;
         at-is = omega arith;
-        room = omega (arith, l .scratch-holds);
+        room = omega (arith, held);
         merges = merge-fits;
       }
 

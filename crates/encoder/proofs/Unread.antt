@@ -7,11 +7,12 @@ use lib.Ieee.{Float}
 use Rattle.picture_limits.specs.Settings as P
 use Rattle.picture_limits.specs.Shape.{shaped}
 use Rattle.encoder_settings.specs.declared.EncoderSettings.{EncoderSettings}
-use Rattle.encoder_settings.specs.Settings.{scalingAllowed, allowed, lengths, checkedOf}
+use Rattle.encoder_settings.specs.Settings.{scalingAllowed, allowed, lengths, checkedOf, checkedPlain}
 use Rattle.encoder_settings.specs.Lengths.{neededOf}
 use Rattle.encoder.specs.Stages.{runOf}
 use Rattle.encoder.specs.Forward.{encodedOf, outOf, scratchOf}
 use Rattle.encoder.specs.Axes.{encodedAxes, outAxes, scratchAxes}
+use Rattle.encoder.specs.Plain.{encodedPlain, outPlain, scratchPlain}
 
 -- the same settings, but for their means and deviations
 abbrev pub otherwise : List Float → List Float → EncoderSettings → EncoderSettings
@@ -66,3 +67,16 @@ module _ (s : EncoderSettings) (means deviations : List Float) (gh gw : ℕ) whe
     pub axes-scratch-unread : (out : ℕ) (old : List Float) → scratchAxes (otherwise means deviations s) gh gw w rowCos rowSin columnCos columnSin x out old ≡ scratchAxes s gh gw w rowCos rowSin columnCos columnSin x out old
     unfolding scratchAxes checkedOf allowed P.allowed scalingAllowed shaped lengths
     axes-scratch-unread out old = refl
+
+  module _ (w cos sin x : List Float) where
+    pub plain-answer-unread : (out scratch : ℕ) → encodedPlain (otherwise means deviations s) gh gw w cos sin x out scratch ≡ encodedPlain s gh gw w cos sin x out scratch
+    unfolding encodedPlain checkedPlain allowed P.allowed scalingAllowed shaped lengths runOf
+    plain-answer-unread out scratch = refl
+
+    pub plain-output-unread : (scratch : ℕ) (old : List Float) → outPlain (otherwise means deviations s) gh gw w cos sin x scratch old ≡ outPlain s gh gw w cos sin x scratch old
+    unfolding outPlain checkedPlain allowed P.allowed scalingAllowed shaped lengths runOf
+    plain-output-unread scratch old = refl
+
+    pub plain-scratch-unread : (out : ℕ) (old : List Float) → scratchPlain (otherwise means deviations s) gh gw w cos sin x out old ≡ scratchPlain s gh gw w cos sin x out old
+    unfolding scratchPlain checkedPlain allowed P.allowed scalingAllowed shaped lengths
+    plain-scratch-unread out old = refl

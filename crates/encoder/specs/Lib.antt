@@ -1,4 +1,5 @@
 pub mod Stages
 pub mod Forward
 pub mod Axes
+pub mod Plain
 pub mod inner

@@ -5,6 +5,7 @@ ghost use lib.ListN.{length};
 ghost use Rattle.encoder_settings.specs.Settings.{mergeArea};
 ghost use Rattle.encoder.specs.Forward.{encodedBy, outBy, scratchBy, encodedOf, outOf, scratchOf, forwardNumber, Numbered};
 ghost use Rattle.encoder.specs.Axes.{encodedAxes, outAxes, scratchAxes, axesNumber};
+ghost use Rattle.encoder.specs.Plain.{encodedPlain, outPlain, scratchPlain, plainNumber};
 ghost use Rattle.encoder.specs.inner.Forms.{lengthsBy, runBy};
 use crate::Encoded;
 use crate::run::run;
@@ -86,7 +87,10 @@ pub fn forward(
     ensures work { λ _. ⌜ now (scratch .exit) ≡ scratchOf s «grid_h» «grid_w» (now (weights .entry)) (now («rope_cos» .entry)) (now («rope_sin» .entry)) (now (patches .entry)) (length (now (out .entry))) (now (scratch .entry)) ⌝ }
     ensures numbers { λ r. ⌜ Numbered (forwardNumber s «grid_h» «grid_w» (now (weights .entry)) (now («rope_cos» .entry)) (now («rope_sin» .entry)) (now (patches .entry)) (length (now (out .entry))) (length (now (scratch .entry)))) («grid_h» * «grid_w» / mergeArea (s .picture)) r ⌝ }
 {
-    let full = Form { axes: false };
+    let full = Form {
+        axes: false,
+        plain: false,
+    };
     forward_by(
         s,
         patches,
@@ -122,7 +126,10 @@ pub fn forward_axes(
     ensures work { λ _. ⌜ now (scratch .exit) ≡ scratchAxes s «grid_h» «grid_w» (now (weights .entry)) (now («row_cos» .entry)) (now («row_sin» .entry)) (now («column_cos» .entry)) (now («column_sin» .entry)) (now (patches .entry)) (length (now (out .entry))) (now (scratch .entry)) ⌝ }
     ensures numbers { λ r. ⌜ Numbered (axesNumber s «grid_h» «grid_w» (now (weights .entry)) (now («row_cos» .entry)) (now («row_sin» .entry)) (now («column_cos» .entry)) (now («column_sin» .entry)) (now (patches .entry)) (length (now (out .entry))) (length (now (scratch .entry)))) («grid_h» * «grid_w» / mergeArea (s .picture)) r ⌝ }
 {
-    let axes = Form { axes: true };
+    let axes = Form {
+        axes: true,
+        plain: false,
+    };
     forward_by(
         s,
         patches,
@@ -136,5 +143,42 @@ pub fn forward_axes(
         column_cos,
         column_sin,
         axes,
+    )
+}
+
+// The same with plain attention, in the source's form: up to 64 tokens.
+pub fn forward_plain(
+    s: EncoderSettings,
+    patches: &[f32],
+    grid_h: usize,
+    grid_w: usize,
+    weights: &[f32],
+    rope_cos: &[f32],
+    rope_sin: &[f32],
+    scratch: &mut [f32],
+    out: &mut [f32],
+) -> Encoded
+    ensures answer { λ r. ⌜ r ≡ encodedPlain s «grid_h» «grid_w» (now (weights .entry)) (now («rope_cos» .entry)) (now («rope_sin» .entry)) (now (patches .entry)) (length (now (out .entry))) (length (now (scratch .entry))) ⌝ }
+    ensures output { λ _. ⌜ now (out .exit) ≡ outPlain s «grid_h» «grid_w» (now (weights .entry)) (now («rope_cos» .entry)) (now («rope_sin» .entry)) (now (patches .entry)) (length (now (scratch .entry))) (now (out .entry)) ⌝ }
+    ensures work { λ _. ⌜ now (scratch .exit) ≡ scratchPlain s «grid_h» «grid_w» (now (weights .entry)) (now («rope_cos» .entry)) (now («rope_sin» .entry)) (now (patches .entry)) (length (now (out .entry))) (now (scratch .entry)) ⌝ }
+    ensures numbers { λ r. ⌜ Numbered (plainNumber s «grid_h» «grid_w» (now (weights .entry)) (now («rope_cos» .entry)) (now («rope_sin» .entry)) (now (patches .entry)) (length (now (out .entry))) (length (now (scratch .entry)))) («grid_h» * «grid_w» / mergeArea (s .picture)) r ⌝ }
+{
+    let plain = Form {
+        axes: false,
+        plain: true,
+    };
+    forward_by(
+        s,
+        patches,
+        grid_h,
+        grid_w,
+        weights,
+        rope_cos,
+        rope_sin,
+        scratch,
+        out,
+        rope_cos,
+        rope_sin,
+        plain,
     )
 }

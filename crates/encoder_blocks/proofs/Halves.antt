@@ -34,6 +34,12 @@ use Rattle.encoder_attention.specs.inner.Room.{attendFits}
 use Rattle.encoder_attention.proofs.Attends.{length-attention}
 use Rattle.encoder_attention.proofs.Keys.{length-turned}
 use Rattle.encoder_attention.proofs.Rooms.{attend-fits}
+use Rattle.encoder_plain.specs.Plain.{floats, allScores, plainOf}
+use Rattle.encoder_plain.specs.inner.Fits.{PlainFits}
+use Rattle.encoder_plain.specs.inner.Room.{plainFits}
+use Rattle.encoder_plain.proofs.Same as Same
+use Rattle.encoder_plain.proofs.Same.{plain-is}
+use Rattle.encoder_plain.proofs.Rooms.{plain-fits}
 use Rattle.encoder_steps.specs.Run.{stagesFinite, answer}
 use Rattle.encoder_steps.specs.inner.Step.{LinearAt, Wrote}
 use Rattle.encoder_steps.proofs.Writes.{LinearTried, NormTried, RotateTried, AxesTried, AddTried, GateTried, RoundTried, got, long, left, linear-wrote, norm-wrote, rotate-wrote, axes-wrote, add-wrote, gate-wrote, round-wrote}
@@ -41,7 +47,7 @@ use Rattle.encoder_blocks.specs.declared.Sizes.{Sizes}
 use Rattle.encoder_blocks.specs.Block.{nOf, mOf, partsOf, normed, squareOf, innerOf, outerOf, rotated, mixed, scored, attnRun, feedRun}
 use Rattle.encoder_blocks.specs.Tables.{tableBy}
 use Rattle.encoder_blocks.specs.inner.Live.{hAt}
-use Rattle.encoder_blocks.specs.inner.Fits.{BlockFits, RotationFits, ScoreRow}
+use Rattle.encoder_blocks.specs.inner.Fits.{AttendAt, BlockFits, RotationFits, ScoreRow, Attended}
 
 -- ---- the lengths of the stages
 
@@ -178,7 +184,7 @@ module _ (f : Form) (z : Sizes) where
 -- ---- the attention
 
 -- what is said of the call: s before it, t behind it
-abbrev pub Attend : Sizes → ℕ → List Float → List Float → Bool → Type 0
+abbrev Attend : Sizes → ℕ → List Float → List Float → Bool → Type 0
 Attend z row s t r =
     let n = nOf z in
     let d = z .heads * z .«head_dim» in
@@ -188,10 +194,10 @@ Attend z row s t r =
     × (t ≡ cond fits (put (blank zero32 row (z .tokens) (put s n (turnedKeys (z .tokens) d (region s (3 * n) N)))) (5 * n)
     (attentionOf (z .tokens) (z .heads) (z .«head_dim») (z .scaling) (region s (2 * n) N) (region s (3 * n) N) (region s (4 * n) N))) s)
 
-attend-at : (z : Sizes) {len lenw row : ℕ} → BlockFits z len lenw → ScoreRow z len row
+attend-at : (z : Sizes) {len row : ℕ} → AttendAt z len → 7 * nOf z + 2 * mOf z ≤ row → row + z .tokens ≤ len
     → KeysFit len (2 * nOf z) (3 * nOf z) (4 * nOf z) (nOf z) row (5 * nOf z) (z .tokens) (z .heads) (z .«head_dim»)
-attend-at z f r =
-    let g = f .scratch in let b = r .behind in let i = r .inside in
+attend-at z f b i =
+    let g = f .scratch in
     let e : z .tokens * (z .heads * z .«head_dim») ≡ nOf z = ap (λ (k : ℕ). z .tokens * k) (f .whole) in
     record {
       turned = record {
@@ -214,18 +220,15 @@ attend-at z f r =
       vkt = after (omega arith);
     }
 
--- what it leaves of what lives on
-record Attended (z : Sizes) (s t : List Float) (r : Bool) : Type 0 where
-  finite-is : r ≡ allFinite (scored z (region s (2 * nOf z) (nOf z)) (region s (3 * nOf z) (nOf z)))
-  sums : region t (5 * nOf z) (nOf z) ≡ mixed z (region s (2 * nOf z) (nOf z)) (region s (3 * nOf z) (nOf z)) (region s (4 * nOf z) (nOf z))
-  h-is : hAt z t ≡ hAt z s
-  same : length t ≡ length s
-
-attended : (z : Sizes) (s : List Float) (lenw row : ℕ) {t : List Float} {r : Bool} → BlockFits z (length s) lenw → ScoreRow z (length s) row → Attend z row s t r → Attended z s t r
+-- row-wise
+pub row-wise : (f : Form) (z : Sizes) (s : List Float) (row : ℕ) {t : List Float} {r : Bool} → f .plain ≡ false → AttendAt z (length s) → ScoreRow f z (length s) row → Attend z row s t r → Attended z s t r
 unfolding scored mixed
-attended z s lenw row {t} f sc T =
+row-wise form z s row {t} p f sc T =
     let n = nOf z in
-    let fits = attend-fits (attend-at z f sc) in
+    let g = f .scratch in
+    let behind = sc .behind in
+    let i : row + z .tokens ≤ length s = rw p at (sc .inside) in
+    let fits = attend-fits (attend-at z f behind i) in
     let q = region s (2 * n) n in
     let k = region s (3 * n) n in
     let v = region s (4 * n) n in
@@ -234,14 +237,79 @@ attended z s lenw row {t} f sc T =
     let b = blank zero32 row (z .tokens) (put s n kt) in
     let e : t ≡ put b (5 * n) a = rw (fits, f .whole) at (T .1) in
     let l = length-mixed z (f .whole) q k v in
-    let i : length b ≡ length s = length-put (put s n kt) row (tab (z .tokens) (λ _. zero32)) ∙ length-put s n kt in
+    let lb : length b ≡ length s = length-put (put s n kt) row (tab (z .tokens) (λ _. zero32)) ∙ length-put s n kt in
     record {
       finite-is = rw (fits, f .whole) at (T .0);
-      sums = ap (λ u. region u (5 * n) n) e ∙ region-put-same b (5 * n) a n (sym l) (rw (l, i) (omega arith));
+      sums = ap (λ u. region u (5 * n) n) e ∙ region-put-same b (5 * n) a n (sym l) (rw (l, lb) (omega arith));
       h-is =
           ap (λ u. region u 0 n) e ∙ region-put b (5 * n) a 0 n (rw l (before (omega arith))) ∙ blank-region zero32 row (z .tokens) (put s n kt) 0 n (before (omega arith))
           ∙ region-put s n kt 0 n (rw (length-turned (z .tokens) (z .hidden) k) (before (omega arith)));
-      same = ap length e ∙ length-put b (5 * n) a ∙ i;
+      same = ap length e ∙ length-put b (5 * n) a ∙ lb;
+    }
+
+-- and plain: what is said of the call, and that it leaves the same
+abbrev Plain : Sizes → ℕ → List Float → List Float → Bool → Type 0
+Plain z row s t r =
+    let n = nOf z in
+    let N = floats (z .tokens) (z .heads) (z .«head_dim») in
+    let fits = plainFits (length s) (2 * n) (3 * n) (4 * n) row (5 * n) (z .tokens) (z .heads) (z .«head_dim») in
+    (r ≡ (fits && allFinite (allScores (z .tokens) (z .heads) (z .«head_dim») (z .scaling) (region s (2 * n) N) (region s (3 * n) N))))
+    × (t ≡ cond fits (put (blank zero32 row (z .tokens * z .tokens) s) (5 * n)
+    (plainOf (z .tokens) (z .heads) (z .«head_dim») (z .scaling) (region s (2 * n) N) (region s (3 * n) N) (region s (4 * n) N))) s)
+
+plain-at : (z : Sizes) {len row : ℕ} → AttendAt z len → 7 * nOf z + 2 * mOf z ≤ row → row + z .tokens * z .tokens ≤ len
+    → PlainFits len (2 * nOf z) (3 * nOf z) (4 * nOf z) row (5 * nOf z) (z .tokens) (z .heads) (z .«head_dim»)
+plain-at z f b i =
+    let g = f .scratch in
+    let e : z .tokens * (z .heads * z .«head_dim») ≡ nOf z = ap (λ (k : ℕ). z .tokens * k) (f .whole) in
+    record {
+      keys = record {
+        qIn = omega arith;
+        kIn = omega arith;
+        scoresIn = i;
+        dimIn = omega (arith, f .dimIn, f .whole);
+        qscores = before (omega arith);
+        kscores = before (omega arith);
+      };
+      values = record {
+        vIn = omega arith;
+        outIn = omega arith;
+        scoresIn = i;
+        dimIn = omega (arith, f .dimIn, f .whole);
+        vout = before (omega arith);
+        scoresout = after (omega arith);
+      };
+      vscores = before (omega arith);
+      qout = before (omega arith);
+      kout = before (omega arith);
+    }
+
+pub plain-wise : (f : Form) (z : Sizes) (s : List Float) (row : ℕ) {t : List Float} {r : Bool} → f .plain ≡ true → AttendAt z (length s) → ScoreRow f z (length s) row → Plain z row s t r → Attended z s t r
+unfolding scored mixed
+plain-wise form z s row {t} p f sc T =
+    let n = nOf z in
+    let g = f .scratch in
+    let behind = sc .behind in
+    let i : row + z .tokens * z .tokens ≤ length s = rw p at (sc .inside) in
+    let fits = plain-fits (plain-at z f behind i) in
+    let w : floats (z .tokens) (z .heads) (z .«head_dim») ≡ n = ap (λ (k : ℕ). z .tokens * k) (f .whole) in
+    let q = region s (2 * n) n in
+    let k = region s (3 * n) n in
+    let v = region s (4 * n) n in
+    let lq : length q ≡ floats (z .tokens) (z .heads) (z .«head_dim») = length-region s (2 * n) n (omega arith) ∙ sym w in
+    let a = mixed z q k v in
+    let b = blank zero32 row (z .tokens * z .tokens) s in
+    let same-sums : plainOf (z .tokens) (z .heads) (z .«head_dim») (z .scaling) q k v ≡ a = plain-is (z .tokens) (z .heads) (z .«head_dim») (z .scaling) q k v lq in
+    let x : t ≡ put b (5 * n) (plainOf (z .tokens) (z .heads) (z .«head_dim») (z .scaling) q k v) = rw (fits, f .whole) at (T .1) in
+    let e : t ≡ put b (5 * n) a = x ∙ ap (put b (5 * n)) same-sums in
+    let y : _ ≡ allFinite (allScores (z .tokens) (z .heads) (z .«head_dim») (z .scaling) q k) = rw (fits, f .whole) at (T .0) in
+    let l = length-mixed z (f .whole) q k v in
+    let lb : length b ≡ length s = length-put s row (tab (z .tokens * z .tokens) (λ _. zero32)) in
+    record {
+      finite-is = y ∙ Same.finite-is (z .tokens) (z .heads) (z .«head_dim») (z .scaling) q k v lq;
+      sums = ap (λ u. region u (5 * n) n) e ∙ region-put-same b (5 * n) a n (sym l) (rw (l, lb) (omega arith));
+      h-is = ap (λ u. region u 0 n) e ∙ region-put b (5 * n) a 0 n (rw l (before (omega arith))) ∙ blank-region zero32 row (z .tokens * z .tokens) s 0 n (before (omega arith));
+      same = ap length e ∙ length-put b (5 * n) a ∙ lb;
     }
 
 -- ---- the halves: s₁, s₂, .. are what the steps leave, one after another
@@ -257,7 +325,7 @@ module _ (z : Sizes) (w s : List Float) (f : BlockFits z (length s) (length w)) 
   m = mOf z
 
   -- by any full tables
-  pub attn-half : (cos sin : List Float) (row : ℕ) → z .«head_dim» % 4 ≡ 0 → ScoreRow z (length s) row
+  pub attn-half : (cos sin : List Float) → z .«head_dim» % 4 ≡ 0
       → (s₁ s₂ s₃ s₄ s₅ s₆ s₇ s₈ s₉ : List Float) (r₁ r₂ r₃ r₄ r₅ r₆ r₇ i r₈ r₉ : Bool)
       → NormTried (region w 0 d) 0 n (z .tokens) d s s₁ true r₁
       → LinearTried w n (2 * n) (z .tokens) d d d s₁ s₂ r₁ r₂
@@ -265,13 +333,13 @@ module _ (z : Sizes) (w s : List Float) (f : BlockFits z (length s) (length w)) 
       → LinearTried w n (4 * n) (z .tokens) d d (d + d * d + d * d) s₃ s₄ r₃ r₄
       → Wrote s₄ s₅ (2 * n) (rotated z cos sin (region s₄ (2 * n) n)) r₄ r₅
       → Wrote s₅ s₆ (3 * n) (rotated z cos sin (region s₅ (3 * n) n)) r₅ r₆
-      → Attend z row s₆ s₇ r₇
+      → Attended z s₆ s₇ r₇
       → i ≡ allFinite (region s₇ (5 * n) n)
       → LinearTried w (5 * n) (6 * n) (z .tokens) d d (d + d * d + d * d + d * d) s₇ s₈ ((r₆ && r₇) && i) r₈
       → AddTried 0 (6 * n) n s₈ s₉ r₈ r₉
       → answer r₉ (hAt z s₉) ≡ attnRun z w cos sin (hAt z s)
   unfolding stagesFinite attnRun
-  attn-half cos sin row ro sc s₁ s₂ s₃ s₄ s₅ s₆ s₇ s₈ s₉ r₁ r₂ r₃ r₄ r₅ r₆ r₇ i r₈ r₉ t₁ t₂ t₃ t₄ w₅ w₆ t₇ e t₈ t₉ =
+  attn-half cos sin ro s₁ s₂ s₃ s₄ s₅ s₆ s₇ s₈ s₉ r₁ r₂ r₃ r₄ r₅ r₆ r₇ i r₈ r₉ t₁ t₂ t₃ t₄ w₅ w₆ w₇ e t₈ t₉ =
       let g = f .scratch in
       let b = f .weights in
       let half = halves-whole z (f .whole) ro in
@@ -291,7 +359,6 @@ module _ (z : Sizes) (w s : List Float) (f : BlockFits z (length s) (length w)) 
       let k₅ : length s₅ ≡ length s = long w₅ n l₅ ∙ k₄ in
       let l₆ = length-rotated z half cos sin (region s₅ (3 * n) n) in
       let k₆ : length s₆ ≡ length s = long w₆ n l₆ ∙ k₅ in
-      let w₇ = attended z s₆ (length w) row (rw k₆ f) (rw k₆ sc) t₇ in
       let k₇ : length s₇ ≡ length s = w₇ .same ∙ k₆ in
       let w₈ = square-wrote z w "o" (5 * n) (6 * n) (d + d * d + d * d + d * d) (omega arith) (omega arith) (record { xIn = omega arith; yIn = omega arith; wIn = omega arith; apart = before (omega arith) }) t₈ in
       let l₈ = length-square z "o" w (region s₇ (5 * n) n) in

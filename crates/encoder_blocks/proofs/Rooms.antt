@@ -13,7 +13,7 @@ use Rattle.encoder_blocks.specs.declared.Sizes.{Sizes}
 use Rattle.encoder_settings.specs.declared.Form.{Form}
 use Rattle.encoder_settings.specs.Weights.{floats}
 use Rattle.encoder_blocks.specs.Block.{nOf, mOf, partsOf}
-use Rattle.encoder_blocks.specs.inner.Room.{sizesFit, tablesFit, lengthsFit, layersFit}
+use Rattle.encoder_blocks.specs.inner.Room.{sizesFit, tablesFit, scoreFloats, lengthsFit, layersFit}
 use Rattle.encoder_blocks.specs.inner.Fits.{LayersFits, SizesFit, Products}
 
 -- the products of small sizes
@@ -25,6 +25,8 @@ products z f =
     let t : z .tokens ≤ 4194304 = omega (arith, m, f .high) in
     let q : z .«head_dim» / 4 ≤ 64 = omega (arith, f .narrow) in
     record {
+      tokens = t;
+      matrix = mul-le-mul t t;
       small = f .small;
       grid = g;
       axis = mul-le-mul (f .tables) q;
@@ -79,15 +81,15 @@ module _ (z : Sizes) where
     unfolding layersFit lengthsFit
     layers-say h =
         let tables = tablesFit f z lenc lenn lend lenm in
-        let held = leb (7 * nOf z + 2 * mOf z) row && inside lens row (z .tokens) in
+        let held = leb (7 * nOf z + 2 * mOf z) row && inside lens row (scoreFloats f z) in
         let p = and-parts (sizesFit z) ((tables && (held && leb (z .hidden) lens)) && inside lenw 0 (count * floats (partsOf z))) h in
         let a = and-parts (tables && (held && leb (z .hidden) lens)) (inside lenw 0 (count * floats (partsOf z))) (p .1) in
         let b = and-parts tables (held && leb (z .hidden) lens) (a .0) in
         let d = and-parts held (leb (z .hidden) lens) (b .1) in
-        let e = and-parts (leb (7 * nOf z + 2 * mOf z) row) (inside lens row (z .tokens)) (d .0) in
+        let e = and-parts (leb (7 * nOf z + 2 * mOf z) row) (inside lens row (scoreFloats f z)) (d .0) in
         let k = sizes-say (p .0) in
         let behind = leb-true (7 * nOf z + 2 * mOf z) row (e .0) in
-        let within = leb-true (row + z .tokens) lens (e .1) in
+        let within = leb-true (row + scoreFloats f z) lens (e .1) in
         let all = leb-true (0 + count * floats (partsOf z)) lenw (a .1) in
         record {
           weights = omega (arith, all);
@@ -121,5 +123,5 @@ module _ (z : Sizes) where
         let all : 0 + count * floats (partsOf z) ≤ lenw = omega (arith, k .weights) in
         two (sizes-fit (sizes-of k))
         (two (two (t .lengths)
-        (two (two (le-leb (7 * nOf z + 2 * mOf z) row (k .scores .behind)) (le-leb (row + z .tokens) lens (k .scores .inside))) (le-leb (z .hidden) lens (t .dimIn))))
+        (two (two (le-leb (7 * nOf z + 2 * mOf z) row (k .scores .behind)) (le-leb (row + scoreFloats f z) lens (k .scores .inside))) (le-leb (z .hidden) lens (t .dimIn))))
         (le-leb (0 + count * floats (partsOf z)) lenw all))

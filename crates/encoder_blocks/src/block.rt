@@ -9,11 +9,12 @@ ghost use Rattle.encoder_steps.specs.inner.Step.{Wrote};
 ghost use Rattle.encoder_blocks.specs.Block.{nOf, rotated, attnRun, feedRun, blockRun};
 ghost use Rattle.encoder_blocks.specs.Tables.{tableBy};
 ghost use Rattle.encoder_blocks.specs.inner.Live.{hAt};
-ghost use Rattle.encoder_blocks.specs.inner.Fits.{BlockFits, RotationFits, ScoreRow};
+ghost use Rattle.encoder_blocks.specs.inner.Fits.{AttendAt, BlockFits, RotationFits, ScoreRow, Attended};
 use crate::Sizes;
 use buffers::part;
 use encoder_attention::attention::attend;
 use encoder_kernels::finite::finite;
+use encoder_plain::plain::attend_plain;
 use encoder_settings::Form;
 use encoder_steps::add_finite;
 use encoder_steps::gate_finite;
@@ -60,8 +61,46 @@ pub(crate) fn rotate_by(
     rotate_finite(s, x, t, z.heads, half, z.grid_w, z.side, cos, sin, ok)
 }
 
-// The first half: norm, q, k, v, rotation, attention, o, residual. The keys are turned where the norm stood, which nothing
-// reads any more.
+// The attention of queries, keys and values at 2n, 3n and 4n, its sums at 5n: row-wise, with the keys turned where the norm
+// stood, or plain, with the matrix of scores at row.
+pub(crate) fn attend_by(s: &mut [f32], z: Sizes, row: usize, f: Form) -> bool
+    requires { ⌜ AttendAt z (length (now s)) ⌝ }
+    requires { ⌜ ScoreRow f z (length (now s)) row ⌝ }
+    ensures { λ r. ⌜ Attended z (now (s .entry)) (now (s .exit)) r ⌝ }
+{
+    let t = z.tokens;
+    let n = t * z.hidden;
+    if f.plain {
+        return attend_plain(
+            s,
+            2 * n,
+            3 * n,
+            4 * n,
+            row,
+            5 * n,
+            t,
+            z.heads,
+            z.head_dim,
+            z.scaling,
+        );
+    }
+    attend(
+        s,
+        2 * n,
+        3 * n,
+        4 * n,
+        n,
+        row,
+        5 * n,
+        t,
+        z.heads,
+        z.head_dim,
+        z.scaling,
+    )
+}
+
+// The first half: norm, q, k, v, rotation, attention, o, residual. The attention may write where the norm stood, which
+// nothing reads any more.
 pub(crate) fn attn(
     s: &mut [f32],
     z: Sizes,
@@ -75,7 +114,7 @@ pub(crate) fn attn(
 ) -> bool
     requires { ⌜ BlockFits z (length (now s)) (length (now w)) ⌝ }
     requires { ⌜ RotationFits f z (length (now s)) (length (now cos)) (length (now sin)) (length (now «column_cos»)) (length (now «column_sin»)) ⌝ }
-    requires { ⌜ ScoreRow z (length (now s)) row ⌝ }
+    requires { ⌜ ScoreRow f z (length (now s)) row ⌝ }
     ensures { λ r. ⌜ answer r (hAt z (now (s .exit))) ≡ attnRun z (now (w .entry)) (tableBy f z (now (cos .entry)) (now («column_cos» .entry))) (tableBy f z (now (sin .entry)) (now («column_sin» .entry))) (hAt z (now (s .entry))) ⌝ }
 {
     let t = z.tokens;
@@ -96,19 +135,7 @@ pub(crate) fn attn(
     let ok = linear_finite(s, n, vs, t, dim, dim, w, v, ok);
     let ok = rotate_by(s, qs, z, cos, sin, column_cos, column_sin, f, ok);
     let ok = rotate_by(s, ks, z, cos, sin, column_cos, column_sin, f, ok);
-    let scored = attend(
-        s,
-        qs,
-        ks,
-        vs,
-        n,
-        row,
-        sums,
-        t,
-        z.heads,
-        z.head_dim,
-        z.scaling,
-    );
+    let scored = attend_by(s, z, row, f);
     let summed = finite(part(s, sums, n));
     let ok = linear_finite(s, sums, os, t, dim, dim, w, o, (ok & scored) & summed);
     add_finite(s, 0, os, n, ok)
@@ -154,7 +181,7 @@ pub(crate) fn pixtral_block_forward(
 ) -> bool
     requires { ⌜ BlockFits z (length (now s)) (length (now w)) ⌝ }
     requires { ⌜ RotationFits f z (length (now s)) (length (now cos)) (length (now sin)) (length (now «column_cos»)) (length (now «column_sin»)) ⌝ }
-    requires { ⌜ ScoreRow z (length (now s)) row ⌝ }
+    requires { ⌜ ScoreRow f z (length (now s)) row ⌝ }
     ensures { λ r. ⌜ answer r (hAt z (now (s .exit))) ≡ blockRun z (now (w .entry)) (tableBy f z (now (cos .entry)) (now («column_cos» .entry))) (tableBy f z (now (sin .entry)) (now («column_sin» .entry))) (hAt z (now (s .entry))) ⌝ }
 {
     let a = attn(s, z, row, w, cos, sin, column_cos, column_sin, f);

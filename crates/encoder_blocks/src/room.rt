@@ -2,7 +2,7 @@
 ghost use mathlib.Core.Path.{_≡_};
 ghost use Rattle.encoder_settings.specs.Weights.{floats};
 ghost use Rattle.encoder_blocks.specs.Block.{partsOf};
-ghost use Rattle.encoder_blocks.specs.inner.Room.{sizesFit, tablesFit, lengthsFit, layersFit};
+ghost use Rattle.encoder_blocks.specs.inner.Room.{sizesFit, tablesFit, scoreFloats, lengthsFit, layersFit};
 ghost use Rattle.encoder_blocks.specs.inner.Fits.{Products};
 use crate::Sizes;
 use buffers::room::inside;
@@ -60,6 +60,18 @@ pub(crate) fn tables_fit(
     (lenc == n) & (lenn == n)
 }
 
+// How many floats the scores take.
+pub(crate) fn score_floats(z: Sizes, f: Form) -> usize
+    requires { ⌜ Products z ⌝ }
+    ensures { λ r. ⌜ r ≡ scoreFloats f z ⌝ }
+{
+    let t = z.tokens;
+    if f.plain {
+        return t * t;
+    }
+    t
+}
+
 // Tables, scratch and weights are long enough.
 pub(crate) fn lengths_fit(
     z: Sizes,
@@ -82,7 +94,7 @@ pub(crate) fn lengths_fit(
     let used = 7 * (t * dim) + 2 * (t * inter);
     let size = layer_floats(z);
     let tables = tables_fit(z, lenc, lenn, lend, lenm, f);
-    let places = ((used <= row) & inside(lens, row, t)) & (dim <= lens);
+    let places = ((used <= row) & inside(lens, row, score_floats(z, f))) & (dim <= lens);
     (tables & places) & rows_inside(lenw, 0, count, size)
 }
 

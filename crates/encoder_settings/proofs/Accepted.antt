@@ -7,18 +7,20 @@ use native.Mathlib.Omega.{arith}
 use borrow.Author.Tests.{leb-true, eqb-true}
 use lib.Dec.{leb, eqb}
 use Rattle.picture_limits.specs.declared.Refusal.{Refusal}
-use Rattle.picture_limits.specs.declared.Refusal.the-variants.{Setting, Output, WeightsLength, TableLength, Scratch}
+use Rattle.picture_limits.specs.declared.Refusal.the-variants.{Setting, Output, WeightsLength, TableLength, Scratch, Tokens}
 use Rattle.picture_limits.specs.declared.Shape.{Shape}
 use Rattle.picture_limits.specs.declared.Shape.the-variants.{Shaped, Unshaped}
+use Rattle.picture_limits.specs.Refusal.{unless}
 use Rattle.picture_limits.specs.Places.{patchFloats}
 use Rattle.picture_limits.specs.Shape.{shaped}
 use Rattle.picture_limits.proofs.Refusals.{passed}
 use Rattle.picture_limits.proofs.Shapes as Shapes
 use Rattle.picture_limits.proofs.Shapes.{shaped-says}
 use Rattle.encoder_settings.specs.declared.EncoderSettings.{EncoderSettings}
+use Rattle.encoder_settings.specs.declared.Form.{Form}
 use Rattle.encoder_settings.specs.declared.Checked.{Checked}
 use Rattle.encoder_settings.specs.declared.Checked.the-variants.{Accepted, Refused}
-use Rattle.encoder_settings.specs.Settings.{mergeArea, allowed, weightFloats, scratchFloats, onward, lengths, checkedOf}
+use Rattle.encoder_settings.specs.Settings.{mergeArea, allowed, weightFloats, scratchBy, fewTokens, onward, lengths, checkedBy}
 use Rattle.encoder_settings.specs.inner.Bounds.{Bounded, Counted}
 use Rattle.encoder_settings.proofs.Bounds.{Allowed, allowed-says, bounded, counted}
 
@@ -29,11 +31,12 @@ moved : (h : Shape) (f : ℕ → Checked) (t o : ℕ) → onward h f ≡ Accepte
 moved (Shaped u) f t o e = (u, refl, e)
 moved (Unshaped r) f t o e = let z : _≡_ {A = ℕ} 0 1 = cc in (0, cc, cc)
 
-pub record Lengths (s : EncoderSettings) (t o weights : ℕ) (tables : Bool) (out scratch : ℕ) : Type 0 where
+pub record Lengths (f : Form) (s : EncoderSettings) (t o weights : ℕ) (tables : Bool) (out scratch : ℕ) : Type 0 where
   pub weights-are : weights ≡ weightFloats s
   pub tables-are : tables ≡ true
   pub out-holds : o * s .«text_hidden_size» ≤ out
-  pub scratch-holds : scratchFloats s t o ≤ scratch
+  pub scratch-holds : scratchBy f s t o ≤ scratch
+  pub few : fewTokens f t ≡ true
 
 pub record Ready (s : EncoderSettings) (gh gw patches t o : ℕ) : Type 0 where
   pub settings : Allowed s
@@ -44,33 +47,38 @@ pub record Ready (s : EncoderSettings) (gh gw patches t o : ℕ) : Type 0 where
   pub count-is : o ≡ gh * gw / mergeArea (s .picture)
   pub counts : Counted s t o
 
-module _ (s : EncoderSettings) (weights : ℕ) (tables : Bool) (out scratch : ℕ) where
-  lengths-say : (t o u v : ℕ) → lengths s t o weights tables out scratch ≡ Accepted u v
-      → (Lengths s t o weights tables out scratch) × (u ≡ t) × (v ≡ o)
+module _ (f : Form) (s : EncoderSettings) (weights : ℕ) (tables : Bool) (out scratch : ℕ) where
+  lengths-say : (t o u v : ℕ) → fewTokens f t ≡ true → lengths s t o weights tables out (scratchBy f s t o) scratch ≡ Accepted u v
+      → (Lengths f s t o weights tables out scratch) × (u ≡ t) × (v ≡ o)
   unfolding lengths
-  lengths-say t o u v e =
+  lengths-say t o u v k e =
       let b = passed (eqb weights (weightFloats s)) _ _ (Accepted u v) (never WeightsLength u v) e in
       let d = passed tables _ _ (Accepted u v) (never TableLength u v) (b .1) in
-      let f = passed (leb (o * s .«text_hidden_size») out) _ _ (Accepted u v) (never Output u v) (d .1) in
-      let g = passed (leb (scratchFloats s t o) scratch) _ _ (Accepted u v) (never Scratch u v) (f .1) in
+      let c = passed (leb (o * s .«text_hidden_size») out) _ _ (Accepted u v) (never Output u v) (d .1) in
+      let g = passed (leb (scratchBy f s t o) scratch) _ _ (Accepted u v) (never Scratch u v) (c .1) in
       let h = g .1 in (
         record {
           weights-are = eqb-true _ _ (b .0);
           tables-are = d .0;
-          out-holds = leb-true _ _ (f .0);
+          out-holds = leb-true _ _ (c .0);
           scratch-holds = leb-true _ _ (g .0);
+          few = k;
         },
         cc,
         cc,
       )
 
-  ready : (gh gw patches u t o : ℕ) → allowed s ≡ true → shaped (s .picture) gh gw patches ≡ Shaped u
-      → lengths s u (u / mergeArea (s .picture)) weights tables out scratch ≡ Accepted t o
-      → Ready s gh gw patches t o × Lengths s t o weights tables out scratch
+  -- the lengths for t tokens, where they are few enough
+  abbrev rest : ℕ → Checked
+  rest u = let v = u / mergeArea (s .picture) in unless (fewTokens f u) (Refused Tokens) (lengths s u v weights tables out (scratchBy f s u v) scratch)
+
+  ready : (gh gw patches u t o : ℕ) → allowed s ≡ true → shaped (s .picture) gh gw patches ≡ Shaped u → rest u ≡ Accepted t o
+      → Ready s gh gw patches t o × Lengths f s t o weights tables out scratch
   ready gh gw patches u t o a h e =
       let q = s .picture in
       let z = shaped-says q gh gw patches u h in
-      let n = lengths-say u (u / mergeArea q) t o e in
+      let w = passed (fewTokens f u) _ _ (Accepted t o) (never Tokens t o) e in
+      let n = lengths-say u (u / mergeArea q) t o (w .0) (w .1) in
       let p = bounded s (allowed-says s a) in
       let k : u ≤ 4194304 = omega (arith, z .grids .tokens, z .tokens) in
       rw (n .1, n .2) (
@@ -86,12 +94,11 @@ module _ (s : EncoderSettings) (weights : ℕ) (tables : Bool) (out scratch : �
         n .0,
       )
 
-  pub accepted-says : (gh gw patches t o : ℕ) → checkedOf s gh gw patches weights tables out scratch ≡ Accepted t o
-      → Ready s gh gw patches t o × Lengths s t o weights tables out scratch
-  unfolding checkedOf
+  pub accepted-says : (gh gw patches t o : ℕ) → checkedBy f s gh gw patches weights tables out scratch ≡ Accepted t o
+      → Ready s gh gw patches t o × Lengths f s t o weights tables out scratch
+  unfolding checkedBy
   accepted-says gh gw patches t o e =
       let q = s .picture in
-      let f : ℕ → Checked = λ u. lengths s u (u / mergeArea q) weights tables out scratch in
-      let a = passed (allowed s) _ (onward (shaped q gh gw patches) f) (Accepted t o) (never Setting t o) e in
-      let b = moved (shaped q gh gw patches) f t o (a .1) in
+      let a = passed (allowed s) _ (onward (shaped q gh gw patches) rest) (Accepted t o) (never Setting t o) e in
+      let b = moved (shaped q gh gw patches) rest t o (a .1) in
       ready gh gw patches (b .0) t o (a .0) (b .1) (b .2)

@@ -37,7 +37,7 @@ module _ (s : EncoderSettings) (gh gw patches weights : ℕ) (tables : ℕ → �
   told n = comparedBy n (gh * gw) (gh * gw / mergeArea (s .picture)) patches weights tables out scratch
 
   abbrev asked : ℕ → Checked
-  asked t = lengths s t (t / mergeArea (s .picture)) weights (tables (tableFloats s) (axisFloats s)) out scratch
+  asked t = lengths s t (t / mergeArea (s .picture)) weights (tables (tableFloats s) (axisFloats s)) out (scratchFloats s t (t / mergeArea (s .picture))) scratch
 
   by-grid : (g l : Bool) → eqb patches (gh * gw * patchFloats (s .picture .«patch_size»)) ≡ l
       → onward (unless g (Unshaped Grid) (unless l (Unshaped PatchesLength) (Shaped (gh * gw)))) asked

@@ -1,11 +1,11 @@
 -- Allowed settings, how long each buffer has to be, and the answer of the refusals 1, 6, 7, 9, 10, 5, 11. Assumes nothing.
-use mathlib.Core.Bool.{Bool, false, _&&_, cond}
-use Prim.Native.Nat.{ℕ, _+_, _*_, _/_, _%_}
+use mathlib.Core.Bool.{Bool, true, false, _&&_, cond}
+use Prim.Native.Nat.{ℕ, _+_, _*_, _-_, _/_, _%_}
 use lib.Dec.{leb, eqb}
 use lib.Ieee.{lt, inf}
 use Rattle.number_floats.specs.Constants.{zero32}
 use Rattle.picture_limits.specs.declared.PictureSettings.{PictureSettings}
-use Rattle.picture_limits.specs.declared.Refusal.the-variants.{Setting, Output, WeightsLength, TableLength, Scratch}
+use Rattle.picture_limits.specs.declared.Refusal.the-variants.{Setting, Output, WeightsLength, TableLength, Scratch, Tokens}
 use Rattle.picture_limits.specs.declared.Shape.{Shape}
 use Rattle.picture_limits.specs.declared.Shape.the-variants.{Shaped, Unshaped}
 use Rattle.picture_limits.specs.Refusal as R
@@ -62,6 +62,17 @@ abbrev pub scratchFloats : EncoderSettings → ℕ → ℕ → ℕ
 scratchFloats s t o =
     7 * (t * s .«hidden_size») + 2 * (t * s .«intermediate_size») + t + 2 * (o * s .«text_hidden_size»)
 
+-- with plain attention (2026-11) t² − t floats more
+abbrev pub plainFloats : EncoderSettings → ℕ → ℕ → ℕ
+plainFloats s t o = scratchFloats s t o + (t * t - t)
+
+-- by the form of a call
+abbrev pub scratchBy : Form → EncoderSettings → ℕ → ℕ → ℕ
+scratchBy f s t o = cond (f .plain) (plainFloats s t o) (scratchFloats s t o)
+
+abbrev pub fewTokens : Form → ℕ → Bool
+fewTokens f t = cond (f .plain) (leb t 64) true
+
 -- the paper's number of what was checked, and the counts of tokens: 0 of a refusal
 abbrev pub number : Checked → ℕ
 number (Accepted t o) = 0
@@ -75,13 +86,13 @@ abbrev pub tokensLeft : Checked → ℕ
 tokensLeft (Accepted t o) = o
 tokensLeft (Refused r) = 0
 
--- 9, 10, 5, 11, for t tokens of which o are left; tables says whether their lengths are right
-unfoldable pub lengths : EncoderSettings → ℕ → ℕ → ℕ → Bool → ℕ → ℕ → Checked
-lengths s t o weights tables out scratch =
+-- 9, 10, 5, 11, for t tokens of which o are left; tables says whether their lengths are right, and needed how much scratch it takes
+unfoldable pub lengths : EncoderSettings → ℕ → ℕ → ℕ → Bool → ℕ → ℕ → ℕ → Checked
+lengths s t o weights tables out needed scratch =
     unless (eqb weights (weightFloats s)) (Refused WeightsLength)
     (unless tables (Refused TableLength)
     (unless (leb (o * s .«text_hidden_size») out) (Refused Output)
-    (unless (leb (scratchFloats s t o) scratch) (Refused Scratch)
+    (unless (leb needed scratch) (Refused Scratch)
     (Accepted t o))))
 
 -- the answer for a shape's tokens, and the shape's own refusal
@@ -92,4 +103,18 @@ onward (Unshaped r) f = Refused r
 unfoldable pub checkedOf : EncoderSettings → ℕ → ℕ → ℕ → ℕ → Bool → ℕ → ℕ → Checked
 checkedOf s gh gw patches weights tables out scratch =
     unless (allowed s) (Refused Setting)
-    (onward (shaped (s .picture) gh gw patches) (λ t. lengths s t (t / mergeArea (s .picture)) weights tables out scratch))
+    (onward (shaped (s .picture) gh gw patches) (λ t. let o = t / mergeArea (s .picture) in lengths s t o weights tables out (scratchFloats s t o) scratch))
+
+-- and with plain attention: 22 above 64 tokens, directly after 7
+unfoldable pub checkedPlain : EncoderSettings → ℕ → ℕ → ℕ → ℕ → Bool → ℕ → ℕ → Checked
+checkedPlain s gh gw patches weights tables out scratch =
+    unless (allowed s) (Refused Setting)
+    (onward (shaped (s .picture) gh gw patches) (λ t. let o = t / mergeArea (s .picture) in
+    unless (leb t 64) (Refused Tokens) (lengths s t o weights tables out (plainFloats s t o) scratch)))
+
+-- either, by the form
+unfoldable pub checkedBy : Form → EncoderSettings → ℕ → ℕ → ℕ → ℕ → Bool → ℕ → ℕ → Checked
+checkedBy f s gh gw patches weights tables out scratch =
+    unless (allowed s) (Refused Setting)
+    (onward (shaped (s .picture) gh gw patches) (λ t. let o = t / mergeArea (s .picture) in
+    unless (fewTokens f t) (Refused Tokens) (lengths s t o weights tables out (scratchBy f s t o) scratch)))

@@ -17,9 +17,11 @@ pub struct EncoderSettings {
     pub scaling: f32,
 }
 
-// Which tables a forward call is lent: full ones, or with axes those of rows and of columns.
+// Which tables a forward call is lent: full ones, or with axes those of rows and of columns; and whether its attention is plain,
+// with the full matrix of scores.
 pub struct Form {
     pub axes: bool,
+    pub plain: bool,
 }
 
 // How many floats each buffer of a forward call has to have, or a refusal.

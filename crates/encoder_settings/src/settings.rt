@@ -1,7 +1,8 @@
 // What a call's settings and lengths say before anything is read or written.
 ghost use mathlib.Core.Path.{_≡_};
+ghost use mathlib.Core.Bool.{true};
 ghost use Rattle.encoder_settings.specs.Settings as S;
-ghost use Rattle.encoder_settings.specs.Settings.{ranged, scalingAllowed, allowed, weightFloats, tableFloats, axisFloats, scratchFloats, tablesFit, checkedOf};
+ghost use Rattle.encoder_settings.specs.Settings.{ranged, scalingAllowed, allowed, weightFloats, tableFloats, axisFloats, scratchFloats, tablesFit, fewTokens, scratchBy, checkedBy};
 ghost use Rattle.encoder_settings.specs.inner.Bounds.{Bounded, Counted};
 use crate::Checked;
 use crate::EncoderSettings;
@@ -79,6 +80,16 @@ pub(crate) fn axes_needed(s: EncoderSettings) -> usize
     q.image_size / q.patch_size * (s.head_dim / 4)
 }
 
+// The plain attention takes at most 64 tokens.
+pub(crate) fn few_tokens(t: usize, f: Form) -> bool
+    ensures { λ r. ⌜ r ≡ fewTokens f t ⌝ }
+{
+    if f.plain {
+        return t <= 64;
+    }
+    true
+}
+
 // The tables of the form have the lengths that they need.
 pub(crate) fn tables_fit(
     s: EncoderSettings,
@@ -106,6 +117,19 @@ pub(crate) fn scratch_needed(s: EncoderSettings, t: usize, o: usize) -> usize
     7 * (t * s.hidden_size) + 2 * (t * s.intermediate_size) + t + 2 * (o * s.text_hidden_size)
 }
 
+// The same by the form: plain attention has a matrix of scores where the other has a row.
+pub(crate) fn scratch_by(s: EncoderSettings, t: usize, o: usize, f: Form) -> usize
+    requires { ⌜ Counted s t o ⌝ }
+    requires { ⌜ fewTokens f t ≡ true ⌝ }
+    ensures { λ r. ⌜ r ≡ scratchBy f s t o ⌝ }
+{
+    let n = scratch_needed(s, t, o);
+    if f.plain {
+        return n + (t * t - t);
+    }
+    n
+}
+
 pub(crate) fn lengths(
     s: EncoderSettings,
     t: usize,
@@ -113,10 +137,11 @@ pub(crate) fn lengths(
     weights: usize,
     tables: bool,
     out: usize,
+    needed: usize,
     scratch: usize,
 ) -> Checked
     requires { ⌜ Bounded s × Counted s t o ⌝ }
-    ensures { λ r. ⌜ r ≡ S.lengths s t o weights tables out scratch ⌝ }
+    ensures { λ r. ⌜ r ≡ S.lengths s t o weights tables out needed scratch ⌝ }
 {
     if weights != weights_needed(s) {
         return Checked::Refused(Refusal::WeightsLength);
@@ -127,7 +152,7 @@ pub(crate) fn lengths(
     if out < o * s.text_hidden_size {
         return Checked::Refused(Refusal::Output);
     }
-    if scratch < scratch_needed(s, t, o) {
+    if scratch < needed {
         return Checked::Refused(Refusal::Scratch);
     }
     Checked::Accepted {
@@ -150,7 +175,7 @@ pub fn checked(
     scratch: usize,
     f: Form,
 ) -> Checked
-    ensures { λ r. ⌜ r ≡ checkedOf s «grid_h» «grid_w» patches weights (tablesFit f s cos sin «column_cos» «column_sin») out scratch ⌝ }
+    ensures { λ r. ⌜ r ≡ checkedBy f s «grid_h» «grid_w» patches weights (tablesFit f s cos sin «column_cos» «column_sin») out scratch ⌝ }
 {
     if !settings_allowed(s) {
         return Checked::Refused(Refusal::Setting);
@@ -159,9 +184,14 @@ pub fn checked(
     let shaped = shape(q, grid_h, grid_w, patches);
     match shaped {
         Shape::Shaped { tokens } => {
+            if !few_tokens(tokens, f) {
+                return Checked::Refused(Refusal::Tokens);
+            }
             let m = q.spatial_merge_size;
+            let o = tokens / (m * m);
             let tables = tables_fit(s, cos, sin, column_cos, column_sin, f);
-            lengths(s, tokens, tokens / (m * m), weights, tables, out, scratch)
+            let needed = scratch_by(s, tokens, o, f);
+            lengths(s, tokens, o, weights, tables, out, needed, scratch)
         }
         Shape::Unshaped(r) => Checked::Refused(r),
     }

@@ -12,6 +12,7 @@ use Rattle.kyzgultam.specs.Face.{inner, innerEncoder, preprocessReport, 
 use Rattle.encoder_settings.specs.Lengths.{neededOf}
 use Rattle.encoder.specs.Forward.{encodedOf, outOf, scratchOf}
 use Rattle.encoder.specs.Axes.{encodedAxes, outAxes, scratchAxes}
+use Rattle.encoder.specs.Plain.{encodedPlain, outPlain, scratchPlain}
 use Rattle.kyzgultam.specs.declared.EncoderSettings.{EncoderSettings}
 use Rattle.kyzgultam.specs.declared.ForwardReport.{ForwardReport}
 use Rattle.kyzgultam.specs.declared.LengthsReport.{LengthsReport}
@@ -96,6 +97,16 @@ pub kz-forward-axes-unique : (s : EncoderSettings) (patches : List Float) (gh gw
     → ForwardsAxes s patches gh gw weights rowCos rowSin columnCos columnSin scratch out r out′ scratch′
     → ForwardsAxes s patches gh gw weights rowCos rowSin columnCos columnSin scratch out r′ out″ scratch″ → (r ≡ r′) × (out′ ≡ out″) × (scratch′ ≡ scratch″)
 kz-forward-axes-unique s patches gh gw weights rowCos rowSin columnCos columnSin scratch out r r′ out′ out″ scratch′ scratch″ a b = (one _ (a .0) (b .0), one _ (a .1) (b .1), one _ (a .2) (b .2))
+
+abbrev pub ForwardsPlain : EncoderSettings → List Float → ℕ → ℕ → List Float → List Float → List Float → List Float → List Float → ForwardReport → List Float → List Float → Type 0
+ForwardsPlain s patches gh gw weights cos sin scratch out r out′ scratch′ =
+    (r ≡ forwardReport (encodedPlain (innerEncoder s) gh gw weights cos sin patches (length out) (length scratch)))
+    × (out′ ≡ outPlain (innerEncoder s) gh gw weights cos sin patches (length scratch) out)
+    × (scratch′ ≡ scratchPlain (innerEncoder s) gh gw weights cos sin patches (length out) scratch)
+
+pub kz-forward-plain-unique : (s : EncoderSettings) (patches : List Float) (gh gw : ℕ) (weights cos sin scratch out : List Float) (r r′ : ForwardReport) (out′ out″ : List Float) (scratch′ scratch″ : List Float)
+    → ForwardsPlain s patches gh gw weights cos sin scratch out r out′ scratch′ → ForwardsPlain s patches gh gw weights cos sin scratch out r′ out″ scratch″ → (r ≡ r′) × (out′ ≡ out″) × (scratch′ ≡ scratch″)
+kz-forward-plain-unique s patches gh gw weights cos sin scratch out r r′ out′ out″ scratch′ scratch″ a b = (one _ (a .0) (b .0), one _ (a .1) (b .1), one _ (a .2) (b .2))
 
 pub kz-lengths-unique : (s : EncoderSettings) (gh gw : ℕ) (r r′ : LengthsReport) → r ≡ lengthsReport (neededOf (innerEncoder s) gh gw) → r′ ≡ lengthsReport (neededOf (innerEncoder s) gh gw) → r ≡ r′
 kz-lengths-unique s gh gw r r′ = one _

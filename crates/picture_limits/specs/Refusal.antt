@@ -2,7 +2,7 @@
 use mathlib.Core.Bool.{Bool, true, false}
 use Prim.Native.Nat.{ℕ, zero, suc}
 use Rattle.picture_limits.specs.declared.Refusal as D
-use Rattle.picture_limits.specs.declared.Refusal.the-variants.{Setting, Side, RgbLength, ImageSize, Output, Grid, PatchesLength, Sample, WeightsLength, TableLength, Scratch, NotFinite, Channel, Tile, List}
+use Rattle.picture_limits.specs.declared.Refusal.the-variants.{Setting, Side, RgbLength, ImageSize, Output, Grid, PatchesLength, Sample, WeightsLength, TableLength, Scratch, NotFinite, Channel, Tile, List, Tokens}
 
 abbrev pub number : D.Refusal → ℕ
 number Setting = 1
@@ -20,6 +20,7 @@ number NotFinite = 12
 number Channel = 19
 number Tile = 20
 number List = 21
+number Tokens = 22
 
 -- a size that is reported beside the number n: 0 for every size of a refusal
 abbrev pub reported : ℕ → ℕ → ℕ

@@ -10,7 +10,7 @@ pub struct PictureSettings {
     pub deviation: [f32; 3],
 }
 
-// Why a call is refused, in the order of the papers' numbers: 1 to 12, and 19 to 21.
+// Why a call is refused, in the order of the papers' numbers: 1 to 12, and 19 to 22.
 pub enum Refusal {
     Setting,
     Side,
@@ -27,6 +27,7 @@ pub enum Refusal {
     Channel,
     Tile,
     List,
+    Tokens,
 }
 
 // A part of a picture: `height` rows from row `top` on and `width` columns from column `left` on.

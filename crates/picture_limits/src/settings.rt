@@ -33,6 +33,7 @@ pub fn number(r: Refusal) -> u32
         Refusal::Channel => 19,
         Refusal::Tile => 20,
         Refusal::List => 21,
+        Refusal::Tokens => 22,
     }
 }
 

@@ -71,6 +71,7 @@ refused-differs NotFinite = digit-there 12 49 refl (omega arith)
 refused-differs Channel = digit-there 19 49 refl (omega arith)
 refused-differs Tile = digit-there 20 50 refl (omega arith)
 refused-differs Refusal.List = digit-there 21 50 refl (omega arith)
+refused-differs Refusal.Tokens = digit-there 22 50 refl (omega arith)
 
 grid-differs : (a b d : ℕ) (l : List ℕ) → gridLine a b d ++ l ≡ outsideLine → ⊥
 unfolding gridLine

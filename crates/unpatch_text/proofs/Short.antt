@@ -24,7 +24,7 @@ digits-le (suc k) n h = go (decLt n 10) (λ l. digits-le k (n / 10) l)
     go (yes l) r = omega (arith, ap length (digits-one n l))
     go (no l) r = omega (arith, ap length (digits-more n (omega arith)), length-append (decimalText (n / 10)) ((48 + n % 10) ∷ []), r (omega arith))
 
-number-le : (r : Refusal) → number r ≤ 21
+number-le : (r : Refusal) → number r ≤ 22
 number-le Setting = omega arith
 number-le Side = omega arith
 number-le RgbLength = omega arith
@@ -40,6 +40,7 @@ number-le NotFinite = omega arith
 number-le Channel = omega arith
 number-le Tile = omega arith
 number-le Refusal.List = omega arith
+number-le Refusal.Tokens = omega arith
 
 pub refused-short : (r : Refusal) → length (refusedLine (number r)) ≤ 25094
 refused-short r = omega (arith, length-refused (number r), digits-le 1 (number r) (omega (arith, number-le r)))

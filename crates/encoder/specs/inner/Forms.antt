@@ -1,4 +1,4 @@
--- A call by its form: full tables, or those of rows and of columns. Assumes nothing.
+-- A call by its form: full tables, or those of rows and of columns; row-wise attention, or plain. Assumes nothing.
 use mathlib.Core.List.{List}
 use Prim.Native.Nat.{ℕ, _*_}
 use lib.ListN.{length}
@@ -6,7 +6,7 @@ use lib.Ieee.{Float}
 use Rattle.encoder_settings.specs.declared.EncoderSettings.{EncoderSettings}
 use Rattle.encoder_settings.specs.declared.Form.{Form}
 use Rattle.encoder_settings.specs.declared.Checked.{Checked}
-use Rattle.encoder_settings.specs.Settings.{tablesFit, checkedOf}
+use Rattle.encoder_settings.specs.Settings.{tablesFit, checkedBy}
 use Rattle.encoder_blocks.specs.Tables.{tableBy}
 use Rattle.encoder_steps.specs.Run.{Run}
 use Rattle.encoder.specs.Stages.{sizesOf, forwardRun}
@@ -15,7 +15,7 @@ module _ (f : Form) (s : EncoderSettings) (gh gw : ℕ) (w cos sin columnCos col
   -- what settings and lengths say
   abbrev pub lengthsBy : ℕ → ℕ → Checked
   lengthsBy out scratch =
-      checkedOf s gh gw (length x) (length w) (tablesFit f s (length cos) (length sin) (length columnCos) (length columnSin)) out scratch
+      checkedBy f s gh gw (length x) (length w) (tablesFit f s (length cos) (length sin) (length columnCos) (length columnSin)) out scratch
 
   -- and the run
   abbrev pub runBy : Run

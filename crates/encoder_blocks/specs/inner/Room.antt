@@ -22,11 +22,15 @@ tablesFit f z lenc lenn lend lenm =
     let full = z .side * z .side * z .«head_dim» in
     cond (f .axes) ((eqb lenc axis && eqb lenn axis) && (eqb lend axis && eqb lenm axis)) (eqb lenc full && eqb lenn full)
 
+-- the score row, or the plain attention's matrix of scores
+abbrev pub scoreFloats : Form → Sizes → ℕ
+scoreFloats f z = cond (f .plain) (z .tokens * z .tokens) (z .tokens)
+
 -- tables, scratch and weights are long enough
 unfoldable pub lengthsFit : Form → Sizes → ℕ → ℕ → ℕ → ℕ → ℕ → ℕ → ℕ → ℕ → Bool
 lengthsFit f z lens lenw lenc lenn lend lenm row count =
     (tablesFit f z lenc lenn lend lenm
-    && ((leb (7 * nOf z + 2 * mOf z) row && inside lens row (z .tokens)) && leb (z .hidden) lens))
+    && ((leb (7 * nOf z + 2 * mOf z) row && inside lens row (scoreFloats f z)) && leb (z .hidden) lens))
     && inside lenw 0 (count * floats (partsOf z))
 
 unfoldable pub layersFit : Form → Sizes → ℕ → ℕ → ℕ → ℕ → ℕ → ℕ → ℕ → ℕ → Bool

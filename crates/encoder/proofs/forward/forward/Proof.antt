@@ -1,7 +1,7 @@
 -- `encoder::forward::forward` meets its contract. Assumes nothing.
 use borrow.Author.Needs.{needs}
 use lib.ListN.{length}
-use Rattle.encoder_settings.specs.Settings.{fullTables}
+use Rattle.encoder_settings.specs.Settings.{fullTables, checkedOf, checkedBy}
 use Rattle.encoder.specs.Stages.{forwardRun}
 use Rattle.encoder.specs.Forward.{encodedOf, outOf, scratchOf}
 use Rattle.encoder.proofs.Numbers.{numbered}
@@ -18,7 +18,7 @@ same-length-2 : tie.Need-same-length-2
 same-length-2 c = search needs
 
 returns : tie.Need-returns
-unfolding encodedOf outOf scratchOf
+unfolding encodedOf outOf scratchOf checkedOf checkedBy
 returns c =
     let a = c .before .before .before .before .before .before .before .before .before .before .before .before .before .args in
     let e = c .before .before .before .before .forward-by .ensures in (

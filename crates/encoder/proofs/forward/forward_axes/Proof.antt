@@ -1,7 +1,7 @@
 -- `encoder::forward::forward_axes` meets its contract. Assumes nothing.
 use borrow.Author.Needs.{needs}
 use lib.ListN.{length}
-use Rattle.encoder_settings.specs.Settings.{axisTables}
+use Rattle.encoder_settings.specs.Settings.{axisTables, checkedOf, checkedBy}
 use Rattle.encoder.specs.Axes.{axesRun}
 use Rattle.encoder.specs.Axes.{encodedAxes, outAxes, scratchAxes}
 use Rattle.encoder.proofs.Numbers.{numbered}
@@ -18,7 +18,7 @@ same-length-2 : tie.Need-same-length-2
 same-length-2 c = search needs
 
 returns : tie.Need-returns
-unfolding encodedAxes outAxes scratchAxes
+unfolding encodedAxes outAxes scratchAxes checkedOf checkedBy
 returns c =
     let a = c .before .before .before .before .before .before .before .before .before .before .before .before .before .before .before .args in
     let e = c .before .before .before .before .forward-by .ensures in (

@@ -26,7 +26,7 @@ run-requires c κs =
     let t = c .before .before .before .lengths .given .0 .0 in
     let o = c .before .before .before .lengths .given .0 .1 .0 in
     let e = sym (c .before .before .before .before .before .checked .ensures) ∙ c .before .before .before .lengths .given .1 in
-    let y = accepted-says (a .s) (length (a .weights .now)) (tablesFit (a .f) (a .s) (length (a .cos .now)) (length (a .sin .now)) (length (a .column-cos .now)) (length (a .column-sin .now))) (length (a .out .now)) (length (a .scratch .now)) (a .grid-h) (a .grid-w) (length (a .patches .now)) t o e in
+    let y = accepted-says (a .f) (a .s) (length (a .weights .now)) (tablesFit (a .f) (a .s) (length (a .cos .now)) (length (a .sin .now)) (length (a .column-cos .now)) (length (a .column-sin .now))) (length (a .out .now)) (length (a .scratch .now)) (a .grid-h) (a .grid-w) (length (a .patches .now)) t o e in
     let f = run-fits (a .f) (a .s) (a .grid-h) (a .grid-w) (length (a .patches .now)) (length (a .weights .now)) (length (a .cos .now)) (length (a .sin .now)) (length (a .column-cos .now)) (length (a .column-sin .now)) (length (a .out .now)) (length (a .scratch .now)) t o (y .0) (y .1) in
     (y .0 .bounds .patch-low, (f, y .1 .out-holds))
 
@@ -45,7 +45,7 @@ returns c =
     let t = c .before .before .before .before .before .before .before .before .lengths .given .0 .0 in
     let o = c .before .before .before .before .before .before .before .before .lengths .given .0 .1 .0 in
     let e = sym (c .before .before .before .before .before .before .before .before .before .before .checked .ensures) ∙ c .before .before .before .before .before .before .before .before .lengths .given .1 in
-    let y = accepted-says (a .s) (length (a .weights .now)) (tablesFit (a .f) (a .s) (length (a .cos .now)) (length (a .sin .now)) (length (a .column-cos .now)) (length (a .column-sin .now))) (length (a .out .now)) (length (a .scratch .now)) (a .grid-h) (a .grid-w) (length (a .patches .now)) t o e in
+    let y = accepted-says (a .f) (a .s) (length (a .weights .now)) (tablesFit (a .f) (a .s) (length (a .cos .now)) (length (a .sin .now)) (length (a .column-cos .now)) (length (a .column-sin .now))) (length (a .out .now)) (length (a .scratch .now)) (a .grid-h) (a .grid-w) (length (a .patches .now)) t o e in
     let n = c .before .before .before .before .run in
     let R = runBy (a .f) (a .s) (a .grid-h) (a .grid-w) (a .weights .now) (a .cos .now) (a .sin .now) (a .column-cos .now) (a .column-sin .now) (a .patches .now) in
     let z = sizesOf (a .s) (a .grid-h * a .grid-w) (a .grid-w) in

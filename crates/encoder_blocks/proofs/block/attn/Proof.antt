@@ -71,8 +71,11 @@ rotate-by-requires-2 c κs =
     let e = c .before .before .before .rotate-by .kept .0 ∙ c .before .before .before .before .before .before .before .linear-finite3 .kept .0 ∙ c .before .before .before .before .before .before .before .before .before .before .before .linear-finite2 .kept .0 ∙ c .before .before .before .before .before .before .before .before .before .before .before .before .before .before .before .linear-finite .kept .0 ∙ c .before .before .before .before .before .before .before .before .before .before .before .before .before .before .before .before .before .before .before .norm-finite .kept .0 in
     (rw e (g .1 .0), omega (arith, e, g .0 .scratch))
 
-attend-requires : tie.Need-attend-requires
-attend-requires c κs = search needs
+attend-by-requires : tie.Need-attend-by-requires
+attend-by-requires c κs =
+    let g = c .before .before .before .before .before .before .before .before .before .before .before .before .before .before .before .before .before .before .before .before .before .before .before .before .before .before .before .before .before .before .before .before .pre in
+    let e = c .before .before .before .rotate-by2 .kept .0 ∙ c .before .before .before .before .before .before .before .rotate-by .kept .0 ∙ c .before .before .before .before .before .before .before .before .before .before .before .linear-finite3 .kept .0 ∙ c .before .before .before .before .before .before .before .before .before .before .before .before .before .before .before .linear-finite2 .kept .0 ∙ c .before .before .before .before .before .before .before .before .before .before .before .before .before .before .before .before .before .before .before .linear-finite .kept .0 ∙ c .before .before .before .before .before .before .before .before .before .before .before .before .before .before .before .before .before .before .before .before .before .before .before .norm-finite .kept .0 in
+    (record { scratch = rw e (g .0 .scratch); whole = g .0 .whole; dimIn = rw e (g .0 .dimIn) }, rw e (g .1 .1))
 
 part-requires-2 : tie.Need-part-requires-2
 part-requires-2 c κs = search needs
@@ -88,7 +91,7 @@ add-finite-requires c κs = search needs
 
 same-length : tie.Need-same-length
 same-length c =
-    c .before .before .add-finite .kept .0 ∙ c .before .before .before .before .before .before .linear-finite4 .kept .0 ∙ c .before .before .before .before .before .before .before .before .before .before .before .before .before .attend .kept .0 ∙ c .before .before .before .before .before .before .before .before .before .before .before .before .before .before .before .before .before .rotate-by2 .kept .0
+    c .before .before .add-finite .kept .0 ∙ c .before .before .before .before .before .before .linear-finite4 .kept .0 ∙ c .before .before .before .before .before .before .before .before .before .before .before .before .before .attend-by .kept .0 ∙ c .before .before .before .before .before .before .before .before .before .before .before .before .before .before .before .before .before .rotate-by2 .kept .0
     ∙ c .before .before .before .before .before .before .before .before .before .before .before .before .before .before .before .before .before .before .before .before .before .rotate-by .kept .0 ∙ c .before .before .before .before .before .before .before .before .before .before .before .before .before .before .before .before .before .before .before .before .before .before .before .before .before .linear-finite3 .kept .0 ∙ c .before .before .before .before .before .before .before .before .before .before .before .before .before .before .before .before .before .before .before .before .before .before .before .before .before .before .before .before .before .linear-finite2 .kept .0 ∙ c .before .before .before .before .before .before .before .before .before .before .before .before .before .before .before .before .before .before .before .before .before .before .before .before .before .before .before .before .before .before .before .before .before .linear-finite .kept .0 ∙ c .before .before .before .before .before .before .before .before .before .before .before .before .before .before .before .before .before .before .before .before .before .before .before .before .before .before .before .before .before .before .before .before .before .before .before .before .before .norm-finite .kept .0
 
 returns : tie.Need-returns
@@ -101,11 +104,11 @@ returns c =
     let x₄ = c .before .before .before .before .before .before .before .before .before .before .before .before .before .before .before .before .before .before .before .before .before .before .before .before .before .linear-finite3 in
     let x₅ = c .before .before .before .before .before .before .before .before .before .before .before .before .before .before .before .before .before .before .before .before .before .rotate-by in
     let x₆ = c .before .before .before .before .before .before .before .before .before .before .before .before .before .before .before .before .before .rotate-by2 in
-    let x₇ = c .before .before .before .before .before .before .before .before .before .before .before .before .before .attend in
+    let x₇ = c .before .before .before .before .before .before .before .before .before .before .before .before .before .attend-by in
     let y = c .before .before .before .before .before .before .before .before .finite in
     let x₈ = c .before .before .before .before .before .before .linear-finite4 in
     let x₉ = c .before .before .add-finite in
-    attn-half (a .z) (a .w .now) (a .s .now) (g .0) (tableBy (a .f) (a .z) (a .cos .now) (a .column-cos .now)) (tableBy (a .f) (a .z) (a .sin .now) (a .column-sin .now)) (a .row) (g .1 .0 .fourth) (g .1 .1)
+    attn-half (a .z) (a .w .now) (a .s .now) (g .0) (tableBy (a .f) (a .z) (a .cos .now) (a .column-cos .now)) (tableBy (a .f) (a .z) (a .sin .now) (a .column-sin .now)) (g .1 .0 .fourth)
     (x₁ .last .0) (x₂ .last .0) (x₃ .last .0) (x₄ .last .0) (x₅ .last .0) (x₆ .last .0) (x₇ .last .0) (x₈ .last .0) (x₉ .last .0)
     (x₁ .result) (x₂ .result) (x₃ .result) (x₄ .result) (x₅ .result) (x₆ .result) (x₇ .result) (y .result) (x₈ .result) (x₉ .result)
     (rw (c .before .before .before .before .before .before .before .before .before .before .before .before .before .before .before .before .before .before .before .before .before .before .before .before .before .before .before .before .before .before .before .before .before .before .before .before .before .before .part .ensures) at (x₁ .ensures)) (x₂ .ensures) (x₃ .ensures) (x₄ .ensures) (x₅ .ensures) (x₆ .ensures) (x₇ .ensures)
@@ -134,7 +137,7 @@ attn-spec =
     linear-finite-requires-3
     rotate-by-requires
     rotate-by-requires-2
-    attend-requires
+    attend-by-requires
     part-requires-2
     finite-requires
     linear-finite-requires-4

@@ -25,6 +25,9 @@ layer-floats-requires c κs = search needs
 tables-fit-requires : tie.Need-tables-fit-requires
 tables-fit-requires c κs = search needs
 
+score-floats-requires : tie.Need-score-floats-requires
+score-floats-requires c κs = search needs
+
 inside-requires : tie.Need-inside-requires
 inside-requires c κs = search needs
 
@@ -33,7 +36,7 @@ rows-inside-requires c κs = search needs
 
 returns : tie.Need-returns
 unfolding lengthsFit
-returns c = rw (c .before .before .tables-fit .ensures, c .before .inside .ensures, c .rows-inside .ensures, c .before .before .before .layer-floats .ensures)
+returns c = rw (c .before .before .before .tables-fit .ensures, c .before .inside .ensures, c .before .before .score-floats .ensures, c .rows-inside .ensures, c .before .before .before .before .layer-floats .ensures)
 
 pub lengths-fit-spec : {M : Type 1} → statement M
 lengths-fit-spec =
@@ -46,6 +49,7 @@ lengths-fit-spec =
     add-used
     layer-floats-requires
     tables-fit-requires
+    score-floats-requires
     inside-requires
     rows-inside-requires
     returns)

@@ -23,16 +23,13 @@ returns-3 : tie.Need-returns-3
 unfolding lengths
 returns-3 c = rw (← c .before .before .before .before .weights-needed .ensures, eq-eqb _ _ (c .before .before .before .if1 .left), not-false (c .before .before .before .before .before .args .tables) (c .before .before .if2 .left), lt-leb _ _ (c .if3 .taken))
 
-scratch-needed-requires : tie.Need-scratch-needed-requires
-scratch-needed-requires c κs = search needs
-
 returns-4 : tie.Need-returns-4
 unfolding lengths
-returns-4 c = rw (← c .before .before .before .before .before .before .weights-needed .ensures, eq-eqb _ _ (c .before .before .before .before .before .if1 .left), not-false (c .before .before .before .before .before .before .before .args .tables) (c .before .before .before .before .if2 .left), le-leb _ _ (c .before .before .if3 .left), ← c .before .scratch-needed .ensures, lt-leb _ _ (c .if4 .taken))
+returns-4 c = rw (← c .before .before .before .before .before .weights-needed .ensures, eq-eqb _ _ (c .before .before .before .before .if1 .left), not-false (c .before .before .before .before .before .before .args .tables) (c .before .before .before .if2 .left), le-leb _ _ (c .before .if3 .left), lt-leb _ _ (c .if4 .taken))
 
 returns-5 : tie.Need-returns-5
 unfolding lengths
-returns-5 c = rw (← c .before .before .before .before .before .before .weights-needed .ensures, eq-eqb _ _ (c .before .before .before .before .before .if1 .left), not-false (c .before .before .before .before .before .before .before .args .tables) (c .before .before .before .before .if2 .left), le-leb _ _ (c .before .before .if3 .left), ← c .before .scratch-needed .ensures, le-leb _ _ (c .if4 .left))
+returns-5 c = rw (← c .before .before .before .before .before .weights-needed .ensures, eq-eqb _ _ (c .before .before .before .before .if1 .left), not-false (c .before .before .before .before .before .before .args .tables) (c .before .before .before .if2 .left), le-leb _ _ (c .before .if3 .left), le-leb _ _ (c .if4 .left))
 
 pub lengths-spec : {M : Type 1} → statement M
 lengths-spec =
@@ -43,6 +40,5 @@ lengths-spec =
     returns-2
     mul-if3
     returns-3
-    scratch-needed-requires
     returns-4
     returns-5)
