@@ -1,0 +1,10 @@
+pub mod Frame
+pub mod Walk
+pub mod Says
+pub mod Sound
+pub mod Picks
+pub mod Complete
+pub mod Judged
+pub mod Verdict
+pub mod Steps
+pub mod Lexing
