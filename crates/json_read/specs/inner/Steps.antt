@@ -1,0 +1,49 @@
+-- What the functions answer. Assumes nothing.
+use mathlib.Core.Path.{_≡_}
+use mathlib.Core.Bool.{cond}
+use mathlib.Core.List.{List, [], _∷_}
+use Prim.Native.Nat.{ℕ, _+_, _-_, _≤_}
+use lib.Dec.{eqb}
+use lib.ListN.{length, drop}
+use Rattle.json_grammar.specs.inner.Machine.{chars, go, after}
+use Rattle.json_grammar.specs.declared.scan.Read.{Read}
+use Rattle.json_grammar.specs.declared.scan.Read.the-variants as R
+use Rattle.json_grammar.specs.inner.Steps.{seen, place, skip}
+use Rattle.json_read.specs.declared.value.Next.{Next}
+use Rattle.json_read.specs.declared.value.Next.the-variants as N
+
+-- one character of a string: the others are read behind it
+pub record Char (s : List ℕ) (at : ℕ) (r : Read) : Type 0 where
+  pub same : (d : ℕ) → after (seen s r) (go d (chars ∷ [])) ≡ go d (chars ∷ []) (drop at s)
+  pub low : at ≤ place r
+  pub high : place r ≤ at + (length s - at)
+  pub falls : (n : ℕ) → r ≡ R.Past n → at + 1 ≤ n
+
+-- ---- what parts elements
+
+pub data Sep : Type 0 where
+  more closed wrong : List ℕ → Sep
+
+abbrev pub sepOf : ℕ → List ℕ → Sep
+sepOf c [] = wrong []
+sepOf c (b ∷ l) = cond (eqb b 0x2C) (more l) (cond (eqb b c) (closed l) (wrong (b ∷ l)))
+
+-- a comma or the byte c, behind blanks
+unfoldable pub separate : ℕ → List ℕ → Sep
+separate c l = sepOf c (skip l)
+
+abbrev pub parted : List ℕ → Next → Sep
+parted s (N.More n) = more (drop n s)
+parted s (N.Closed n) = closed (drop n s)
+parted s (N.Wrong n) = wrong (drop n s)
+
+abbrev pub partPlace : Next → ℕ
+partPlace (N.More n) = n
+partPlace (N.Closed n) = n
+partPlace (N.Wrong n) = n
+
+pub record Parts (s : List ℕ) (at close : ℕ) (r : Next) : Type 0 where
+  pub same : parted s r ≡ separate close (drop at s)
+  pub low : at ≤ partPlace r
+  pub high : partPlace r ≤ at + (length s - at)
+  pub falls : (m : ℕ) → r ≡ N.More m → (at + 1 ≤ m) × (m ≤ length s)

@@ -1,0 +1,4 @@
+// A reader of JSON: where a value or a text ends, or where and why it stops.
+mod number;
+mod string;
+pub mod value;
