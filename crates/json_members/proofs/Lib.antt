@@ -1,0 +1,4 @@
+pub mod Suffix
+pub mod Named
+pub mod Finding
+pub mod Sizing
