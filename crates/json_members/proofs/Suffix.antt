@@ -1,15 +1,16 @@
 -- What a rule leaves is an end of its text, so a member's value stands at the place that is found. Assumes nothing.
-use mathlib.Core.Path.{_≡_, subst}
-use mathlib.Core.List.{List, _∷_}
+use mathlib.Core.Path.{_≡_, refl, subst}
+use mathlib.Core.List.{List, [], _∷_}
 use mathlib.Core.Option.{Option, none, some}
 use mathlib.Core.Bool.{Bool, true, false, cond}
-use Prim.Native.Nat.{ℕ, suc, _-_, _≤_}
+use Prim.Native.Nat.{ℕ, zero, suc, _-_, _≤_, _<_}
 use native.Mathlib.Omega.{arith}
 use lib.ListN.{length, drop}
 use Rattle.json_grammar.specs.Grammar as G
 use Rattle.json_grammar.specs.Grammar.{Range, Ws, Value, Elements, Members, Str, Chars}
-use Rattle.json_members.specs.Names.{Entry, membersOf, same, later, lookup}
-use Rattle.json_members.specs.inner.Turns.{placeOf}
+use Rattle.json_members.specs.Names.{Entry, membersOf, entriesOf, same, later, lookup}
+use Rattle.json_members.specs.inner.Bytes.{quiet}
+use Rattle.json_members.specs.inner.Turns.{placeOf, Stands, nowhere, somewhere}
 
 -- r is an end of l
 pub data Suffix : List ℕ → List ℕ → Type 0 where
@@ -131,39 +132,61 @@ mutual
   members-s (G.member w s c x v u) = ws-s w ⨟ str-s s ⨟ ws-s c ⨟ step (ws-s x ⨟ value-s v ⨟ ws-s u)
   members-s (G.members w s c x v u k) = ws-s w ⨟ str-s s ⨟ ws-s c ⨟ step (ws-s x ⨟ value-s v ⨟ ws-s u ⨟ step (members-s k))
 
+-- what is dropped leaves an end
+drop-s : (i : ℕ) (s : List ℕ) → Suffix s (drop i s)
+drop-s zero s = all
+drop-s (suc i) [] = all
+drop-s (suc i) (b ∷ s) = step (drop-s i s)
+
 -- ---- what is found
 
-data Within (l : List ℕ) : Option Entry → Type 0 where
-  nothing : Within l none
-  something : {e : Entry} → Suffix l (e .from) → Within l (some e)
+ws-quiet : {l r : List ℕ} → Ws l r → quiet r ≡ true → quiet l ≡ true
+unfolding quiet
+ws-quiet G.unspaced h = h
+ws-quiet (G.space w) h = refl
+ws-quiet (G.tab w) h = refl
+ws-quiet (G.feed w) h = refl
+ws-quiet (G.return w) h = refl
 
-later-within : {l : List ℕ} (o p : Option Entry) → Within l o → Within l p → Within l (later o p)
+-- its value ends l, no number goes on behind it, and it has k levels
+data Within (k : ℕ) (l : List ℕ) : Option Entry → Type 0 where
+  nothing : Within k l none
+  something : {e : Entry} → Suffix l (e .from) → quiet (e .to) ≡ true → e .level ≡ k → Within k l (some e)
+
+later-within : {k : ℕ} {l : List ℕ} (o p : Option Entry) → Within k l o → Within k l p → Within k l (later o p)
 later-within none p x y = y
 later-within (some e) p x y = x
 
-cond-within : {l : List ℕ} (t : Bool) (e : Entry) → Suffix l (e .from) → Within l (cond t (some e) none)
-cond-within true e s = something s
-cond-within false e s = nothing
+cond-within : {k : ℕ} {l : List ℕ} (t : Bool) (e : Entry) → Suffix l (e .from) → quiet (e .to) ≡ true → e .level ≡ k → Within k l (cond t (some e) none)
+cond-within true e s q h = something s q h
+cond-within false e s q h = nothing
 
-further : {l m : List ℕ} {o : Option Entry} → Suffix l m → Within m o → Within l o
+further : {k : ℕ} {l m : List ℕ} {o : Option Entry} → Suffix l m → Within k m o → Within k l o
 further s nothing = nothing
-further s (something t) = something (s ⨟ t)
+further s (something t q h) = something (s ⨟ t) q h
 
-lookup-within : {d : ℕ} {l r : List ℕ} (w : List ℕ) (v : Members d l r) → Within l (lookup w (membersOf v))
-unfolding lookup membersOf
-lookup-within w (G.member a s c x v u) = cond-within (same _ w) _ (ws-s a ⨟ str-s s ⨟ ws-s c ⨟ step (ws-s x))
-lookup-within w (G.members a s c x v u k) =
+lookup-within : {d : ℕ} {l r : List ℕ} (w : List ℕ) (v : Members d l r) → quiet r ≡ true → Within d l (lookup w (membersOf v))
+unfolding lookup membersOf quiet
+lookup-within w (G.member a s c x v u) h =
+    cond-within (same _ w) _ (ws-s a ⨟ str-s s ⨟ ws-s c ⨟ step (ws-s x)) (ws-quiet u h) refl
+lookup-within w (G.members a s c x v u k) h =
     later-within (lookup w (membersOf k)) _
-    (further (ws-s a ⨟ str-s s ⨟ ws-s c ⨟ step (ws-s x ⨟ value-s v ⨟ ws-s u ⨟ step all)) (lookup-within w k))
-    (cond-within (same _ w) _ (ws-s a ⨟ str-s s ⨟ ws-s c ⨟ step (ws-s x)))
+    (further (ws-s a ⨟ str-s s ⨟ ws-s c ⨟ step (ws-s x ⨟ value-s v ⨟ ws-s u ⨟ step all)) (lookup-within w k h))
+    (cond-within (same _ w) _ (ws-s a ⨟ str-s s ⨟ ws-s c ⨟ step (ws-s x)) (ws-quiet u refl) refl)
 
--- the value that is found stands at its place
-pub found-at : {d : ℕ} {l r : List ℕ} (s w : List ℕ) (v : Members d l r) (e : Entry) → Suffix s l → lookup w (membersOf v) ≡ some e → drop (placeOf s (some e)) s ≡ e .from
+stands-of : {k : ℕ} {l : List ℕ} (s : List ℕ) (o : Option Entry) → Suffix s (0x7B ∷ l) → Within k l o → Stands s (suc k) o
 unfolding placeOf
-found-at {d} {l} {r} s w v e t h = of (lookup w (membersOf v)) (lookup-within w v) h
-  where
-    of : (o : Option Entry) → Within l o → o ≡ some e → drop (length s - length (e .from)) s ≡ e .from
-    of none nothing q = let z : _≡_ {A = ℕ} 0 1 = cc in absurd (omega arith)
-    of (some x) (something y) q =
-        let g : x ≡ e = cc in
-        drop-suffix (t ⨟ subst (λ (z : Entry). Suffix l (z .from)) g y)
+stands-of s none t nothing = nowhere
+stands-of s (some e) t (something y q h) = somewhere {e = e} (omega (arith, shorter t, shorter y)) (drop-suffix (t ⨟ step y)) q (omega arith)
+
+pub found : {k : ℕ} {l r : List ℕ} (s w : List ℕ) (at : ℕ) (v : Value k l r) → drop at s ≡ l → Stands s k (lookup w (entriesOf v))
+unfolding entriesOf lookup quiet
+found s w at G.value-false h = nowhere
+found s w at G.value-null h = nowhere
+found s w at G.value-true h = nowhere
+found s w at (G.number k) h = nowhere
+found s w at (G.string k) h = nowhere
+found s w at (G.empty-array u) h = nowhere
+found s w at (G.array k) h = nowhere
+found s w at (G.empty-object u) h = nowhere
+found s w at (G.object k) h = stands-of s (lookup w (membersOf k)) (subst (Suffix s) h (drop-s at s)) (lookup-within w k refl)

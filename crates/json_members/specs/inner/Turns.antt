@@ -1,8 +1,9 @@
 -- The members of an object, one after another, and what is found of a name. Assumes nothing.
 use mathlib.Core.Path.{_≡_}
+use mathlib.Core.Bool.{true}
 use mathlib.Core.List.{List, [], _∷_}
 use mathlib.Core.Option.{Option, none, some}
-use Prim.Native.Nat.{ℕ, _+_, _-_, _≤_}
+use Prim.Native.Nat.{ℕ, _+_, _-_, _≤_, _<_}
 use lib.ListN.{length, getD, drop}
 use Rattle.json_grammar.specs.Grammar.{Ws, Value, Members}
 use Rattle.json_grammar.specs.inner.Machine.{value, key, colon}
@@ -12,6 +13,7 @@ use Rattle.json_grammar.specs.declared.scan.Read.the-variants as R
 use Rattle.json_read.specs.inner.Steps.{Parts}
 use Rattle.json_read.specs.declared.value.Next.the-variants as N
 use Rattle.json_members.specs.Names.{Entry, membersOf, entriesOf, lookup}
+use Rattle.json_members.specs.inner.Bytes.{quiet}
 use Rattle.json_members.specs.declared.member.Member.{Member}
 use Rattle.json_members.specs.declared.member.Member.the-variants as M
 
@@ -49,3 +51,8 @@ pub record Finds (s : List ℕ) (at d : ℕ) (w : List ℕ) (n : ℕ) : Type 0 w
 -- at a value: the place of its last member of the name w, where it is an object that has one
 pub record Gets (s : List ℕ) (at d : ℕ) (w : List ℕ) (n : ℕ) : Type 0 where
   pub value : (k : ℕ) (l e : List ℕ) → drop at s ≡ l → k ≤ d → Ascii w → (v : Value k l e) → n ≡ placeOf s (lookup w (entriesOf v))
+
+-- what is found of a value with k levels stands at its place, behind the first byte, and has fewer
+pub data Stands (s : List ℕ) (k : ℕ) : Option Entry → Type 0 where
+  nowhere : Stands s k none
+  somewhere : {e : Entry} → 0 < placeOf s (some e) → drop (placeOf s (some e)) s ≡ e .from → quiet (e .to) ≡ true → e .level < k → Stands s k (some e)
