@@ -2,7 +2,7 @@
 use mathlib.Core.Bool.{Bool, true, false}
 use Prim.Native.Nat.{ℕ, zero, suc}
 use Rattle.picture_limits.specs.declared.Refusal as D
-use Rattle.picture_limits.specs.declared.Refusal.the-variants.{Setting, Side, RgbLength, ImageSize, Output, Grid, PatchesLength, Sample, WeightsLength, TableLength, Scratch, NotFinite, Channel, Tile, List, Tokens}
+use Rattle.picture_limits.specs.declared.Refusal.the-variants.{Setting, Side, RgbLength, ImageSize, Output, Grid, PatchesLength, Sample, WeightsLength, TableLength, Scratch, NotFinite, ConfigText, ConfigDepth, ConfigVision, Channel, Tile, List, Tokens}
 
 abbrev pub number : D.Refusal → ℕ
 number Setting = 1
@@ -17,6 +17,9 @@ number WeightsLength = 9
 number TableLength = 10
 number Scratch = 11
 number NotFinite = 12
+number ConfigText = 13
+number ConfigDepth = 14
+number ConfigVision = 15
 number Channel = 19
 number Tile = 20
 number List = 21

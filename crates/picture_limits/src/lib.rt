@@ -10,7 +10,7 @@ pub struct PictureSettings {
     pub deviation: [f32; 3],
 }
 
-// Why a call is refused, in the order of the papers' numbers: 1 to 12, and 19 to 22.
+// Why a call is refused, in the order of the papers' numbers: 1 to 15, and 19 to 22.
 pub enum Refusal {
     Setting,
     Side,
@@ -24,6 +24,9 @@ pub enum Refusal {
     TableLength,
     Scratch,
     NotFinite,
+    ConfigText,
+    ConfigDepth,
+    ConfigVision,
     Channel,
     Tile,
     List,

@@ -12,7 +12,7 @@ use lib.Dec.{eqb, ltb, leb}
 use lib.ListN.{length, getD}
 use Rattle.picture_limits.specs.declared.PictureSettings.{PictureSettings}
 use Rattle.picture_limits.specs.declared.Refusal.{Refusal}
-use Rattle.picture_limits.specs.declared.Refusal.the-variants.{Setting, Side, RgbLength, ImageSize, Output, Grid, PatchesLength, Sample, WeightsLength, TableLength, Scratch, NotFinite, Channel, Tile}
+use Rattle.picture_limits.specs.declared.Refusal.the-variants.{Setting, Side, RgbLength, ImageSize, Output, Grid, PatchesLength, Sample, WeightsLength, TableLength, Scratch, NotFinite, ConfigText, ConfigDepth, ConfigVision, Channel, Tile}
 use Rattle.picture.specs.declared.Preprocessed.{Preprocessed}
 use Rattle.picture.specs.declared.Preprocessed.the-variants as P
 use Rattle.picture_restore.specs.declared.Restored.{Restored}
@@ -68,6 +68,9 @@ refused-differs WeightsLength = digit-there 9 57 refl (omega arith)
 refused-differs TableLength = digit-there 10 49 refl (omega arith)
 refused-differs Scratch = digit-there 11 49 refl (omega arith)
 refused-differs NotFinite = digit-there 12 49 refl (omega arith)
+refused-differs ConfigText = digit-there 13 49 refl (omega arith)
+refused-differs ConfigDepth = digit-there 14 49 refl (omega arith)
+refused-differs ConfigVision = digit-there 15 49 refl (omega arith)
 refused-differs Channel = digit-there 19 49 refl (omega arith)
 refused-differs Tile = digit-there 20 50 refl (omega arith)
 refused-differs Refusal.List = digit-there 21 50 refl (omega arith)
