@@ -34,7 +34,7 @@ pub(crate) fn scale_allowed(s: EncoderSettings) -> bool
     (0.0 < x) & (x < 1.0 / 0.0)
 }
 
-pub(crate) fn settings_allowed(s: EncoderSettings) -> bool
+pub fn settings_allowed(s: EncoderSettings) -> bool
     ensures { λ r. ⌜ r ≡ allowed s ⌝ }
 {
     let p = s.picture;
