@@ -19,6 +19,7 @@ use Rattle.json_read.specs.inner.Steps.{more, closed, wrong, separate, parted, 
 use Rattle.json_members.specs.Names.{Entry, membersOf, entriesOf, same, later, lookup}
 use Rattle.json_members.specs.inner.Bytes.{nameIs}
 use Rattle.json_members.specs.inner.Turns.{Turn, Turns, nameless, valueless, unparted, last as lastly, more as furthermore, placeOf, Ascii, Finds, Gets}
+use Rattle.json_members.specs.declared.member.Member.{Member}
 use Rattle.json_members.specs.declared.member.Member.the-variants as M
 use Rattle.json_grammar.specs.declared.scan.Read.{Read}
 use Rattle.json_grammar.specs.declared.scan.Read.the-variants as R
@@ -30,7 +31,7 @@ use Rattle.json_members.proofs.Named.{name-says}
 
 -- ---- blanks by the grammar
 
-ws-skip : {l r : List ℕ} → Ws l r → skip r ≡ r → skip l ≡ r
+pub ws-skip : {l r : List ℕ} → Ws l r → skip r ≡ r → skip l ≡ r
 unfolding skip
 ws-skip G.unspaced h = h
 ws-skip (G.space w) h = ws-skip w h
@@ -47,7 +48,7 @@ unfolding skip
 natural-solid (G.natural G.zero-int f x) = refl
 natural-solid (G.natural (G.int (G.byte {b = b} {r = r} h k) d) f x) = digit-solid b r h
 
-value-solid : {k : ℕ} {l r : List ℕ} → Value k l r → skip l ≡ l
+pub value-solid : {k : ℕ} {l r : List ℕ} → Value k l r → skip l ≡ l
 unfolding skip
 value-solid G.value-false = refl
 value-solid G.value-null = refl
@@ -291,6 +292,9 @@ module _ {s : List ℕ} {at d : ℕ} {w : List ℕ} {i f : ℕ} (o : Going s at 
   -- others are left
   pub goes-on-with : {n v u g : ℕ} → Turns s i d (M.More n v u) → g ≡ cond (nameIs w (drop n s)) v f → Going s at d w u g
   goes-on-with (furthermore z p) y = goes-by z y p
+
+pub turns-told : {s : List ℕ} {i d : ℕ} {r q : Member} → r ≡ q → Turns s i d r → Turns s i d q
+turns-told {s} {i} {d} e t = subst (Turns s i d) e t
 
 -- the next member begins further on
 pub next-falls : {s : List ℕ} {i d n v u : ℕ} → Turns s i d (M.More n v u) → (i < u) × (u ≤ length s)
