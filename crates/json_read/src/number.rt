@@ -1,7 +1,12 @@
 // Numbers.
+ghost use mathlib.Core.Path.{_≡_};
+ghost use mathlib.Core.Bool.{true};
 ghost use mathlib.Core.List.{[], _∷_};
+ghost use Prim.Native.Nat.{_<_};
+ghost use lib.ListN.{length, getD};
 ghost use Rattle.json_grammar.specs.inner.Machine as M;
-ghost use Rattle.json_grammar.specs.inner.Steps.{Lexes};
+ghost use Rattle.json_grammar.specs.inner.Steps.{isDigit, Lexes};
+ghost use Rattle.json_read.specs.inner.Steps.{Minus, Whole};
 use json_grammar::scan::Read;
 use json_grammar::scan::digits;
 use json_grammar::scan::is_digit;
@@ -65,16 +70,10 @@ fn exponent(s: &[u8], at: usize) -> Read
     Read::Past(at)
 }
 
-// Behind a number's digits.
+// Behind a number's digits, where more of it follows.
 fn behind_digits(s: &[u8], at: usize) -> Read
     ensures { λ r. ⌜ Lexes (now (s .entry)) at (M.frac ∷ (M.exp ∷ [])) r ⌝ }
 {
-    if s.len() <= at {
-        return Read::Past(at);
-    }
-    if !is_more(s[at]) {
-        return Read::Past(at);
-    }
     match fraction(s, at) {
         Read::Past(n) => exponent(s, n),
         Read::Stop(n) => Read::Stop(n),
@@ -82,19 +81,44 @@ fn behind_digits(s: &[u8], at: usize) -> Read
     }
 }
 
-// Behind a number's minus.
+// Behind a number's digits, the first of which stands at `at`.
+fn whole(s: &[u8], at: usize) -> usize
+    requires { ⌜ (at < length (now s)) × (isDigit (getD (now s) at 0) ≡ true) ⌝ }
+    ensures { λ r. ⌜ Whole (now (s .entry)) at r ⌝ }
+{
+    if s[at] == b'0' {
+        return at + 1;
+    }
+    digits(s, at + 1)
+}
+
+// Behind the minus of a number, where it has one.
+pub(crate) fn behind_minus(s: &[u8], at: usize) -> usize
+    requires { ⌜ at < length (now s) ⌝ }
+    ensures { λ r. ⌜ Minus (now (s .entry)) at r ⌝ }
+{
+    if s[at] == b'-' {
+        return at + 1;
+    }
+    at
+}
+
+// Behind a number's minus. Most numbers are plain digits, and these are done with here.
 pub(crate) fn natural(s: &[u8], at: usize) -> Read
     ensures { λ r. ⌜ Lexes (now (s .entry)) at (M.natural ∷ []) r ⌝ }
 {
     if s.len() <= at {
         return Read::Stop(at);
     }
-    let b = s[at];
-    if b == b'0' {
-        return behind_digits(s, at + 1);
-    }
-    if !is_digit(b) {
+    if !is_digit(s[at]) {
         return Read::Stop(at);
     }
-    behind_digits(s, digits(s, at + 1))
+    let n = whole(s, at);
+    if s.len() <= n {
+        return Read::Past(n);
+    }
+    if !is_more(s[n]) {
+        return Read::Past(n);
+    }
+    behind_digits(s, n)
 }

@@ -8,6 +8,7 @@ ghost use Rattle.json_grammar.specs.Judge.{Judged};
 ghost use Rattle.json_grammar.specs.inner.Machine as M;
 ghost use Rattle.json_grammar.specs.inner.Steps.{isBlank, Lexes, Reads};
 ghost use Rattle.json_read.specs.inner.Steps.{Parts};
+use crate::number::behind_minus;
 use crate::number::natural;
 use crate::string::string;
 use json_grammar::scan::Read;
@@ -23,18 +24,12 @@ pub enum Next {
     Wrong(usize),
 }
 
-// A value that is no list and no object, at its first byte.
+// A value that is a number or a word, at its first byte.
 fn scalar(s: &[u8], at: usize) -> Read
-    requires { ⌜ (at < length (now s)) × (getD (now s) at 0 ≡ 0x5B → ⊥) × (getD (now s) at 0 ≡ 0x7B → ⊥) × (isBlank (getD (now s) at 0) ≡ false) ⌝ }
+    requires { ⌜ (at < length (now s)) × (getD (now s) at 0 ≡ 0x5B → ⊥) × (getD (now s) at 0 ≡ 0x7B → ⊥) × (getD (now s) at 0 ≡ 0x22 → ⊥) × (isBlank (getD (now s) at 0) ≡ false) ⌝ }
     ensures { λ r. ⌜ Lexes (now (s .entry)) at (M.value ∷ []) r ⌝ }
 {
     let b = s[at];
-    if b == b'"' {
-        return string(s, at + 1);
-    }
-    if b == b'-' {
-        return natural(s, at + 1);
-    }
     if b == b'f' {
         return word(s, at + 1, b"alse");
     }
@@ -44,7 +39,7 @@ fn scalar(s: &[u8], at: usize) -> Read
     if b == b't' {
         return word(s, at + 1, b"rue");
     }
-    natural(s, at)
+    natural(s, behind_minus(s, at))
 }
 
 // The comma or the bracket that closes.
@@ -117,6 +112,9 @@ pub fn read_value(s: &[u8], at: usize, d: usize) -> Read
             return Read::Deep(i);
         }
         return read_object(s, i + 1, d - 1);
+    }
+    if b == b'"' {
+        return string(s, i + 1);
     }
     scalar(s, i)
 }

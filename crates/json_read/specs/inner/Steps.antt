@@ -4,13 +4,24 @@ use mathlib.Core.Bool.{cond}
 use mathlib.Core.List.{List, [], _∷_}
 use Prim.Native.Nat.{ℕ, _+_, _-_, _≤_}
 use lib.Dec.{eqb}
-use lib.ListN.{length, drop}
-use Rattle.json_grammar.specs.inner.Machine.{chars, go, after}
+use lib.ListN.{length, getD, drop}
+use Rattle.json_grammar.specs.inner.Machine.{chars, natural, frac, exp, go, after}
 use Rattle.json_grammar.specs.declared.scan.Read.{Read}
 use Rattle.json_grammar.specs.declared.scan.Read.the-variants as R
 use Rattle.json_grammar.specs.inner.Steps.{seen, place, skip}
 use Rattle.json_read.specs.declared.value.Next.{Next}
 use Rattle.json_read.specs.declared.value.Next.the-variants as N
+
+-- n is behind a minus that stands at `at`, or there is none
+pub data Minus (s : List ℕ) (at : ℕ) : ℕ → Type 0 where
+  minus : getD s at 0 ≡ 0x2D → Minus s at (at + 1)
+  no-minus : (getD s at 0 ≡ 0x2D → ⊥) → Minus s at at
+
+-- the digits of a number from `at` to n: what may follow them is read behind
+pub record Whole (s : List ℕ) (at n : ℕ) : Type 0 where
+  pub same : (d : ℕ) → go d (natural ∷ []) (drop at s) ≡ go d (frac ∷ (exp ∷ [])) (drop n s)
+  pub low : at ≤ n
+  pub high : n ≤ at + (length s - at)
 
 -- one character of a string: the others are read behind it
 pub record Char (s : List ℕ) (at : ℕ) (r : Read) : Type 0 where
