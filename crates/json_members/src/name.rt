@@ -60,8 +60,8 @@ fn four(s: &[u8], at: usize) -> usize
     ((a * 16 + b) * 16 + c) * 16 + d
 }
 
-// The character's number, where it is below 0x80.
-fn code(s: &[u8], at: usize) -> usize
+// The character's number, where it is below 0x80; else some number from 0x80 on.
+pub fn code(s: &[u8], at: usize) -> usize
     ensures { λ r. ⌜ r ≡ codeOf (drop at (now (s .entry))) ⌝ }
 {
     if s.len() <= at {
