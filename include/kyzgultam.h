@@ -40,6 +40,9 @@ enum kz_number {
     KZ_TABLE_LENGTH = 10,  /* a rotary table's length is not P^2 * head_dim; of kz_forward_axes, not P * head_dim / 4 */
     KZ_SCRATCH = 11,       /* the scratch is shorter than kz_forward needs */
     KZ_NOT_FINITE = 12,    /* a value is not finite, in the inputs or at a stage */
+    KZ_CONFIG_TEXT = 13,   /* the text is above 64 KiB, or no RFC 8259 text agrees with a byte of it, or with its end */
+    KZ_CONFIG_DEPTH = 14,  /* a bracket of the text opens level 33 */
+    KZ_CONFIG_VISION = 15, /* the text has no vision_config, or zero heads in it */
     KZ_CHANNEL = 19,       /* a channel's mean and deviation are not allowed: what is stands with the fields */
     KZ_TILE = 20,          /* a tile's index is outside the cut */
     KZ_LIST = 21           /* there are more bad samples than the list has entries */
@@ -228,6 +231,27 @@ struct kz_forward_report kz_forward_axes(struct kz_encoder_settings settings, co
  * long with every grid. These are the lengths that both calls compare with for 7, 9, 10, 5 and 11. Refused with 1, 6.
  */
 struct kz_lengths_report kz_lengths(struct kz_encoder_settings settings, size_t grid_h, size_t grid_w);
+
+struct kz_config_report {
+    uint32_t number;
+    size_t place;                        /* the byte of 13 or 14, counted from 0; with any other number 0 */
+    struct kz_encoder_settings settings; /* with any number but 0 every field of it is 0 */
+};
+
+/*
+ * The settings that a config.json says, whose bytes are lent as they are. Out of vision_config: hidden_size (1024 where
+ * it is absent), num_attention_heads (16), num_hidden_layers (24), intermediate_size (4096), patch_size (14), image_size
+ * (1540) and spatial_merge_size, which is else that of the top level (2); out of text_config: hidden_size (5120), the
+ * text size. head_dim is hidden_size / num_attention_heads, rounded down. Keys are compared after their escapes are
+ * read, and of two alike the last counts. A size is plain digits of at most 2^64 - 1; anything else counts as absent, as
+ * 12.0, 1e3, -0, "14" and null do. All else is skipped. Resize rule, means, deviations, projector_bias and scaling are
+ * those of `lent`, whose sizes are not read.
+ * The text is one of RFC 8259 in UTF-8, at most 65,536 bytes long, with at most 32 brackets open within one another.
+ * Where it is not, the place is the first byte with which no such text agrees, of any depth (13; the text's length where
+ * it ends too early, 0 where it is too long), or the bracket that opens level 33 (14): the one that comes first.
+ * Settings that are given pass as settings of kz_forward: 1 is examined here. Refused with 13, 14, 15, 1.
+ */
+struct kz_config_report kz_config(struct kz_encoder_settings lent, const uint8_t *text, size_t text_len);
 
 /*
  * The number rules, on bit patterns (libnumber.a). Each takes any pattern and returns; the first five and pack and

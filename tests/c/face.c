@@ -952,6 +952,53 @@ static void lengths(void) {
     }
 }
 
+static struct kz_config_report config_of(const char *text) {
+    /* What config.json does not say; the sizes are not read. */
+    static const struct kz_encoder_settings lent = {{9, 9, 9, 2, {1, 2, 3}, {4, 5, 6}}, 9, 9, 9, 9, 9, 9, 1, 0.5f};
+    return kz_config(lent, (const uint8_t *)text, text ? strlen(text) : 0);
+}
+
+/* Every field, the floats by their bits: the struct has padding. */
+static int same_settings(const struct kz_encoder_settings *a, const struct kz_encoder_settings *b) {
+    const struct kz_picture_settings *p = &a->picture, *q = &b->picture;
+    return p->patch_size == q->patch_size && p->spatial_merge_size == q->spatial_merge_size &&
+           p->image_size == q->image_size && p->resize_rule == q->resize_rule &&
+           memcmp(p->mean, q->mean, sizeof p->mean) == 0 && memcmp(p->deviation, q->deviation, sizeof p->deviation) == 0 &&
+           a->hidden_size == b->hidden_size && a->num_heads == b->num_heads && a->head_dim == b->head_dim &&
+           a->num_layers == b->num_layers && a->intermediate_size == b->intermediate_size &&
+           a->text_hidden_size == b->text_hidden_size && a->projector_bias == b->projector_bias &&
+           memcmp(&a->scaling, &b->scaling, sizeof a->scaling) == 0;
+}
+
+static void config(void) {
+    static const struct kz_encoder_settings zeros;
+    static const struct {
+        const char *text;
+        uint32_t number;
+        size_t place;
+    } refusals[] = {
+        {NULL, KZ_CONFIG_TEXT, 0},
+        {"{", KZ_CONFIG_TEXT, 1},
+        {"{\"vision_config\": {},}", KZ_CONFIG_TEXT, 21},
+        {"[[[[[[[[[[[[[[[[[[[[[[[[[[[[[[[[[", KZ_CONFIG_DEPTH, 32},
+        {"{}", KZ_CONFIG_VISION, 0},
+        {"{\"vision_config\": {\"num_attention_heads\": 0}}", KZ_CONFIG_VISION, 0},
+        {"{\"vision_config\": {\"patch_size\": 33}}", KZ_SETTING, 0},
+    };
+    for (size_t i = 0; i < sizeof refusals / sizeof *refusals; i++) {
+        struct kz_config_report r = config_of(refusals[i].text);
+        EXPECT(r.number == refusals[i].number && r.place == refusals[i].place && same_settings(&r.settings, &zeros));
+    }
+    {
+        static const struct kz_encoder_settings right = {
+            {14, 3, 1540, 2, {1, 2, 3}, {4, 5, 6}}, 512, 16, 32, 24, 4096, 5120, 1, 0.5f};
+        struct kz_config_report r =
+            config_of("{\"spatial_merge_size\": 3, \"vision_config\": {\"hidden\\u005fsize\": 512, \"patch_size\": 14.0}}");
+        EXPECT(r.number == KZ_ACCEPTED && r.place == 0 && same_settings(&r.settings, &right));
+        EXPECT(kz_lengths(r.settings, 3, 3).number == KZ_ACCEPTED);
+    }
+}
+
 static void number(void) {
     EXPECT(kz_bf16(0x3F808000) == 0x3F800000 && kz_bf16(0x3F818000) == 0x3F820000);
     EXPECT(kz_bf16(0x7FFFFFFF) == 0x80000000 && kz_bf16(0x7F7FFFFF) == 0x7F800000);
@@ -996,6 +1043,7 @@ int main(void) {
     forward_axes();
     projector_bias();
     lengths();
+    config();
     number();
     packed();
     if (!failed) puts("face.c: every call and every number is as the header says");

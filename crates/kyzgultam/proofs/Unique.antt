@@ -1,5 +1,5 @@
 -- Any two results that satisfy the contract of a public function are equal. Assumes nothing.
-use mathlib.Core.Path.{_≡_}
+use mathlib.Core.Path.{_≡_, sym, ap, _∙_}
 use mathlib.Core.List.{List}
 use Prim.Native.Nat.{ℕ}
 use lib.ListN.{length}
@@ -8,11 +8,13 @@ use Rattle.picture.specs.Preprocess.{preprocessed, patchesOut}
 use Rattle.picture_restore.specs.Restore.{restored, bytesOut}
 use Rattle.picture_tiles.specs.Answer as Tile
 use Rattle.picture_salvage.specs.Salvage.{salvaged, savedOut, listOut}
-use Rattle.kyzgultam.specs.Face.{inner, innerEncoder, preprocessReport, restoreReport, salvageReport, cutReport, tileReport, forwardReport, lengthsReport, placeOf}
+use Rattle.kyzgultam.specs.Face.{inner, innerEncoder, preprocessReport, restoreReport, salvageReport, cutReport, tileReport, forwardReport, lengthsReport, placeOf, configReport, ConfigReports}
 use Rattle.encoder_settings.specs.Lengths.{neededOf}
 use Rattle.encoder.specs.Forward.{encodedOf, outOf, scratchOf}
 use Rattle.encoder.specs.Axes.{encodedAxes, outAxes, scratchAxes}
 use Rattle.encoder.specs.Plain.{encodedPlain, outPlain, scratchPlain}
+use Rattle.config.proofs.Unique.{config-unique}
+use Rattle.kyzgultam.specs.declared.config_file.ConfigReport.{ConfigReport}
 use Rattle.kyzgultam.specs.declared.EncoderSettings.{EncoderSettings}
 use Rattle.kyzgultam.specs.declared.ForwardReport.{ForwardReport}
 use Rattle.kyzgultam.specs.declared.LengthsReport.{LengthsReport}
@@ -52,6 +54,9 @@ Salvages s patches gh gw out list r out′ list′ =
 pub kz-salvage-unique : (s : PictureSettings) (patches : List ℕ) (gh gw : ℕ) (out list : List ℕ) (r r′ : SalvageReport) (out′ out″ list′ list″ : List ℕ)
     → Salvages s patches gh gw out list r out′ list′ → Salvages s patches gh gw out list r′ out″ list″ → (r ≡ r′) × (out′ ≡ out″) × (list′ ≡ list″)
 kz-salvage-unique s patches gh gw out list r r′ out′ out″ list′ list″ a b = (one _ (a .0) (b .0), one _ (a .1) (b .1), one _ (a .2) (b .2))
+
+pub kz-config-unique : (lent : EncoderSettings) (s : List ℕ) (r r′ : ConfigReport) → ConfigReports (innerEncoder lent) s r → ConfigReports (innerEncoder lent) s r′ → r ≡ r′
+kz-config-unique lent s r r′ a b = a .2 ∙ ap configReport (config-unique (innerEncoder lent) s (a .0) (b .0) (a .1) (b .1)) ∙ sym (b .2)
 
 pub kz-cut-unique : (s : PictureSettings) (height width : ℕ) (r r′ : CutReport) → r ≡ cutReport (Tile.cutOf (inner s) height width) → r′ ≡ cutReport (Tile.cutOf (inner s) height width) → r ≡ r′
 kz-cut-unique s height width r r′ = one _

@@ -1,5 +1,7 @@
 -- What the C face hands on and reports. Assumes nothing.
 use mathlib.Core.Bool.{cond, _&&_}
+use mathlib.Core.Path.{_≡_}
+use mathlib.Core.List.{List}
 use Prim.Native.Nat.{ℕ, _+_, _*_}
 use lib.Dec.{leb}
 use Rattle.picture_limits.specs.declared.PictureSettings as P
@@ -14,7 +16,11 @@ use Rattle.encoder_settings.specs.declared.Needed.{Needed}
 use Rattle.encoder_settings.specs.Lengths as Len
 use Rattle.encoder.specs.declared.Encoded.{Encoded}
 use Rattle.encoder.specs.Forward as Fwd
+use Rattle.config.specs.Config as Conf
+use Rattle.config.specs.Config.{Config}
+use Rattle.config.specs.declared.Configured.{Configured}
 use Rattle.kyzgultam.specs.declared.PictureSettings as K
+use Rattle.kyzgultam.specs.declared.config_file.ConfigReport.{ConfigReport}
 use Rattle.kyzgultam.specs.declared.PreprocessReport.{PreprocessReport}
 use Rattle.kyzgultam.specs.declared.RestoreReport.{RestoreReport}
 use Rattle.kyzgultam.specs.declared.PatchPlace.{PatchPlace}
@@ -78,6 +84,39 @@ forwardReport a = record { number = Fwd.number a; tokens = Fwd.tokens a }
 
 abbrev pub lengthsReport : Needed → LengthsReport
 lengthsReport a = record { number = Len.number a; patches = Len.patches a; weights = Len.weights a; tables = Len.tables a; axes = Len.axes a; scratch = Len.scratch a; out = Len.out a }
+
+-- settings as they are handed back
+abbrev pub outer : P.PictureSettings → K.PictureSettings
+outer s =
+    record {
+      «patch_size» = s .«patch_size»;
+      «spatial_merge_size» = s .«spatial_merge_size»;
+      «image_size» = s .«image_size»;
+      «resize_rule» = s .«resize_rule»;
+      mean = s .mean;
+      deviation = s .deviation;
+    }
+
+abbrev pub outerEncoder : E.EncoderSettings → KE.EncoderSettings
+outerEncoder s =
+    record {
+      picture = outer (s .picture);
+      «hidden_size» = s .«hidden_size»;
+      «num_heads» = s .«num_heads»;
+      «head_dim» = s .«head_dim»;
+      «num_layers» = s .«num_layers»;
+      «intermediate_size» = s .«intermediate_size»;
+      «text_hidden_size» = s .«text_hidden_size»;
+      «projector_bias» = s .«projector_bias»;
+      scaling = s .scaling;
+    }
+
+abbrev pub configReport : Configured → ConfigReport
+configReport a = record { number = Conf.numberOf (a .said); place = Conf.placeOf (a .said); settings = outerEncoder (a .settings) }
+
+-- r reports the answer for a text s; there is one answer alone
+abbrev pub ConfigReports : E.EncoderSettings → List ℕ → ConfigReport → Type 0
+ConfigReports lent s r = (a : Configured) × Config lent s a × (r ≡ configReport a)
 
 -- place i·3p² and length 3p² in patches of length n, where p is in 1..32 and the whole patch lies inside
 unfoldable pub placeOf : ℕ → ℕ → ℕ → PatchPlace

@@ -1,0 +1,13 @@
+-- `kyzgultam::config_file::outer_settings` meets its contract. Assumes nothing.
+use borrow.Author.Needs.{needs}
+use Rattle.kyzgultam.proofs.config_file.outer_settings.Statement.{statement}
+use Rattle.kyzgultam.proofs.config_file.outer_settings.Tie as tie
+
+outer-picture-requires : tie.Need-outer-picture-requires
+outer-picture-requires c κs = search needs
+
+returns : tie.Need-returns
+returns c = rw (c .outer-picture .ensures)
+
+pub outer-settings-spec : {M : Type 1} → statement M
+outer-settings-spec = tie.close (tie.spec outer-picture-requires returns)
