@@ -31,6 +31,22 @@ impl From<&crate::EncoderSettings> for EncoderSettings {
     }
 }
 
+impl From<EncoderSettings> for crate::EncoderSettings {
+    fn from(s: EncoderSettings) -> Self {
+        crate::EncoderSettings {
+            picture: s.picture,
+            hidden_size: s.hidden_size,
+            num_heads: s.num_heads,
+            head_dim: s.head_dim,
+            num_layers: s.num_layers,
+            intermediate_size: s.intermediate_size,
+            text_hidden_size: s.text_hidden_size,
+            projector_bias: s.projector_bias != 0,
+            scaling: s.scaling,
+        }
+    }
+}
+
 #[repr(C)]
 pub struct PreprocessReport {
     pub number: u32,
@@ -95,6 +111,13 @@ pub struct LengthsReport {
     pub axes: usize,
     pub scratch: usize,
     pub out: usize,
+}
+
+#[repr(C)]
+pub struct ConfigReport {
+    pub number: u32,
+    pub place: usize,
+    pub settings: EncoderSettings,
 }
 
 extern "C" {
@@ -197,6 +220,8 @@ extern "C" {
     ) -> ForwardReport;
 
     pub fn kz_lengths(settings: EncoderSettings, grid_h: usize, grid_w: usize) -> LengthsReport;
+
+    pub fn kz_config(lent: EncoderSettings, text: *const u8, text_len: usize) -> ConfigReport;
 
     pub fn kz_bf16(x: u32) -> u32;
     pub fn kz_half(h: u16) -> u32;

@@ -9,7 +9,8 @@
 //!
 //! A picture larger than the image size is resized, or, where nothing may be lost, taken tile by tile: [`cut`],
 //! [`preprocess_tile`] and [`restore_tile`]. Patches that [`restore`] refuses for damaged samples, [`salvage`] brings
-//! back without these, and lists them. [`forward`] takes the Rust's rotary tables, [`forward_axes`] small ones.
+//! back without these, and lists them. [`forward`] takes the Rust's rotary tables, [`forward_axes`] small ones. [`config`]
+//! reads settings from a config.json.
 //!
 //! ```
 //! use kyzgultam::{forward_axes, pixtral_preprocess, restore, rope_axes, EncoderSettings, PictureSettings};
@@ -53,6 +54,7 @@
 //! ```
 
 mod calls;
+mod config;
 mod face;
 mod number;
 mod refusal;
@@ -62,6 +64,7 @@ mod settings;
 mod tiles;
 
 pub use calls::{forward, forward_axes, patch, pixtral_preprocess, restore, Patches, Picture, PixtralEncoder};
+pub use config::{config, ConfigRefusal};
 pub use number::{bf16, bf16_pack, bf16_pack_all, bf16_widen, bf16_widen_all};
 pub use number::{exp, half_to_f32, root, tanh};
 pub use refusal::Refusal;

@@ -41,6 +41,12 @@ pub enum Refusal {
     Scratch = 11,
     /// 12: a value is not finite.
     NotFinite = 12,
+    /// 13: a config.json is above 64 KiB, or no RFC 8259 text agrees with a byte of it, or with its end.
+    ConfigText = 13,
+    /// 14: a bracket of a config.json opens level 33.
+    ConfigDepth = 14,
+    /// 15: a config.json has no vision_config, or zero heads in it.
+    ConfigVision = 15,
     /// 19: by its mean and deviation a channel's 256 samples are not all finite, or neither strictly rise nor strictly
     /// fall.
     Channel = 19,
@@ -52,7 +58,7 @@ pub enum Refusal {
 
 impl Refusal {
     /// Every refusal, by number.
-    pub const ALL: [Refusal; 15] = [
+    pub const ALL: [Refusal; 18] = [
         Refusal::Setting,
         Refusal::Side,
         Refusal::RgbLength,
@@ -65,12 +71,15 @@ impl Refusal {
         Refusal::TableLength,
         Refusal::Scratch,
         Refusal::NotFinite,
+        Refusal::ConfigText,
+        Refusal::ConfigDepth,
+        Refusal::ConfigVision,
         Refusal::Channel,
         Refusal::Tile,
         Refusal::List,
     ];
 
-    /// The number, the same as in C and in the documents: 1 to 12, and 19 to 21.
+    /// The number, the same as in C and in the documents: 1 to 15, and 19 to 21.
     pub fn number(self) -> u32 {
         self as u32
     }
@@ -105,6 +114,9 @@ impl fmt::Display for Refusal {
             Refusal::TableLength => "a rotary table's length is not that of the settings",
             Refusal::Scratch => "the scratch is too short",
             Refusal::NotFinite => "a value is not finite, in the inputs or at a stage",
+            Refusal::ConfigText => "the config is above 64 KiB, or it is no JSON text",
+            Refusal::ConfigDepth => "more than 32 brackets of the config are open within one another",
+            Refusal::ConfigVision => "the config has no vision_config, or zero heads in it",
             Refusal::Channel => "a channel's samples are not all finite, or neither strictly rise nor strictly fall",
             Refusal::Tile => "the tile's index is outside the cut of the sweep",
             Refusal::List => "there are more bad samples than the list has entries",
@@ -127,8 +139,8 @@ mod tests {
     }
 
     #[test]
-    #[should_panic(expected = "the archives answer 13: they are of another version")]
+    #[should_panic(expected = "the archives answer 16: they are of another version")]
     fn a_number_between_two_is_none() {
-        let _ = Refusal::check(13);
+        let _ = Refusal::check(16);
     }
 }
