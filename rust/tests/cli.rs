@@ -13,7 +13,7 @@ fn help_fits_a_screen() {
     let folder = Folder::new("help");
     for words in ["--help", "-h", "help", "demo --help", "encode -h", "patches --help", "restore --help"]
         .into_iter()
-        .chain(["salvage --help", "compare --help", "bench --help", "encode x.ppm --help"])
+        .chain(["salvage --help", "compare --help", "config --help", "bench --help", "encode x.ppm --help"])
     {
         let text = folder.done(words);
         assert!(text.starts_with("kz"), "{words}");
@@ -729,4 +729,53 @@ fn demo() {
     assert_eq!(files.len(), 8);
     folder.done(&format!("restore --tiles {} -o d/joined.ppm --settings image=170", files.join(" ")));
     assert_eq!(folder.get("d/joined.ppm"), folder.get("d/oversize.ppm"));
+}
+
+/// A config.json of the settings of `LIST`, but for the lent ones.
+const CONFIG: &str = r#"{"vision_config": {"patch_size": 2, "spatial_merge_size": 2, "image_size": 16, "hidden_size": 8,
+    "num_attention_heads": 2, "num_hidden_layers": 1, "intermediate_size": 5}, "text_config": {"hidden_size": 3}}"#;
+
+#[test]
+fn a_config_is_shown_and_encoded_with() {
+    let folder = Folder::new("config");
+    folder.put("config.json", CONFIG.as_bytes());
+    let own = "mean=0.48145467/0.4578275/0.40821072,deviation=0.26862955/0.2613026/0.2757771";
+    let sizes = "hidden=8,heads=2,head=4,layers=1,intermediate=5,text=3";
+    let list = format!("patch=2,merge=2,image=16,rule=1,{own},{sizes},bias=0,scale=0.5");
+    assert_eq!(folder.done("config config.json"), format!("{list}\n"));
+    let lent = "rule=2,mean=0.25,deviation=0.5,bias=1,scale=0.25";
+    let list =
+        format!("patch=2,merge=2,image=16,rule=2,mean=0.25/0.25/0.25,deviation=0.5/0.5/0.5,{sizes},bias=1,scale=0.25");
+    assert_eq!(folder.done(&format!("config config.json --settings {lent}")), format!("{list}\n"));
+    sweep(&folder, "a.ppm", 8, 8, 5);
+    folder.done(&format!("encode a.ppm -o listed {LIST}"));
+    folder.done("encode a.ppm -o read --config config.json");
+    folder.done(&format!("encode a.ppm -o shown --settings {}", folder.done("config config.json").trim()));
+    assert_eq!(folder.get("listed/a.tokens.npy"), folder.get("read/a.tokens.npy"));
+    assert_eq!(folder.get("listed/a.tokens.npy"), folder.get("shown/a.tokens.npy"));
+}
+
+#[test]
+fn a_config_is_refused_with_its_place() {
+    let folder = Folder::new("config-refused");
+    sweep(&folder, "a.ppm", 8, 8, 5);
+    folder.put("good.json", CONFIG.as_bytes());
+    folder.put("comma.json", b"{\n  \"vision_config\": {},\n}\n");
+    folder.put("deep.json", &b"[".repeat(40));
+    folder.put("long.json", &b" ".repeat(70_000));
+    folder.put("none.json", b"{}");
+    folder.put("wide.json", br#"{"vision_config": {"hidden_size": 4096}}"#);
+    for words in ["config comma.json", "encode a.ppm -o out --config comma.json"] {
+        let caret = "\n  }\n  ^ '\"' is expected\n";
+        folder.fails(1, words, &["comma.json: refused, number 13: ", "line 3, column 1, byte 25", caret]);
+    }
+    folder.fails(1, "config deep.json", &["number 14: ", "column 33, byte 32", "^ this bracket opens level 33\n"]);
+    folder.fails(1, "config long.json", &["long.json: refused, number 13: ", "at most 65,536 bytes"]);
+    folder.fails(1, "config none.json", &["none.json: refused, number 15: "]);
+    folder.fails(1, "config wide.json", &["wide.json: refused, number 1: "]);
+    folder.fails(1, "config nothing.json", &["nothing.json: cannot be read"]);
+    folder.fails(2, "config", &["config takes one file"]);
+    folder.fails(2, "config good.json --settings patch=2", &["patch is what the config says"]);
+    folder.fails(2, "patches a.ppm -o out --config good.json", &["no option --config"]);
+    assert!(!folder.path("out").exists());
 }

@@ -18,8 +18,8 @@ use std::path::{Path, PathBuf};
 
 pub const ENCODE: &str = "\
 kz encode SWEEP.ppm .. -o DIR [--tiles] [--weights FILE] [--tables FILE]
-          [--settings LIST] [--bf16] [--log FILE] [--force | --skip-existing]
-
+          [--config FILE] [--settings LIST] [--bf16] [--log FILE]
+          [--force | --skip-existing]
 Writes the token vectors of each SWEEP (P5 or P6) to DIR/SWEEP.tokens.npy,
 an array of NumPy: rows x columns x text; with --tiles those of each tile, not
 resized (this and --log: `kz patches --help`); with --bf16 rounded to bf16, as
@@ -27,8 +27,8 @@ resized (this and --log: `kz patches --help`); with --bf16 rounded to bf16, as
 endian, in the order of include/kyzgultam.h; full tables: all cosines, then all
 sines. Without --weights they come from a seed, without --tables they are small
 ones for theta 10000. --skip-existing goes on with a list that was cut off.
-
---settings is a list as patch=14,image=560; what it leaves out is built in:
+With --config sizes are a config.json's (`kz config --help`), and --settings
+names none. It is a list as patch=14,image=560; what it leaves out is built in:
   patch 14 (1..32)   hidden 64 (4..2048)  layers 2 (0..48)
   merge 2 (1..4)     heads 4 (1..64)      intermediate 128 (1..8192)
   image 1540         head: hidden / heads text 64 (1..8192)
@@ -36,10 +36,9 @@ ones for theta 10000. --skip-existing goes on with a list that was cut off.
   rule 1 (1, 2)      bias 0 (0, 1)        mean, deviation: as in the Rust
 Rule 1, as in the Rust and in all that was archived before there was a choice,
 cuts each side to image by itself and so squashes a longer sweep; 2 keeps its
-shape. With bias 1 linear_1 and linear_2 have one. A byte becomes (byte / 255 -
-mean) / deviation: one number for all channels or three, as
-mean=0.2,deviation=0.3/0.25/0.3, by which no two bytes may be alike. Where a
-side is above image, what is said of a file names the rule. The file has no
+shape, and is named where it does. With bias 1 linear_1 and linear_2 have one.
+A byte becomes (byte / 255 - mean) / deviation, no two alike: one number for
+all channels or three, as mean=0.2,deviation=0.3/0.25/0.3. The file has no
 settings, so go on with --skip-existing by those that the list was begun with.
 ";
 

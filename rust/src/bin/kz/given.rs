@@ -1,12 +1,13 @@
 //! What stands on the command line after the command.
 
+use crate::config;
 use crate::fail::Fail;
 use crate::model::refused_settings;
 use crate::shown::shown;
 use kyzgultam::{EncoderSettings, PictureSettings, Refusal};
 use std::ffi::{OsStr, OsString};
 use std::os::unix::ffi::OsStrExt;
-use std::path::PathBuf;
+use std::path::{Path, PathBuf};
 
 /// The options without a value.
 const BARE: [&str; 7] = ["--all", "--bf16", "--force", "--large", "--quick", "--skip-existing", "--tiles"];
@@ -115,15 +116,38 @@ impl Given {
         sides.map(Some).ok_or_else(|| Fail::usage(format!("{name} takes HEIGHTxWIDTH, as 36x48")))
     }
 
-    /// The built-in model's settings, with those of `--settings` over them. Whether they are allowed the calls decide.
+    /// The settings of `--config`, or the built-in model's, with those of `--settings` over them. Whether they are allowed
+    /// the calls decide.
     pub fn settings(&self) -> Result<EncoderSettings, Fail> {
+        match self.path("--config") {
+            Some(file) => self.configured(&file),
+            None => Ok(self.listed()?.settings),
+        }
+    }
+
+    /// The settings that a config.json says, with those of `--settings` that it does not say.
+    pub fn configured(&self, file: &Path) -> Result<EncoderSettings, Fail> {
+        let Listed { settings, scale, size } = self.listed()?;
+        if let Some(key) = size {
+            return Err(Fail::usage(format!("--settings: {key} is what the config says; leave it out")));
+        }
+        let lent = EncoderSettings { scaling: scale.unwrap_or(1.0), ..settings };
+        let s = config::settings(&lent, file)?;
+        Ok(EncoderSettings { scaling: scale.unwrap_or((s.head_dim as f32).powf(-0.5)), ..s })
+    }
+
+    fn listed(&self) -> Result<Listed, Fail> {
         let mut s = SMALL;
+        let mut size = None;
         let (mut head, mut bias, mut scale) = (None, 0, None);
         let list = self.option("--settings").map(|v| v.to_string_lossy().into_owned()).unwrap_or_default();
         for pair in list.split(',').filter(|pair| !pair.is_empty()) {
             let (key, value) = pair.split_once('=').unwrap_or((pair, ""));
             let bad = || Fail::usage(format!("--settings: {}: {KEYS}", shown(pair)));
             let number = || decimal(value).ok_or_else(bad);
+            if !["rule", "mean", "deviation", "bias", "scale"].contains(&key) {
+                size = Some(key.to_string());
+            }
             match key {
                 "patch" => s.picture.patch_size = number()?,
                 "merge" => s.picture.spatial_merge_size = number()?,
@@ -150,8 +174,15 @@ impl Given {
         };
         // The f32 nearest to 1 / root of head, for every head that is allowed, as is the Rust's powf with glibc's.
         s.scaling = scale.unwrap_or((1.0 / (s.head_dim as f64).sqrt()) as f32);
-        Ok(s)
+        Ok(Listed { settings: s, scale, size })
     }
+}
+
+/// What `--settings` says: with the built-in settings under it, and the scale and the last size that it names.
+struct Listed {
+    settings: EncoderSettings,
+    scale: Option<f32>,
+    size: Option<String>,
 }
 
 const KEYS: &str = "a list of KEY=NUMBER, parted by commas; keys: patch merge image rule mean deviation hidden heads \

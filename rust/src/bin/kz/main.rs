@@ -2,6 +2,7 @@
 
 mod bench;
 mod compare;
+mod config;
 mod demo;
 mod encode;
 mod fail;
@@ -39,15 +40,15 @@ kz: the Pixtral image encoder, proved; from the command line
   kz restore FILE.npy -o OUT.ppm        the picture that gave the patches
   kz salvage FILE.npy -o OUT.ppm        the picture of damaged patches
   kz compare A.ppm B.ppm [-o OUT.png]   which patches are equal, as a picture
+  kz config CONFIG.json                 the settings that a config.json says
   kz bench                              how long each call takes
 Pictures are binary netpbm, P5 or P6. Patches and token vectors are .npy of
 NumPy, which says its shape; weights and tables plain floats: f32, little-
 endian, in the order of include/kyzgultam.h. Sizes are HEIGHTxWIDTH.
 
   --settings LIST   as rule=2,mean=0.2,deviation=0.25 (`kz encode --help`)
-  --weights, --tables FILE   for encode and bench; built in where not given
-  --tiles           for encode, patches and restore: a sweep above the image
-                    size is not resized, but cut into tiles, a file for each
+  --config, --weights, --tables FILE   for encode; built in where not given
+  --tiles           for encode, patches and restore: not resized, but tiles
   --grid HxW        for restore and salvage of plain floats
   --log FILE        for encode and patches: a line a sweep that shows no pixel
   --force           write over plain files that are there already
@@ -59,12 +60,23 @@ endian, in the order of include/kyzgultam.h. Sizes are HEIGHTxWIDTH.
 
 type Command = (&'static str, &'static str, &'static [&'static str], fn(&Given) -> Result<(), Fail>);
 
-const COMMANDS: [Command; 7] = [
+const COMMANDS: [Command; 8] = [
     ("demo", demo::HELP, &["-o", "--force"], demo::run),
     (
         "encode",
         encode::ENCODE,
-        &["-o", "--tiles", "--weights", "--tables", "--settings", "--bf16", "--log", "--force", "--skip-existing"],
+        &[
+            "-o",
+            "--tiles",
+            "--weights",
+            "--tables",
+            "--config",
+            "--settings",
+            "--bf16",
+            "--log",
+            "--force",
+            "--skip-existing",
+        ],
         encode::encode,
     ),
     (
@@ -76,6 +88,7 @@ const COMMANDS: [Command; 7] = [
     ("restore", restore::HELP, &["-o", "--tiles", "--grid", "--settings", "--force"], restore::run),
     ("salvage", salvage::HELP, &["-o", "--map", "--all", "--grid", "--settings", "--force"], salvage::run),
     ("compare", compare::HELP, &["-o", "--settings", "--force"], compare::run),
+    ("config", config::HELP, &["--settings"], config::run),
     ("bench", bench::HELP, &["--quick", "--large", "--size", "--weights", "--tables", "--settings"], bench::run),
 ];
 

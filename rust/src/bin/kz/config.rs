@@ -1,0 +1,234 @@
+//! `kz config`: the settings of a config.json, or where and why it has none.
+
+use crate::answer;
+use crate::fail::{numbered, Fail};
+use crate::given::Given;
+use crate::shown::shown;
+use crate::source::{unread, Source};
+use kyzgultam::{config, ConfigRefusal, EncoderSettings, Refusal};
+use std::ffi::OsStr;
+use std::os::unix::ffi::OsStrExt;
+use std::path::Path;
+
+pub const HELP: &str = "\
+kz config CONFIG.json [--settings LIST]
+
+Prints the settings that a config.json says, as a list that --settings takes:
+patch, merge, image, hidden, heads, layers and intermediate out of its
+vision_config, text out of its text_config, with the Rust's defaults. Of
+--settings (`kz encode --help`) rule, mean, deviation, bias and scale are used,
+which config.json does not say; scale is else 1 / root of head. `kz encode
+--config CONFIG.json` takes the settings from there. Where the file is no JSON,
+or has more than 32 brackets open, the answer shows the line, with a caret
+under the byte, and what is expected there. Exit status 1 where it is refused.
+";
+
+/// What the call takes at most.
+const MOST: usize = 65_536;
+
+pub fn run(given: &Given) -> Result<(), Fail> {
+    let [file] = &given.files[..] else {
+        return Err(Fail::usage("config takes one file, CONFIG.json"));
+    };
+    answer(format_args!("{}", listed(&given.configured(file)?)))
+}
+
+/// The settings of a file; what it does not say is that of `lent`.
+pub fn settings(lent: &EncoderSettings, file: &Path) -> Result<EncoderSettings, Fail> {
+    let mut source = Source::open(file)?;
+    // One byte more than the call takes tells that there are too many.
+    let text = source.look(MOST + 1).map_err(unread(file))?;
+    config(lent, text).map_err(|refused| Fail::file(file, explained(lent, text, refused)))
+}
+
+/// The settings as `--settings` takes them.
+fn listed(s: &EncoderSettings) -> String {
+    let p = &s.picture;
+    let channels = |c: &[f32; 3]| format!("{}/{}/{}", c[0], c[1], c[2]);
+    format!(
+        "patch={},merge={},image={},rule={},mean={},deviation={},hidden={},heads={},head={},layers={},intermediate={},\
+         text={},bias={},scale={}",
+        p.patch_size,
+        p.spatial_merge_size,
+        p.image_size,
+        p.resize_rule,
+        channels(&p.mean),
+        channels(&p.deviation),
+        s.hidden_size,
+        s.num_heads,
+        s.head_dim,
+        s.num_layers,
+        s.intermediate_size,
+        s.text_hidden_size,
+        usize::from(s.projector_bias),
+        s.scaling
+    )
+}
+
+/// A refusal in words; of 13 and 14 with the place, the line and a caret under the byte.
+fn explained(lent: &EncoderSettings, text: &[u8], refused: ConfigRefusal) -> String {
+    let ConfigRefusal { refusal, place } = refused;
+    let what = match refusal {
+        Refusal::ConfigText if text.len() > MOST => {
+            return numbered(refusal, "give a config of at most 65,536 bytes");
+        }
+        Refusal::ConfigText => expected(lent, &text[..place]),
+        Refusal::ConfigDepth => "this bracket opens level 33".into(),
+        Refusal::ConfigVision => return numbered(refusal, "give the config.json of a model with a Pixtral encoder"),
+        _ => return numbered(refusal, "`kz encode --help` has the ranges"),
+    };
+    let spot = Spot::of(text, place);
+    let advice = format!("line {}, column {}, byte {place}", spot.line, spot.column);
+    format!("{}\n  {}\n  {}^ {what}", numbered(refusal, advice), spot.shown, " ".repeat(spot.caret))
+}
+
+/// Where a byte stands, for people: its line and column, counted from 1, the line, and how far along a caret goes.
+struct Spot {
+    line: usize,
+    column: usize,
+    shown: String,
+    caret: usize,
+}
+
+/// The most characters of a line that are shown before the byte, and behind it.
+const AROUND: usize = 50;
+
+impl Spot {
+    fn of(text: &[u8], place: usize) -> Spot {
+        let start = text[..place].iter().rposition(|b| *b == b'\n').map_or(0, |i| i + 1);
+        let end = text[place..].iter().position(|b| *b == b'\n').map_or(text.len(), |i| place + i);
+        let characters = |bytes: &[u8]| String::from_utf8_lossy(bytes).chars().collect::<Vec<_>>();
+        let (before, behind) = (characters(&text[start..place]), characters(&text[place..end]));
+        let cut = before.len().saturating_sub(AROUND);
+        let words = |characters: &[char]| {
+            let text: String = characters.iter().collect();
+            // No text is printed as no text, where a name would be ''.
+            if text.is_empty() {
+                text
+            } else {
+                shown(OsStr::from_bytes(text.as_bytes())).to_string()
+            }
+        };
+        let front = format!("{}{}", if cut > 0 { "…" } else { "" }, words(&before[cut..]));
+        let back = words(&behind[..behind.len().min(AROUND)]);
+        Spot {
+            line: 1 + text[..start].iter().filter(|b| **b == b'\n').count(),
+            column: 1 + before.len(),
+            caret: front.chars().count(),
+            shown: front + &back + if behind.len() > AROUND { "…" } else { "" },
+        }
+    }
+}
+
+/// What may stand behind the front of a text. The reader itself is asked: a byte is expected where it does not stop.
+fn expected(lent: &EncoderSettings, front: &[u8]) -> String {
+    let stops =
+        |text: &[u8]| config(lent, text) == Err(ConfigRefusal { refusal: Refusal::ConfigText, place: front.len() });
+    if front.len() == MOST {
+        return "more is expected, and there is no room for it".into();
+    }
+    let mut text = front.to_vec();
+    let mut may = [false; 256];
+    for byte in 0..=255 {
+        text.push(byte);
+        may[usize::from(byte)] = !stops(&text);
+        text.pop();
+    }
+    listed_bytes(&may, !stops(front))
+}
+
+/// A set of bytes, and the end, in words.
+fn listed_bytes(may: &[bool; 256], end: bool) -> String {
+    let mut rest = *may;
+    let mut words: Vec<String> = vec![];
+    let mut take = |bytes: &[u8], word: &str| {
+        if bytes.iter().all(|b| rest[usize::from(*b)]) {
+            words.push(word.into());
+            bytes.iter().for_each(|b| rest[usize::from(*b)] = false);
+        }
+    };
+    if may[usize::from(b'~')] {
+        return "a character of the string is expected".into();
+    }
+    if may[0x80..0xC0].contains(&true) {
+        return "the next byte of a character in UTF-8 is expected".into();
+    }
+    take(b"\"[{-0123456789tfn", "a value");
+    take(b"0123456789abcdefABCDEF", "a hex digit");
+    take(b"0123456789", "a digit");
+    // Blanks are expected nearly everywhere, and nobody waits for them.
+    b" \t\n\r".iter().for_each(|b| rest[usize::from(*b)] = false);
+    words.extend((0..=255u8).filter(|b| rest[usize::from(*b)]).map(|b| format!("'{}'", char::from(b))));
+    if end {
+        words.push("the end".into());
+    }
+    match words.split_last() {
+        None => "nothing is expected".into(),
+        Some((last, [])) => format!("{last} is expected"),
+        Some((last, others)) => format!("{} or {last} is expected", others.join(", ")),
+    }
+}
+
+#[cfg(test)]
+mod tests {
+    use super::*;
+
+    fn said(text: &[u8]) -> String {
+        let lent = EncoderSettings::default();
+        let refused = config(&lent, text).unwrap_err();
+        explained(&lent, text, refused)
+    }
+
+    #[test]
+    fn a_caret_stands_under_the_byte() {
+        assert_eq!(
+            said(b"{\"vision_config\":\n  {\"patch_size\": 014}}\n"),
+            "refused, number 13: the config is above 64 KiB, or it is no JSON text; line 2, column 19, byte 36\n\
+             \x20   {\"patch_size\": 014}}\n\
+             \x20                   ^ ',', '.', 'E', 'e' or '}' is expected"
+        );
+    }
+
+    #[test]
+    fn what_is_expected() {
+        for (text, words) in [
+            (&b""[..], "a value is expected"),
+            (b"[1,]", "a value is expected"),
+            (b"[", "a value or ']' is expected"),
+            (b"{", "'\"' or '}' is expected"),
+            (b"{\"a\"", "':' is expected"),
+            (b"{} x", "the end is expected"),
+            (b"-x", "a digit is expected"),
+            (b"\"\\x", "'\"', '/', '\\', 'b', 'f', 'n', 'r', 't' or 'u' is expected"),
+            (b"\"\\u12g", "a hex digit is expected"),
+            (b"\"a\nb\"", "a character of the string is expected"),
+            (b"\"\xe2\x82\"", "the next byte of a character in UTF-8 is expected"),
+            (b"nul!", "'l' is expected"),
+        ] {
+            assert!(said(text).ends_with(&format!("^ {words}")), "{}", said(text));
+        }
+    }
+
+    #[test]
+    fn a_long_line_is_cut() {
+        let text = format!("[{}x{}]", "1,".repeat(100), "é".repeat(100));
+        let words = said(text.as_bytes());
+        let lines: Vec<&str> = words.lines().collect();
+        assert_eq!(lines.len(), 3);
+        assert_eq!(lines[1], format!("  …{}x{}…", "1,".repeat(25), "é".repeat(49)));
+        assert_eq!(lines[2].chars().position(|c| c == '^'), lines[1].chars().position(|c| c == 'x'));
+    }
+
+    #[test]
+    fn control_bytes_do_not_reach_a_terminal() {
+        let words = said(b"{\"a\": \"\x1b[31m\"}");
+        assert!(words.contains("\\u{1b}[31m") && !words.contains('\x1b'), "{words}");
+    }
+
+    #[test]
+    fn depth_and_length() {
+        let words = said(&b"[".repeat(33));
+        assert!(words.contains("number 14") && words.contains("column 33") && words.ends_with("level 33"), "{words}");
+        assert!(said(&b" ".repeat(65_537)).ends_with("give a config of at most 65,536 bytes"));
+    }
+}
