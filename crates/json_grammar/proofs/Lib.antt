@@ -8,3 +8,4 @@ pub mod Judged
 pub mod Verdict
 pub mod Steps
 pub mod Lexing
+pub mod Unique

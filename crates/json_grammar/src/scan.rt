@@ -1,8 +1,8 @@
-// Blanks, digits, words, and one byte of a range.
+// Blanks, digits and words.
 ghost use mathlib.Core.Path.{_≡_};
 ghost use mathlib.Core.List.{[], _∷_};
 ghost use Rattle.json_grammar.specs.inner.Machine as M;
-ghost use Rattle.json_grammar.specs.inner.Steps.{isBlank, isDigit, isMore, letters, Skips, Lexes, LexesTo, Reaches};
+ghost use Rattle.json_grammar.specs.inner.Steps.{isBlank, isDigit, isMore, letters, Skips, Lexes, LexesTo};
 
 pub enum Read {
     // what is behind
@@ -95,21 +95,4 @@ pub fn word(s: &[u8], at: usize, w: &[u8]) -> Read
         j += 1;
     }
     Read::Past(i)
-}
-
-// Behind one byte from low to high.
-pub fn one_of(s: &[u8], at: usize, low: u8, high: u8) -> Read
-    ensures { λ r. ⌜ Reaches (now (s .entry)) at low high [] r ⌝ }
-{
-    if s.len() <= at {
-        return Read::Stop(at);
-    }
-    let b = s[at];
-    if b < low {
-        return Read::Stop(at);
-    }
-    if high < b {
-        return Read::Stop(at);
-    }
-    Read::Past(at + 1)
 }

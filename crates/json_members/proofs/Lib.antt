@@ -2,3 +2,4 @@ pub mod Suffix
 pub mod Named
 pub mod Finding
 pub mod Sizing
+pub mod Unique

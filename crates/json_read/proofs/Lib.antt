@@ -1,3 +1,4 @@
 pub mod Characters
 pub mod Values
 pub mod Numbers
+pub mod Unique

@@ -4,10 +4,9 @@ ghost use mathlib.Core.List.{[], _∷_};
 ghost use Prim.Native.Nat.{_<_};
 ghost use lib.ListN.{length, getD};
 ghost use Rattle.json_grammar.specs.inner.Machine as M;
-ghost use Rattle.json_grammar.specs.inner.Steps.{Lexes, Reaches};
-ghost use Rattle.json_read.specs.inner.Steps.{Char};
+ghost use Rattle.json_grammar.specs.inner.Steps.{Lexes};
+ghost use Rattle.json_read.specs.inner.Steps.{Reaches, Char};
 use json_grammar::scan::Read;
-use json_grammar::scan::one_of;
 
 fn hex(s: &[u8], at: usize) -> Read
     ensures { λ r. ⌜ Lexes (now (s .entry)) at (M.hex ∷ []) r ⌝ }
@@ -70,6 +69,23 @@ fn escape(s: &[u8], at: usize) -> Read
         b'u' => hex_four(s, at + 1),
         _ => Read::Stop(at),
     }
+}
+
+// Behind one byte from low to high.
+fn one_of(s: &[u8], at: usize, low: u8, high: u8) -> Read
+    ensures { λ r. ⌜ Reaches (now (s .entry)) at low high [] r ⌝ }
+{
+    if s.len() <= at {
+        return Read::Stop(at);
+    }
+    let b = s[at];
+    if b < low {
+        return Read::Stop(at);
+    }
+    if high < b {
+        return Read::Stop(at);
+    }
+    Read::Past(at + 1)
 }
 
 // The second byte of a character from low to high, and a third.

@@ -5,7 +5,7 @@ use mathlib.Core.List.{List, [], _∷_}
 use Prim.Native.Nat.{ℕ, _+_, _-_, _≤_}
 use lib.Dec.{eqb, leb}
 use lib.ListN.{length, drop}
-use Rattle.json_grammar.specs.inner.Machine.{Class, lowest, highest, Sym, range, one, Out, past, stop, deep, go}
+use Rattle.json_grammar.specs.inner.Machine.{Sym, one, Out, past, stop, deep, go}
 use Rattle.json_grammar.specs.declared.scan.Read.{Read}
 use Rattle.json_grammar.specs.declared.scan.Read.the-variants as R
 
@@ -53,10 +53,6 @@ pub record Lexes (s : List ℕ) (at : ℕ) (α : List Sym) (r : Read) : Type 0 w
 
 abbrev pub LexesTo : List ℕ → ℕ → List Sym → ℕ → Type 0
 LexesTo s at α n = Lexes s at α (R.Past n)
-
--- a byte from low to high, and then α
-pub record Reaches (s : List ℕ) (at low high : ℕ) (α : List Sym) (r : Read) : Type 0 where
-  pub of : (c : Class) → lowest c ≡ low → highest c ≡ high → Lexes s at (range c ∷ α) r
 
 unfoldable pub letters : List ℕ → List Sym
 letters [] = []

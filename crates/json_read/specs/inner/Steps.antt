@@ -5,10 +5,10 @@ use mathlib.Core.List.{List, [], _∷_}
 use Prim.Native.Nat.{ℕ, _+_, _-_, _≤_}
 use lib.Dec.{eqb}
 use lib.ListN.{length, getD, drop}
-use Rattle.json_grammar.specs.inner.Machine.{chars, natural, frac, exp, go, after}
+use Rattle.json_grammar.specs.inner.Machine.{Class, lowest, highest, Sym, range, chars, natural, frac, exp, go, after}
 use Rattle.json_grammar.specs.declared.scan.Read.{Read}
 use Rattle.json_grammar.specs.declared.scan.Read.the-variants as R
-use Rattle.json_grammar.specs.inner.Steps.{seen, place, skip}
+use Rattle.json_grammar.specs.inner.Steps.{seen, place, Lexes, skip}
 use Rattle.json_read.specs.declared.value.Next.{Next}
 use Rattle.json_read.specs.declared.value.Next.the-variants as N
 
@@ -22,6 +22,10 @@ pub record Whole (s : List ℕ) (at n : ℕ) : Type 0 where
   pub same : (d : ℕ) → go d (natural ∷ []) (drop at s) ≡ go d (frac ∷ (exp ∷ [])) (drop n s)
   pub low : at ≤ n
   pub high : n ≤ at + (length s - at)
+
+-- a byte from low to high, and then α
+pub record Reaches (s : List ℕ) (at low high : ℕ) (α : List Sym) (r : Read) : Type 0 where
+  pub of : (c : Class) → lowest c ≡ low → highest c ≡ high → Lexes s at (range c ∷ α) r
 
 -- one character of a string: the others are read behind it
 pub record Char (s : List ℕ) (at : ℕ) (r : Read) : Type 0 where

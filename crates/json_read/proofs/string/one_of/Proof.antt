@@ -1,16 +1,16 @@
--- `scan::one_of` meets its contract. Assumes nothing.
+-- `string::one_of` meets its contract. Assumes nothing.
 use mathlib.Core.Path.{refl, sym, subst}
 use mathlib.Core.List.{[]}
 use Prim.Native.Nat.{ℕ, _<_}
 use native.Mathlib.Omega.{arith}
 use lib.ListN.{getD}
 use Rattle.json_grammar.specs.inner.Machine as M
 use Rattle.json_grammar.proofs.Picks.{at}
 use Rattle.json_grammar.proofs.Steps.{ends, stops, closes}
 use Rattle.json_grammar.proofs.Lexing.{class-low, class-high, class-in}
 use borrow.Author.Needs.{needs}
-use Rattle.json_grammar.proofs.scan.one_of.Statement.{statement}
-use Rattle.json_grammar.proofs.scan.one_of.Tie as tie
+use Rattle.json_read.proofs.string.one_of.Statement.{statement}
+use Rattle.json_read.proofs.string.one_of.Tie as tie
 
 returns : tie.Need-returns
 unfolding M.ready M.nullable
