@@ -1,13 +1,13 @@
 -- Laws of records: the first of a text, and one after another. Assumes nothing.
-use mathlib.Core.Path.{_≡_, refl, sym, ap, subst, _∙_}
+use mathlib.Core.Path.{_≡_, sym, subst}
 use mathlib.Core.Bool.{Bool, true, false}
 use mathlib.Core.List.{List, [], _∷_}
-use Prim.Native.Nat.{ℕ, suc, _+_, _-_, _≤_, _<_}
+use Prim.Native.Nat.{ℕ, _+_, _-_, _≤_, _<_}
 use native.Mathlib.Nat.{le-refl}
 use native.Mathlib.Omega.{arith}
 use borrow.Author.Tests.{lt-ltb, le-ltb}
 use lib.ListN.{length, take, drop, length-drop, drop-of-length-le}
-use lib.Seq.{take-all, drop-drop, drop-cons}
+use lib.Seq.{take-all, drop-drop}
 use Rattle.buffers.specs.Region.{region}
 use Rattle.config_replay.specs.declared.record.Step.{Step}
 use Rattle.config_replay.specs.declared.replay.Counts.{Counts}

@@ -1,10 +1,10 @@
 -- Any two results that satisfy the contract of a public function are equal. Assumes nothing.
-use mathlib.Core.Path.{_≡_, refl, sym, ap, _∙_}
+use mathlib.Core.Path.{_≡_, sym, ap, _∙_}
 use mathlib.Core.List.{List}
 use Prim.Native.Nat.{ℕ, _+_, _-_, _≤_}
 use native.Mathlib.Omega.{arith}
 use lib.ListN.{length, drop, length-drop}
-use Rattle.json_grammar.specs.inner.Machine.{Sym, Out, past, stop, deep}
+use Rattle.json_grammar.specs.inner.Machine.{Sym}
 use Rattle.json_grammar.specs.inner.Steps.{seen, place, Reads, Lexes, LexesTo, Skips}
 use Rattle.json_grammar.specs.declared.scan.Read.{Read}
 use Rattle.json_grammar.specs.declared.scan.Read.the-variants as R

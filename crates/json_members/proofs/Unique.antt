@@ -2,10 +2,8 @@
 -- to, and the others are here. Assumes nothing.
 use mathlib.Core.Path.{_≡_, refl, sym, ap, subst, _∙_}
 use mathlib.Core.List.{List, [], _∷_}
-use mathlib.Core.Option.{Option}
-use Prim.Native.Nat.{ℕ, _+_}
+use Prim.Native.Nat.{ℕ}
 use native.Mathlib.Omega.{arith}
-use lib.ListN.{drop}
 use Rattle.json_grammar.specs.declared.scan.Read.{Read}
 use Rattle.json_grammar.specs.declared.scan.Read.the-variants as R
 use Rattle.json_grammar.specs.inner.Machine.{value, key, colon}
@@ -13,12 +11,10 @@ use Rattle.json_grammar.specs.inner.Steps.{place, Lexes, Skips, Reads}
 use Rattle.json_grammar.proofs.Unique.{skips-unique, lexes-unique, reads-unique}
 use Rattle.json_read.specs.inner.Steps.{partPlace, Parts}
 use Rattle.json_read.specs.declared.value.Next.{Next}
-use Rattle.json_read.specs.declared.value.Next.the-variants as N
 use Rattle.json_read.proofs.Unique.{part-unique}
 use Rattle.json_members.specs.inner.Bytes.{sized, sizeAt}
 use Rattle.json_members.specs.inner.Turns.{Turn, Turns, nameless, valueless, unparted, last, more}
 use Rattle.json_members.specs.declared.member.Member.{Member}
-use Rattle.json_members.specs.declared.member.Member.the-variants as M
 use Rattle.json_members.specs.declared.size.Size.{Size}
 use Rattle.json_members.specs.declared.size.Size.the-variants as S
 

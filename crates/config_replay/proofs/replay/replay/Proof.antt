@@ -1,8 +1,7 @@
 -- `replay::replay` meets its contract. Assumes nothing.
 use borrow.Author.Needs.{needs}
-use Prim.Native.Nat.{ℕ, _+_, _-_, _≤_}
+use Prim.Native.Nat.{_+_, _-_, _≤_}
 use native.Mathlib.Omega.{arith}
-use mathlib.Core.Path.{_≡_, refl, sym}
 use lib.ListN.{length, drop}
 use Rattle.config_replay.specs.Record.{none, Steps}
 use Rattle.config_replay.proofs.Records.{rest, Leads, turn, ends, counted-sum}
