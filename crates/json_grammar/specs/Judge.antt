@@ -31,6 +31,8 @@ pub record Deepened (d : ℕ) (s : List ℕ) (n : ℕ) : Type 0 where
   pub deeper : Begins (suc d) (take (suc n) s)
   pub refused : Begins d (take (suc n) s) → ⊥
 
+-- The answer of a reader that takes at most d levels, for the bytes s: they are such a text; or they are none, and it
+-- stops at byte n, or a level too many is opened there
 unfoldable pub Judged : ℕ → List ℕ → Read → Type 0
 Judged d s (R.Past n) = (n ≡ length s) × Text d s
 Judged d s (R.Stop n) = Stopped d s n
