@@ -45,7 +45,12 @@ enum kz_number {
     KZ_CONFIG_VISION = 15, /* the text has no vision_config, or zero heads in it */
     KZ_CHANNEL = 19,       /* a channel's mean and deviation are not allowed: what is stands with the fields */
     KZ_TILE = 20,          /* a tile's index is outside the cut */
-    KZ_LIST = 21           /* there are more bad samples than the list has entries */
+    KZ_LIST = 21,          /* there are more bad samples than the list has entries */
+    KZ_KEY_HELD = 23,      /* the pool holds the key already */
+    KZ_NO_VECTORS = 24,    /* no vectors are given */
+    KZ_POOL_FULL = 25,     /* 64 results are held, or floats held plus new ones exceed the slice */
+    KZ_KEY_UNKNOWN = 26,   /* the pool does not hold the key */
+    KZ_POOL_SLICE = 27     /* the pool was not made for a slice of this length */
 };
 
 /*

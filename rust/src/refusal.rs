@@ -54,11 +54,21 @@ pub enum Refusal {
     Tile = 20,
     /// 21: there are more bad samples than the list of [`salvage`](crate::salvage) has entries.
     List = 21,
+    /// 23: the pool holds the key already.
+    KeyHeld = 23,
+    /// 24: no vectors are given.
+    NoVectors = 24,
+    /// 25: the pool holds 64 results, or the floats held and the new ones together are more than the slice has.
+    PoolFull = 25,
+    /// 26: the pool does not hold the key.
+    KeyUnknown = 26,
+    /// 27: the pool was not made for a slice of this length. [`Pool`](crate::Pool) never gives it.
+    PoolSlice = 27,
 }
 
 impl Refusal {
     /// Every refusal, by number.
-    pub const ALL: [Refusal; 18] = [
+    pub const ALL: [Refusal; 23] = [
         Refusal::Setting,
         Refusal::Side,
         Refusal::RgbLength,
@@ -77,9 +87,14 @@ impl Refusal {
         Refusal::Channel,
         Refusal::Tile,
         Refusal::List,
+        Refusal::KeyHeld,
+        Refusal::NoVectors,
+        Refusal::PoolFull,
+        Refusal::KeyUnknown,
+        Refusal::PoolSlice,
     ];
 
-    /// The number, the same as in C and in the documents: 1 to 15, and 19 to 21.
+    /// The number, the same as in C and in the documents: 1 to 15, 19 to 21, and 23 to 27.
     pub fn number(self) -> u32 {
         self as u32
     }
@@ -120,6 +135,11 @@ impl fmt::Display for Refusal {
             Refusal::Channel => "a channel's samples are not all finite, or neither strictly rise nor strictly fall",
             Refusal::Tile => "the tile's index is outside the cut of the sweep",
             Refusal::List => "there are more bad samples than the list has entries",
+            Refusal::KeyHeld => "the pool holds the key already",
+            Refusal::NoVectors => "no vectors are given",
+            Refusal::PoolFull => "the pool holds 64 results, or its slice has no room for these vectors",
+            Refusal::KeyUnknown => "the pool does not hold the key",
+            Refusal::PoolSlice => "the pool was not made for a slice of this length",
         })
     }
 }

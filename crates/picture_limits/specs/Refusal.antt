@@ -2,7 +2,7 @@
 use mathlib.Core.Bool.{Bool, true, false}
 use Prim.Native.Nat.{ℕ, zero, suc}
 use Rattle.picture_limits.specs.declared.Refusal as D
-use Rattle.picture_limits.specs.declared.Refusal.the-variants.{Setting, Side, RgbLength, ImageSize, Output, Grid, PatchesLength, Sample, WeightsLength, TableLength, Scratch, NotFinite, ConfigText, ConfigDepth, ConfigVision, Channel, Tile, List, Tokens}
+use Rattle.picture_limits.specs.declared.Refusal.the-variants.{Setting, Side, RgbLength, ImageSize, Output, Grid, PatchesLength, Sample, WeightsLength, TableLength, Scratch, NotFinite, ConfigText, ConfigDepth, ConfigVision, Channel, Tile, List, Tokens, KeyHeld, NoVectors, PoolFull, KeyUnknown, PoolSlice}
 
 abbrev pub number : D.Refusal → ℕ
 number Setting = 1
@@ -24,6 +24,11 @@ number Channel = 19
 number Tile = 20
 number List = 21
 number Tokens = 22
+number KeyHeld = 23
+number NoVectors = 24
+number PoolFull = 25
+number KeyUnknown = 26
+number PoolSlice = 27
 
 -- a size that is reported beside the number n: 0 for every size of a refusal
 abbrev pub reported : ℕ → ℕ → ℕ

@@ -10,7 +10,7 @@ pub struct PictureSettings {
     pub deviation: [f32; 3],
 }
 
-// Why a call is refused, in the order of the papers' numbers: 1 to 15, and 19 to 22.
+// Why a call is refused, in the order of the papers' numbers: 1 to 15, and 19 to 27.
 pub enum Refusal {
     Setting,
     Side,
@@ -31,6 +31,11 @@ pub enum Refusal {
     Tile,
     List,
     Tokens,
+    KeyHeld,
+    NoVectors,
+    PoolFull,
+    KeyUnknown,
+    PoolSlice,
 }
 
 // A part of a picture: `height` rows from row `top` on and `width` columns from column `left` on.

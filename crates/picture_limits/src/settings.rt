@@ -37,6 +37,11 @@ pub fn number(r: Refusal) -> u32
         Refusal::Tile => 20,
         Refusal::List => 21,
         Refusal::Tokens => 22,
+        Refusal::KeyHeld => 23,
+        Refusal::NoVectors => 24,
+        Refusal::PoolFull => 25,
+        Refusal::KeyUnknown => 26,
+        Refusal::PoolSlice => 27,
     }
 }
 

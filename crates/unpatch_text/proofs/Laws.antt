@@ -12,7 +12,7 @@ use lib.Dec.{eqb, ltb, leb}
 use lib.ListN.{length, getD}
 use Rattle.picture_limits.specs.declared.PictureSettings.{PictureSettings}
 use Rattle.picture_limits.specs.declared.Refusal.{Refusal}
-use Rattle.picture_limits.specs.declared.Refusal.the-variants.{Setting, Side, RgbLength, ImageSize, Output, Grid, PatchesLength, Sample, WeightsLength, TableLength, Scratch, NotFinite, ConfigText, ConfigDepth, ConfigVision, Channel, Tile}
+use Rattle.picture_limits.specs.declared.Refusal.the-variants.{Setting, Side, RgbLength, ImageSize, Output, Grid, PatchesLength, Sample, WeightsLength, TableLength, Scratch, NotFinite, ConfigText, ConfigDepth, ConfigVision, Channel, Tile, KeyHeld, NoVectors, PoolFull, KeyUnknown, PoolSlice}
 use Rattle.picture.specs.declared.Preprocessed.{Preprocessed}
 use Rattle.picture.specs.declared.Preprocessed.the-variants as P
 use Rattle.picture_restore.specs.declared.Restored.{Restored}
@@ -75,6 +75,11 @@ refused-differs Channel = digit-there 19 49 refl (omega arith)
 refused-differs Tile = digit-there 20 50 refl (omega arith)
 refused-differs Refusal.List = digit-there 21 50 refl (omega arith)
 refused-differs Refusal.Tokens = digit-there 22 50 refl (omega arith)
+refused-differs KeyHeld = digit-there 23 50 refl (omega arith)
+refused-differs NoVectors = digit-there 24 50 refl (omega arith)
+refused-differs PoolFull = digit-there 25 50 refl (omega arith)
+refused-differs KeyUnknown = digit-there 26 50 refl (omega arith)
+refused-differs PoolSlice = digit-there 27 50 refl (omega arith)
 
 grid-differs : (a b d : ℕ) (l : List ℕ) → gridLine a b d ++ l ≡ outsideLine → ⊥
 unfolding gridLine

@@ -9,7 +9,7 @@ use lib.ListN.{length, drop, length-append, length-take}
 use Rattle.buffers.specs.Rows.{rows}
 use Rattle.buffers.specs.Region.{region}
 use Rattle.picture_limits.specs.declared.Refusal.{Refusal}
-use Rattle.picture_limits.specs.declared.Refusal.the-variants.{Setting, Side, RgbLength, ImageSize, Output, Grid, PatchesLength, Sample, WeightsLength, TableLength, Scratch, NotFinite, ConfigText, ConfigDepth, ConfigVision, Channel, Tile}
+use Rattle.picture_limits.specs.declared.Refusal.the-variants.{Setting, Side, RgbLength, ImageSize, Output, Grid, PatchesLength, Sample, WeightsLength, TableLength, Scratch, NotFinite, ConfigText, ConfigDepth, ConfigVision, Channel, Tile, KeyHeld, NoVectors, PoolFull, KeyUnknown, PoolSlice}
 use Rattle.picture_limits.specs.Refusal.{number}
 use Rattle.picture_limits.proofs.Places.{times}
 use Rattle.unpatch_text.specs.Print.{decimalText, refusedLine, gridLine, rowLine, rowLines}
@@ -24,7 +24,7 @@ digits-le (suc k) n h = go (decLt n 10) (λ l. digits-le k (n / 10) l)
     go (yes l) r = omega (arith, ap length (digits-one n l))
     go (no l) r = omega (arith, ap length (digits-more n (omega arith)), length-append (decimalText (n / 10)) ((48 + n % 10) ∷ []), r (omega arith))
 
-number-le : (r : Refusal) → number r ≤ 22
+number-le : (r : Refusal) → number r ≤ 27
 number-le Setting = omega arith
 number-le Side = omega arith
 number-le RgbLength = omega arith
@@ -44,6 +44,11 @@ number-le Channel = omega arith
 number-le Tile = omega arith
 number-le Refusal.List = omega arith
 number-le Refusal.Tokens = omega arith
+number-le KeyHeld = omega arith
+number-le NoVectors = omega arith
+number-le PoolFull = omega arith
+number-le KeyUnknown = omega arith
+number-le PoolSlice = omega arith
 
 pub refused-short : (r : Refusal) → length (refusedLine (number r)) ≤ 25094
 refused-short r = omega (arith, length-refused (number r), digits-le 1 (number r) (omega (arith, number-le r)))

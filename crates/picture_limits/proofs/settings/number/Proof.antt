@@ -1,4 +1,4 @@
--- `settings::number` meets its contract. Assumes nothing.
+-- `picture_limits::settings::number` meets its contract: each arm has the number of its refusal. Assumes nothing.
 use mathlib.Core.Path.{sym, ap}
 use borrow.Author.Needs.{needs}
 use Rattle.picture_limits.specs.Refusal.{number}
@@ -59,6 +59,24 @@ enum-told-17 c = search needs
 enum-told-18 : tie.Need-enum-told-18
 enum-told-18 c = search needs
 
+enum-told-19 : tie.Need-enum-told-19
+enum-told-19 c = search needs
+
+enum-told-20 : tie.Need-enum-told-20
+enum-told-20 c = search needs
+
+enum-told-21 : tie.Need-enum-told-21
+enum-told-21 c = search needs
+
+enum-told-22 : tie.Need-enum-told-22
+enum-told-22 c = search needs
+
+enum-told-23 : tie.Need-enum-told-23
+enum-told-23 c = search needs
+
+enum-told-24 : tie.Need-enum-told-24
+enum-told-24 c = search needs
+
 returns : tie.Need-returns
 returns c = sym (ap number (c .enum-told .given .1))
 
@@ -113,6 +131,24 @@ returns-17 c = sym (ap number (c .enum-told17 .given .1))
 returns-18 : tie.Need-returns-18
 returns-18 c = sym (ap number (c .enum-told18 .given .1))
 
+returns-19 : tie.Need-returns-19
+returns-19 c = sym (ap number (c .enum-told19 .given .1))
+
+returns-20 : tie.Need-returns-20
+returns-20 c = sym (ap number (c .enum-told20 .given .1))
+
+returns-21 : tie.Need-returns-21
+returns-21 c = sym (ap number (c .enum-told21 .given .1))
+
+returns-22 : tie.Need-returns-22
+returns-22 c = sym (ap number (c .enum-told22 .given .1))
+
+returns-23 : tie.Need-returns-23
+returns-23 c = sym (ap number (c .enum-told23 .given .1))
+
+returns-24 : tie.Need-returns-24
+returns-24 c = sym (ap number (c .enum-told24 .given .1))
+
 pub number-spec : {M : Type 1} → statement M
 number-spec =
     tie.close
@@ -135,6 +171,12 @@ number-spec =
     enum-told-16
     enum-told-17
     enum-told-18
+    enum-told-19
+    enum-told-20
+    enum-told-21
+    enum-told-22
+    enum-told-23
+    enum-told-24
     returns
     returns-2
     returns-3
@@ -152,4 +194,10 @@ number-spec =
     returns-15
     returns-16
     returns-17
-    returns-18)
+    returns-18
+    returns-19
+    returns-20
+    returns-21
+    returns-22
+    returns-23
+    returns-24)
