@@ -1,0 +1,78 @@
+-- What a test of the bookkeeping says, and the answer of each call behind it. Assumes nothing.
+use mathlib.Core.Path.{_≡_, refl, sym, ap, _∙_}
+use mathlib.Core.Bool.{Bool, true, false, not, _&&_, _||_, cond}
+use mathlib.Core.List.{List, [], _∷_, _++_}
+use Prim.Native.Nat.{ℕ, _+_, _≤_, _<_}
+use native.Mathlib.Omega.{arith}
+use borrow.Author.Tests.{lt-ltb, le-ltb, le-leb, lt-leb, eq-eqb, ne-eqb}
+use lib.Dec.{eqb, leb, ltb}
+use lib.ListN.{length, getD}
+use lib.Seq.{getD-take}
+use Rattle.picture_limits.specs.declared.Refusal as F
+use Rattle.pool.specs.declared.Held.{Held}
+use Rattle.pool.specs.declared.Pool.{Pool}
+use Rattle.pool.specs.declared.Pooled.{Pooled}
+use Rattle.pool.specs.declared.Found.{Found}
+use Rattle.pool.specs.declared.Books.{Books}
+use Rattle.pool.specs.Book.{entries, with, floats, endOf, wellMade, has, without, keyOf}
+use Rattle.pool.specs.Pool.{refused, done, lookup, findAnswer, dropAnswer}
+use Rattle.pool.specs.inner.Place.{placeIn, leftOut, booksOf}
+use Rattle.pool.proofs.Orders.{made-says, length-entries}
+use Rattle.pool.proofs.Lookups.{place-held, place-none, place-lookup, none-lookup, place-without}
+
+pub record Told (p : Pool) (n sum end : ℕ) : Type 0 where
+  pub made : wellMade p n ≡ true
+  pub sums : sum ≡ floats (entries p)
+  pub ends : end ≡ endOf 0 (entries p)
+
+pub told : (p : Pool) (n sum end : ℕ) → booksOf p n ≡ Books.Made sum end → Told p n sum end
+unfolding booksOf
+told p n sum end e = go (wellMade p n) refl e
+  where
+    go : (b : Bool) → wellMade p n ≡ b → cond b (Books.Made (floats (entries p)) (endOf 0 (entries p))) Books.Unmade ≡ Books.Made sum end → Told p n sum end
+    go true m f = record { made = m; sums = cc; ends = cc }
+    go false m f = let z : _≡_ {A = ℕ} 0 1 = cc in absurd (omega arith)
+
+pub untold : (p : Pool) (n : ℕ) → booksOf p n ≡ Books.Unmade → wellMade p n ≡ false
+unfolding booksOf
+untold p n e = go (wellMade p n) refl e
+  where
+    go : (b : Bool) → wellMade p n ≡ b → cond b (Books.Made (floats (entries p)) (endOf 0 (entries p))) Books.Unmade ≡ Books.Unmade → b ≡ false
+    go true m f = let z : _≡_ {A = ℕ} 0 1 = cc in absurd (omega arith)
+    go false m f = refl
+
+-- ---- find and drop, by the place of the key
+
+pub find-unmade : (p : Pool) (n k : ℕ) → wellMade p n ≡ false → Found.Refused F.Refusal.PoolSlice ≡ findAnswer p n k
+unfolding findAnswer
+find-unmade p n k e = rw e
+
+pub drop-unmade : (p : Pool) (n k : ℕ) → wellMade p n ≡ false → refused p F.Refusal.PoolSlice ≡ dropAnswer p n k
+unfolding dropAnswer
+drop-unmade p n k e = rw e
+
+module _ (p : Pool) (n k i : ℕ) (w : p .count ≤ length (p .held)) (m : wellMade p n ≡ true) (e : i ≡ placeIn k (entries p)) where
+  pub held-there : i < p .count → has keyOf k (entries p) ≡ true
+  held-there l = place-held k (entries p) (omega (arith, length-entries p w))
+
+  pub held-nowhere : p .count ≤ i → has keyOf k (entries p) ≡ false
+  held-nowhere l = place-none k (entries p) (omega (arith, length-entries p w))
+
+  pub find-held : (d : Held) → i < p .count → Found.At (getD (p .held) i d .start) (getD (p .held) i d .len) ≡ findAnswer p n k
+  unfolding findAnswer
+  find-held d l =
+      let g : getD (entries p) (placeIn k (entries p)) d ≡ getD (p .held) i d = ap (λ (x : ℕ). getD (entries p) x d) (sym e) ∙ getD-take (p .count) (p .held) i d l in
+      let f = place-lookup k (entries p) d (omega (arith, length-entries p w)) in
+      rw m (ap (λ (h : Held). Found.At (h .start) (h .len)) (sym g) ∙ sym f)
+
+  pub find-unknown : p .count ≤ i → Found.Refused F.Refusal.KeyUnknown ≡ findAnswer p n k
+  unfolding findAnswer
+  find-unknown l = rw m (sym (none-lookup k (entries p) (held-nowhere l)))
+
+  pub drop-held : i < p .count → done (with p (leftOut i (entries p))) ≡ dropAnswer p n k
+  unfolding dropAnswer
+  drop-held l = rw (m, held-there l, ← place-without k (entries p)) (ap (λ (j : ℕ). done (with p (leftOut j (entries p)))) e)
+
+  pub drop-unknown : p .count ≤ i → refused p F.Refusal.KeyUnknown ≡ dropAnswer p n k
+  unfolding dropAnswer
+  drop-unknown l = rw (m, held-nowhere l)

@@ -1,0 +1,142 @@
+-- `pool::add_made` meets its contract: each test is one of the definition's, and the slide is where its room does not suffice. Assumes nothing.
+use mathlib.Core.Path.{_≡_, refl, sym, ap, _∙_}
+use mathlib.Core.Bool.{true, false}
+use Prim.Native.Nat.{ℕ, _+_, _≤_, _<_}
+use native.Mathlib.Omega.{arith}
+use borrow.Author.Needs.{needs}
+use lib.ListN.{length}
+use Rattle.picture_limits.specs.declared.Refusal as F
+use Rattle.pool.specs.declared.Pool.{Pool}
+use Rattle.pool.specs.Book.{entries, wellMade, has, keyOf}
+use Rattle.pool.proofs.Parts.{mapped-long}
+use Rattle.pool.proofs.Orders.{Made, made-says, order-end, order-floats, length-entries, length-laid}
+use Rattle.pool.proofs.Answers.{held-there, held-nowhere}
+use Rattle.pool.proofs.Adds.{add-refused, add-held, add-none, add-full, add-done, full-says, room-says, room-is, done-behind, done-slid}
+use Rattle.pool.proofs.add_made.Statement.{statement}
+use Rattle.pool.proofs.add_made.Tie as tie
+
+made : (c : tie.Start) → Made (c .args .p) (length (c .args .s .now))
+made c = made-says (c .args .p) (length (c .args .s .now)) (c .pre .0)
+
+room : (c : tie.Start) → c .args .p .count ≤ length (c .args .p .held)
+room c = omega (arith, made c .few, mapped-long _ (c .args .p .held) 64 (c .good .0 .1 .1 .1 .1 .0 .1 .0 .1))
+
+-- what is held ends inside, and so does all of it laid from the front
+ends : (c : tie.Start) → (c .args .end ≤ length (c .args .s .now)) × (c .args .sum ≤ c .args .end)
+ends c =
+    let m = made c in
+    let es = entries (c .args .p) in
+    let n = length (c .args .s .now) in
+    (omega (arith, c .pre .2, order-end 0 n es (m .order)), omega (arith, c .pre .1, c .pre .2, order-floats 0 n es (m .order)))
+
+-- the key is not held
+new : (c : tie.Else1) → has keyOf (c .before .before .before .before .args .key) (entries (c .before .before .before .before .args .p)) ≡ false
+new c = let k = c .before .before .before .before in held-nowhere (k .args .p) (length (k .args .s .now)) (k .args .key) (c .before .place-of .result) (room k) (k .pre .0) (c .before .place-of .ensures) (c .if1 .left)
+
+-- there is room in all
+fits : (c : tie.Else3) → let a = c .before .before .before .before .before .before .args in (a .p .count < 64) × (a .sum + length (a .vectors .now) ≤ length (a .s .now))
+fits c =
+    let k = c .before .before .before .before .before .before in
+    room-says (k .args .p .count) (k .args .sum) (length (k .args .s .now)) (length (k .args .vectors .now)) (omega (arith, ends k)) (c .if3 .left)
+
+place-of-requires : tie.Need-place-of-requires
+place-of-requires c κs = made (c .before .before) .few
+
+refuse-requires : tie.Need-refuse-requires
+refuse-requires c κs = search needs
+
+returns : tie.Need-returns
+returns c =
+    let k = c .before .before .before .before .before in
+    let a = k .args in
+    add-refused (a .p) (a .s .now) (a .key) (a .vectors .now) F.Refusal.KeyHeld (c .refuse .result) (c .refuse .ensures)
+    (add-held (a .p) (a .s .now) (a .key) (a .vectors .now) (k .pre .0) (held-there (a .p) (length (a .s .now)) (a .key) (c .before .before .place-of .result) (room k) (k .pre .0) (c .before .before .place-of .ensures) (c .before .if1 .taken)))
+
+refuse-requires-2 : tie.Need-refuse-requires-2
+refuse-requires-2 c κs = search needs
+
+returns-2 : tie.Need-returns-2
+returns-2 c =
+    let k = c .before .before .before .before .before .before in
+    let a = k .args in
+    add-refused (a .p) (a .s .now) (a .key) (a .vectors .now) F.Refusal.NoVectors (c .refuse2 .result) (c .refuse2 .ensures)
+    (add-none (a .p) (a .s .now) (a .key) (a .vectors .now) (k .pre .0) (new (c .before .before)) (c .before .if2 .taken))
+
+sub-if3 : tie.Need-sub-if3
+sub-if3 c = omega (arith, ends (c .before .before .before .before .before))
+
+refuse-requires-3 : tie.Need-refuse-requires-3
+refuse-requires-3 c κs = search needs
+
+returns-3 : tie.Need-returns-3
+returns-3 c =
+    let k = c .before .before .before .before .before .before .before in
+    let a = k .args in
+    add-refused (a .p) (a .s .now) (a .key) (a .vectors .now) F.Refusal.PoolFull (c .refuse3 .result) (c .refuse3 .ensures)
+    (add-full (a .p) (a .s .now) (a .key) (a .vectors .now) (k .pre .0) (new (c .before .before .before)) (c .before .before .if2 .left)
+    (rw (k .pre .1) at (full-says (a .p .count) (a .sum) (length (a .s .now)) (length (a .vectors .now)) (omega (arith, ends k)) (c .before .if3 .taken))))
+
+sub-if4 : tie.Need-sub-if4
+sub-if4 c = omega (arith, ends (c .before .before .before .before .before .before))
+
+store-requires : tie.Need-store-requires
+store-requires c κs =
+    let k = c .before .before .before .before .before .before .before .before in
+    (fits (c .before .before) .0, omega (arith, ends k, c .before .if4 .taken))
+
+same-length : tie.Need-same-length
+same-length c = search needs
+
+returns-4 : tie.Need-returns-4
+returns-4 c =
+    let k = c .before .before .before .before .before .before .before .before .before .before .before in
+    let a = k .args in
+    let e = c .before .before .store .ensures in
+    done-behind (a .p) (a .s .now) (a .key) (a .vectors .now) (a .end) (c .before .before .store .result) (c .before .before .store .last .1 .0) (k .pre .2) (omega (arith, ends k, c .before .before .before .before .if4 .taken)) (e .0) (e .1)
+    (add-done (a .p) (a .s .now) (a .key) (a .vectors .now) (k .pre .0) (new (c .before .before .before .before .before .before .before)) (c .before .before .before .before .before .before .if2 .left)
+    (rw (k .pre .1) at (room-is (a .p .count) (a .sum) (length (a .s .now)) (length (a .vectors .now)) (fits (c .before .before .before .before .before) .0) (fits (c .before .before .before .before .before) .1))))
+
+slide-requires : tie.Need-slide-requires
+slide-requires c κs = search needs
+
+store-requires-2 : tie.Need-store-requires-2
+store-requires-2 c κs =
+    let k = c .before .before .before .before .before .before .before .before .before .before .before .before in
+    let a = k .args in
+    let n : c .before .before .before .slide .result .count ≡ a .p .count = ap (λ (q : Pool). q .count) (c .before .before .before .slide .ensures .0) ∙ length-laid 0 (entries (a .p)) ∙ length-entries (a .p) (room k) in
+    (omega (arith, n, fits (c .before .before .before .before .before .before) .0), omega (arith, c .before .before .before .slide .kept .1 .0, fits (c .before .before .before .before .before .before) .1))
+
+same-length-2 : tie.Need-same-length-2
+same-length-2 c = search needs
+
+returns-5 : tie.Need-returns-5
+returns-5 c =
+    let k = c .before .before .before .before .before .before .before .before .before .before .before .before .before .before .before in
+    let a = k .args in
+    let d = c .before .before .before .before .before .before .slide .ensures in
+    let e = c .before .before .store2 .ensures in
+    done-slid (a .p) (a .s .now) (a .key) (a .vectors .now) (a .sum) (c .before .before .before .before .before .before .slide .result) (c .before .before .store2 .result) (c .before .before .before .before .before .before .slide .last .1 .0) (c .before .before .store2 .last .1 .0) (k .pre .1)
+    (omega (arith, length-entries (a .p) (room k), room k)) (omega (arith, ends k, k .pre .2, c .before .before .before .before .before .before .before .before .if4 .left)) (d .0) (d .1) (e .0) (e .1)
+    (add-done (a .p) (a .s .now) (a .key) (a .vectors .now) (k .pre .0) (new (c .before .before .before .before .before .before .before .before .before .before .before)) (c .before .before .before .before .before .before .before .before .before .before .if2 .left)
+    (rw (k .pre .1) at (room-is (a .p .count) (a .sum) (length (a .s .now)) (length (a .vectors .now)) (fits (c .before .before .before .before .before .before .before .before .before) .0) (fits (c .before .before .before .before .before .before .before .before .before) .1))))
+
+pub add-made-spec : {M : Type 1} → statement M
+add-made-spec =
+    tie.close
+    (tie.spec
+    place-of-requires
+    refuse-requires
+    returns
+    refuse-requires-2
+    returns-2
+    sub-if3
+    refuse-requires-3
+    returns-3
+    sub-if4
+    store-requires
+    same-length
+    returns-4
+    slide-requires
+    store-requires-2
+    same-length-2
+    returns-5)

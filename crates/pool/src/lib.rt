@@ -1,0 +1,157 @@
+// A pool of token vectors: up to 64 results in one lent slice, each under the number of its sweep.
+mod keys;
+mod slice;
+
+use crate::keys::judge;
+use crate::keys::leave_out;
+use crate::keys::place_of;
+use crate::slice::slide;
+use crate::slice::store;
+use picture_limits::Refusal;
+ghost use mathlib.Core.Path.{_≡_};
+ghost use mathlib.Core.Bool.{true};
+ghost use lib.ListN.{length};
+ghost use Rattle.pool.specs.Book as B;
+ghost use Rattle.pool.specs.Book.{entries, wellMade, endOf};
+ghost use Rattle.pool.specs.Pool.{newPool, refused, addAnswer, addSlice, findAnswer, dropAnswer};
+
+// A key, and the place of its vectors in the slice.
+#[repr(C)]
+pub struct Held {
+    pub key: u64,
+    pub start: usize,
+    pub len: usize,
+}
+
+// How long the slice is that the pool was made for, and what is held in it: the first `count`, in the order of adding.
+#[repr(C)]
+pub struct Pool {
+    pub len: usize,
+    pub count: usize,
+    pub held: [Held; 64],
+}
+
+pub enum Outcome {
+    Done,
+    Refused(Refusal),
+}
+
+// The outcome, and the pool after the call: the one that was lent, where it was refused.
+pub struct Pooled {
+    pub outcome: Outcome,
+    pub pool: Pool,
+}
+
+// Where the vectors of a key stand in the slice.
+pub enum Found {
+    At { start: usize, len: usize },
+    Refused(Refusal),
+}
+
+// What a test of the bookkeeping finds: of a pool for this slice, the floats that it holds and where the last result ends.
+pub enum Books {
+    Made { floats: usize, end: usize },
+    Unmade,
+}
+
+// An empty pool for a slice of `len` floats.
+pub fn new(len: usize) -> Pool
+    ensures { λ r. ⌜ r ≡ newPool len ⌝ }
+{
+    let none = Held {
+        key: 0,
+        start: 0,
+        len: 0,
+    };
+    let held = [none; 64];
+    Pool {
+        len,
+        count: 0,
+        held,
+    }
+}
+
+fn refuse(p: Pool, why: Refusal) -> Pooled
+    ensures { λ r. ⌜ r ≡ refused p why ⌝ }
+{
+    let outcome = Outcome::Refused(why);
+    Pooled { outcome, pool: p }
+}
+
+// What add does with a pool for this slice, which holds `sum` floats, the last of them before `end`.
+fn add_made(p: Pool, s: &mut [f32], key: u64, vectors: &[f32], sum: usize, end: usize) -> Pooled
+    requires { ⌜ (wellMade p (length (now s)) ≡ true) × (sum ≡ B.floats (entries p)) × (end ≡ endOf 0 (entries p)) ⌝ }
+    ensures answer { λ r. ⌜ r ≡ addAnswer p (now (s .entry)) key (now (vectors .entry)) ⌝ }
+    ensures output { λ _. ⌜ now (s .exit) ≡ addSlice p (now (s .entry)) key (now (vectors .entry)) ⌝ }
+{
+    let count = p.count;
+    if place_of(p, key) < count {
+        return refuse(p, Refusal::KeyHeld);
+    }
+    let n = vectors.len();
+    if n == 0 {
+        return refuse(p, Refusal::NoVectors);
+    }
+    if (64 <= count) | (s.len() - sum < n) {
+        return refuse(p, Refusal::PoolFull);
+    }
+    let outcome = Outcome::Done;
+    if n <= s.len() - end {
+        let pool = store(p, s, end, key, vectors);
+        return Pooled { outcome, pool };
+    }
+    let slid = slide(p, s);
+    let pool = store(slid, s, sum, key, vectors);
+    Pooled { outcome, pool }
+}
+
+// Holds the vectors under the key, behind the last of the held results. Where there is no room behind it, but room enough in
+// all, the held results are slid down first.
+pub fn add(p: Pool, s: &mut [f32], key: u64, vectors: &[f32]) -> Pooled
+    ensures answer { λ r. ⌜ r ≡ addAnswer p (now (s .entry)) key (now (vectors .entry)) ⌝ }
+    ensures output { λ _. ⌜ now (s .exit) ≡ addSlice p (now (s .entry)) key (now (vectors .entry)) ⌝ }
+{
+    let books = judge(p, s.len());
+    match books {
+        Books::Made { floats, end } => add_made(p, s, key, vectors, floats, end),
+        Books::Unmade => refuse(p, Refusal::PoolSlice),
+    }
+}
+
+// Where the vectors of the key stand.
+pub fn find(p: Pool, s: &[f32], key: u64) -> Found
+    ensures { λ r. ⌜ r ≡ findAnswer p (length (now (s .entry))) key ⌝ }
+{
+    let books = judge(p, s.len());
+    let Books::Made { floats: _, end: _ } = books else {
+        return Found::Refused(Refusal::PoolSlice);
+    };
+    let count = p.count;
+    let i = place_of(p, key);
+    if i < count {
+        let h = p.held[i];
+        return Found::At {
+            start: h.start,
+            len: h.len,
+        };
+    }
+    Found::Refused(Refusal::KeyUnknown)
+}
+
+// Holds the key no longer. No float is moved: its room is used again when an add needs it.
+pub fn drop_key(p: Pool, s: &[f32], key: u64) -> Pooled
+    ensures { λ r. ⌜ r ≡ dropAnswer p (length (now (s .entry))) key ⌝ }
+{
+    let books = judge(p, s.len());
+    let Books::Made { floats: _, end: _ } = books else {
+        return refuse(p, Refusal::PoolSlice);
+    };
+    let count = p.count;
+    let i = place_of(p, key);
+    if i < count {
+        let outcome = Outcome::Done;
+        let pool = leave_out(p, i);
+        return Pooled { outcome, pool };
+    }
+    refuse(p, Refusal::KeyUnknown)
+}
