@@ -1,22 +1,22 @@
 -- The answer of add, case by case. Assumes nothing.
 use mathlib.Core.Path.{_≡_, refl, sym, ap, _∙_}
-use mathlib.Core.Bool.{Bool, true, false, not, _&&_, _||_, cond, true≢false}
+use mathlib.Core.Bool.{Bool, true, false, _&&_, _||_, true≢false}
 use mathlib.Core.List.{List, [], _∷_, _++_}
 use Prim.Native.Nat.{ℕ, _+_, _-_, _≤_, _<_}
 use native.Mathlib.Nat.{zero-add}
 use native.Mathlib.Omega.{arith}
 use borrow.Author.Tests.{lt-ltb, le-ltb, le-leb, lt-leb, eq-eqb, ne-eqb, leb-true, leb-false, ltb-true, ltb-false}
-use lib.Dec.{eqb, leb, ltb}
+use lib.Dec.{leb, ltb}
 use lib.ListN.{length}
 use lib.Ieee.{Float}
 use Rattle.buffers.specs.Region.{put}
-use Rattle.buffers.proofs.Regions.{put-append, put-put, length-put}
+use Rattle.buffers.proofs.Regions.{put-append, put-put}
 use Rattle.picture_limits.specs.declared.Refusal as F
 use Rattle.pool.specs.declared.Held.{Held}
 use Rattle.pool.specs.declared.Pool.{Pool}
 use Rattle.pool.specs.declared.Pooled.{Pooled}
 use Rattle.pool.specs.Book.{held, entries, with, floats, endOf, wellMade, laid, joined, has, keyOf}
-use Rattle.pool.specs.Pool.{refused, done, roomBehind, ready, readySlice, behind, addAnswer, addSlice}
+use Rattle.pool.specs.Pool.{refused, done, roomBehind, ready, behind, addAnswer, addSlice}
 use Rattle.pool.proofs.Orders.{end-laid, with-entries, length-laid}
 
 module _ (p : Pool) (s : List Float) (k : ℕ) (vs : List Float) where

@@ -1,23 +1,19 @@
 -- What a test of the bookkeeping says, and the answer of each call behind it. Assumes nothing.
 use mathlib.Core.Path.{_≡_, refl, sym, ap, _∙_}
-use mathlib.Core.Bool.{Bool, true, false, not, _&&_, _||_, cond}
-use mathlib.Core.List.{List, [], _∷_, _++_}
-use Prim.Native.Nat.{ℕ, _+_, _≤_, _<_}
+use mathlib.Core.Bool.{Bool, true, false, cond}
+use Prim.Native.Nat.{ℕ, _≤_, _<_}
 use native.Mathlib.Omega.{arith}
-use borrow.Author.Tests.{lt-ltb, le-ltb, le-leb, lt-leb, eq-eqb, ne-eqb}
-use lib.Dec.{eqb, leb, ltb}
 use lib.ListN.{length, getD}
 use lib.Seq.{getD-take}
 use Rattle.picture_limits.specs.declared.Refusal as F
 use Rattle.pool.specs.declared.Held.{Held}
 use Rattle.pool.specs.declared.Pool.{Pool}
-use Rattle.pool.specs.declared.Pooled.{Pooled}
 use Rattle.pool.specs.declared.Found.{Found}
 use Rattle.pool.specs.declared.Books.{Books}
-use Rattle.pool.specs.Book.{entries, with, floats, endOf, wellMade, has, without, keyOf}
-use Rattle.pool.specs.Pool.{refused, done, lookup, findAnswer, dropAnswer}
+use Rattle.pool.specs.Book.{entries, with, floats, endOf, wellMade, has, keyOf}
+use Rattle.pool.specs.Pool.{refused, done, findAnswer, dropAnswer}
 use Rattle.pool.specs.inner.Place.{placeIn, leftOut, booksOf}
-use Rattle.pool.proofs.Orders.{made-says, length-entries}
+use Rattle.pool.proofs.Orders.{length-entries}
 use Rattle.pool.proofs.Lookups.{place-held, place-none, place-lookup, none-lookup, place-without}
 
 pub record Told (p : Pool) (n sum end : ℕ) : Type 0 where

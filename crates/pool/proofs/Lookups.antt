@@ -1,15 +1,15 @@
 -- Laws of keys: where one stands, whether it is held, what is looked up and left out by it. Assumes nothing.
-use mathlib.Core.Path.{_≡_, refl, sym, ap, _∙_}
+use mathlib.Core.Path.{_≡_, refl, ap}
 use mathlib.Core.Bool.{Bool, true, false, _||_, cond, true≢false}
-use mathlib.Core.List.{List, [], _∷_, _++_}
+use mathlib.Core.List.{List, [], _∷_}
 use Prim.Native.Nat.{ℕ, suc, _+_, _≤_, _<_}
 use native.Mathlib.Omega.{arith}
 use lib.Dec.{eqb}
-use lib.ListN.{length, take, drop, getD}
+use lib.ListN.{length, getD}
 use Rattle.picture_limits.specs.declared.Refusal as F
 use Rattle.pool.specs.declared.Held.{Held}
 use Rattle.pool.specs.declared.Found.{Found}
-use Rattle.pool.specs.Book.{floats, endOf, inOrder, has, without, keyOf}
+use Rattle.pool.specs.Book.{floats, inOrder, has, without, keyOf}
 use Rattle.pool.specs.Pool.{lookup, foundStart, foundLen}
 use Rattle.pool.specs.inner.Place.{placeIn, leftOut}
 use Rattle.pool.proofs.Orders.{order-low, order-rest, order-cons, order-down, order-at}

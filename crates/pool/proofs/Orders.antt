@@ -1,22 +1,20 @@
 -- Laws of the bookkeeping: places in order, what is laid, joined and left out. Assumes nothing.
 use mathlib.Core.Path.{_≡_, refl, sym, ap, _∙_}
-use mathlib.Core.Bool.{Bool, true, false, not, _&&_, _||_, cond}
-use mathlib.Core.List.{List, [], _∷_, _++_, append-assoc, append-nil}
-use Prim.Native.Nat.{ℕ, zero, suc, _+_, _-_, _≤_, _<_}
-use native.Mathlib.Nat.{add-zero, zero-add, add-assoc, add-suc}
+use mathlib.Core.Bool.{true, _&&_}
+use mathlib.Core.List.{List, [], _∷_, _++_}
+use Prim.Native.Nat.{ℕ, suc, _+_, _≤_, _<_}
+use native.Mathlib.Nat.{add-zero, zero-add, add-assoc}
 use native.Mathlib.Omega.{arith}
-use native.Mathlib.Numerals.{add-one}
-use borrow.Author.Tests.{leb-true, leb-false, le-leb, lt-leb, ltb-true, lt-ltb, le-ltb, eqb-true, eq-eqb, ne-eqb}
-use lib.Dec.{eqb, leb, ltb}
-use lib.ListN.{length, take, drop, getD, set, length-append, length-take, take-append-drop}
-use lib.Seq.{length-take-le, drop-cons, take-suc, getD-take, take-all, drop-length}
-use lib.Ieee.{Float}
-use Rattle.buffers.specs.Region.{region, put}
-use Rattle.buffers.proofs.Regions.{put-over, put-append, put-nil, put-one, region-put-same, length-put, length-region}
-use Rattle.buffers.proofs.Lists.{and-left, and-right, and-both}
+use borrow.Author.Tests.{leb-true, le-leb, eqb-true, eq-eqb}
+use lib.Dec.{eqb, leb}
+use lib.ListN.{length, take, drop, getD, take-append-drop}
+use lib.Seq.{length-take-le, drop-cons, getD-take, drop-length}
+use Rattle.buffers.specs.Region.{put}
+use Rattle.buffers.proofs.Regions.{put-over, region-put-same}
+use Rattle.buffers.proofs.Lists.{and-left, and-right}
 use Rattle.pool.specs.declared.Held.{Held}
 use Rattle.pool.specs.declared.Pool.{Pool}
-use Rattle.pool.specs.Book.{held, entries, with, floats, endOf, inOrder, wellMade, laid, joined}
+use Rattle.pool.specs.Book.{held, entries, with, floats, endOf, inOrder, wellMade, laid}
 
 -- ---- a pool for a slice of n
 

@@ -1,3 +1,5 @@
 pub mod Book
 pub mod Pool
+pub mod Map
+pub mod Calls
 pub mod inner

@@ -1,13 +1,13 @@
 -- `pool::add_made` meets its contract: each test is one of the definition's, and the slide is where its room does not suffice. Assumes nothing.
-use mathlib.Core.Path.{_≡_, refl, sym, ap, _∙_}
-use mathlib.Core.Bool.{true, false}
-use Prim.Native.Nat.{ℕ, _+_, _≤_, _<_}
+use mathlib.Core.Path.{_≡_, ap, _∙_}
+use mathlib.Core.Bool.{false}
+use Prim.Native.Nat.{_+_, _≤_, _<_}
 use native.Mathlib.Omega.{arith}
 use borrow.Author.Needs.{needs}
 use lib.ListN.{length}
 use Rattle.picture_limits.specs.declared.Refusal as F
 use Rattle.pool.specs.declared.Pool.{Pool}
-use Rattle.pool.specs.Book.{entries, wellMade, has, keyOf}
+use Rattle.pool.specs.Book.{entries, has, keyOf}
 use Rattle.pool.proofs.Parts.{mapped-long}
 use Rattle.pool.proofs.Orders.{Made, made-says, order-end, order-floats, length-entries, length-laid}
 use Rattle.pool.proofs.Answers.{held-there, held-nowhere}

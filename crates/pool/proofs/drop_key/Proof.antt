@@ -5,9 +5,8 @@ use Prim.Native.Nat.{_≤_}
 use native.Mathlib.Omega.{arith}
 use borrow.Author.Needs.{needs}
 use lib.ListN.{length}
-use Rattle.pool.specs.Book.{with, wellMade}
-use Rattle.pool.specs.Pool.{refused, done}
-use Rattle.pool.specs.inner.Place.{leftOut}
+use Rattle.pool.specs.Book.{wellMade}
+use Rattle.pool.specs.Pool.{done}
 use Rattle.pool.proofs.Parts.{mapped-long}
 use Rattle.pool.proofs.Orders.{made-says}
 use Rattle.pool.proofs.Answers.{told, untold, drop-unmade, drop-held, drop-unknown}

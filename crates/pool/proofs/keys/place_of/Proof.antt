@@ -1,8 +1,7 @@
 -- `pool::keys::place_of` meets its contract: none of those passed has the key. Assumes nothing.
-use mathlib.Core.Path.{_≡_, refl, sym, ap, _∙_}
-use mathlib.Core.List.{List, [], _∷_}
+use mathlib.Core.Path.{_≡_, sym, ap, _∙_}
 use Prim.Native.Nat.{ℕ, suc, _+_, _-_, _≤_, _<_}
-use native.Mathlib.Nat.{add-zero, zero-add, add-assoc}
+use native.Mathlib.Nat.{add-zero, zero-add}
 use native.Mathlib.Numerals.{add-one}
 use native.Mathlib.Omega.{arith}
 use borrow.Author.Needs.{needs}
@@ -10,7 +9,7 @@ use borrow.Author.Tests.{eq-eqb, ne-eqb}
 use lib.ListN.{length, drop, getD}
 use Rattle.pool.specs.declared.Held.{Held}
 use Rattle.pool.specs.declared.Pool.{Pool}
-use Rattle.pool.specs.Book.{held, entries}
+use Rattle.pool.specs.Book.{entries}
 use Rattle.pool.specs.inner.Place.{placeIn}
 use Rattle.pool.proofs.Parts.{mapped-long}
 use Rattle.pool.proofs.Orders.{entry-at, entries-end}
