@@ -31,18 +31,18 @@ pub(crate) fn slide(p: Pool, s: &mut [f32]) -> Pool
 {
     let count = p.count;
     let mut q = p;
-    let mut at = 0usize;
+    let mut to = 0usize;
     let mut i = 0usize;
     while i < count {
         let h = q.held[i];
-        move_down(s, h.start, at, h.len);
+        move_down(s, h.start, to, h.len);
         let moved = Held {
             key: h.key,
-            start: at,
+            start: to,
             len: h.len,
         };
         q.held[i] = moved;
-        at += h.len;
+        to += h.len;
         i += 1;
     }
     q

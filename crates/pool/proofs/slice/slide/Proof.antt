@@ -103,10 +103,10 @@ slid-all p q s t at i w m j =
     same a b x y z = λ i. record { len = x i; count = y i; held = z i }
 
 abbrev Inv-loop : tie.InvT-loop
-Inv-loop s₀ count q₀ at₀ i₀ s q at i = Slid q₀ q s₀ s at i
+Inv-loop s₀ count q₀ to₀ i₀ s q to i = Slid q₀ q s₀ s to i
 
 abbrev μ-loop : tie.MeasureT-loop
-μ-loop s₀ count q₀ at₀ i₀ s q at i = count - i
+μ-loop s₀ count q₀ to₀ i₀ s q to i = count - i
 
 few : (c : tie.Start Inv-loop μ-loop) → c .args .p .count ≤ 64
 few c = made-says (c .args .p) (length (c .args .s .now)) (c .pre) .few
@@ -128,8 +128,8 @@ move-down-requires c κs =
     let k = c .before .before .before .before .before in
     let l = c .before .before .before .loop in
     let t = c .before .before .loop-test .taken in
-    let h = high (k .args .p) (l .q) (k .args .s .now) (l .s) (l .at) (l .i) (held 0 0 0) (room k) t (l .inv) in
-    (low (k .args .p) (l .q) (k .args .s .now) (l .s) (l .at) (l .i) (held 0 0 0) (room k) t (l .inv), rw (l .inv .as-long) h)
+    let h = high (k .args .p) (l .q) (k .args .s .now) (l .s) (l .to) (l .i) (held 0 0 0) (room k) t (l .inv) in
+    (low (k .args .p) (l .q) (k .args .s .now) (l .s) (l .to) (l .i) (held 0 0 0) (room k) t (l .inv), rw (l .inv .as-long) h)
 
 mul-moved : tie.Need-mul-moved Inv-loop μ-loop
 mul-moved c = omega (arith, few (c .before .before .before .before .before .before .before .before), c .before .before .before .before .before .loop-test .taken)
@@ -137,12 +137,12 @@ mul-moved c = omega (arith, few (c .before .before .before .before .before .befo
 element-set-from-moved : tie.Need-element-set-from-moved Inv-loop μ-loop
 element-set-from-moved c = omega (arith, few (c .before .before .before .before .before .before .before .before), c .before .before .before .before .before .loop-test .taken)
 
-add-at : tie.Need-add-at Inv-loop μ-loop
-add-at c =
+add-to : tie.Need-add-to Inv-loop μ-loop
+add-to c =
     let k = c .before .before .before .before .before .before .before .before .before in
     let l = c .before .before .before .before .before .before .before .loop in
     let t = c .before .before .before .before .before .before .loop-test .taken in
-    omega (arith, low (k .args .p) (l .q) (k .args .s .now) (l .s) (l .at) (l .i) (held 0 0 0) (room k) t (l .inv), high (k .args .p) (l .q) (k .args .s .now) (l .s) (l .at) (l .i) (held 0 0 0) (room k) t (l .inv), k .good .1 .0 .0)
+    omega (arith, low (k .args .p) (l .q) (k .args .s .now) (l .s) (l .to) (l .i) (held 0 0 0) (room k) t (l .inv), high (k .args .p) (l .q) (k .args .s .now) (l .s) (l .to) (l .i) (held 0 0 0) (room k) t (l .inv), k .good .1 .0 .0)
 
 add-i : tie.Need-add-i Inv-loop μ-loop
 add-i c = omega (arith, few (c .before .before .before .before .before .before .before .before .before), c .before .before .before .before .before .before .loop-test .taken)
@@ -154,7 +154,7 @@ loop-again : tie.Need-loop-again Inv-loop μ-loop
 loop-again c =
     let k = c .before .before .before .before .before .before .before .before .before in
     let l = c .before .before .before .before .before .before .before .loop in
-    slid-more (k .args .p) (l .q) (k .args .s .now) (l .s) (l .at) (l .i) (held 0 0 0) (room k) (c .before .before .before .before .before .before .loop-test .taken) (l .inv) (c .before .before .before .move-down .last .0) (c .before .before .before .move-down .ensures)
+    slid-more (k .args .p) (l .q) (k .args .s .now) (l .s) (l .to) (l .i) (held 0 0 0) (room k) (c .before .before .before .before .before .before .loop-test .taken) (l .inv) (c .before .before .before .move-down .last .0) (c .before .before .before .move-down .ensures)
 
 same-length : tie.Need-same-length Inv-loop μ-loop
 same-length c = c .before .loop .inv .as-long
@@ -163,7 +163,7 @@ returns : tie.Need-returns Inv-loop μ-loop
 returns c =
     let k = c .before .before .before in
     let l = c .before .loop in
-    slid-all (k .args .p) (l .q) (k .args .s .now) (l .s) (l .at) (l .i) (room k) (c .loop-test .left) (l .inv)
+    slid-all (k .args .p) (l .q) (k .args .s .now) (l .s) (l .to) (l .i) (room k) (c .loop-test .left) (l .inv)
 
 pub slide-spec : {M : Type 1} → statement M
 slide-spec =
@@ -177,7 +177,7 @@ slide-spec =
     move-down-requires
     mul-moved
     element-set-from-moved
-    add-at
+    add-to
     add-i
     loop-less
     loop-again
