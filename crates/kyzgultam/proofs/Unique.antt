@@ -8,7 +8,11 @@ use Rattle.picture.specs.Preprocess.{preprocessed, patchesOut}
 use Rattle.picture_restore.specs.Restore.{restored, bytesOut}
 use Rattle.picture_tiles.specs.Answer as Tile
 use Rattle.picture_salvage.specs.Salvage.{salvaged, savedOut, listOut}
-use Rattle.kyzgultam.specs.Face.{inner, innerEncoder, preprocessReport, restoreReport, salvageReport, cutReport, tileReport, forwardReport, lengthsReport, placeOf, configReport, ConfigReports}
+use Rattle.pool.specs.declared.Pool.{Pool}
+use Rattle.pool.specs.Pool as Pl
+use Rattle.kyzgultam.specs.declared.pools.PoolReport.{PoolReport}
+use Rattle.kyzgultam.specs.declared.pools.PoolPlace.{PoolPlace}
+use Rattle.kyzgultam.specs.Face.{poolReport, poolPlace, inner, innerEncoder, preprocessReport, restoreReport, salvageReport, cutReport, tileReport, forwardReport, lengthsReport, placeOf, configReport, ConfigReports}
 use Rattle.encoder_settings.specs.Lengths.{neededOf}
 use Rattle.encoder.specs.Forward.{encodedOf, outOf, scratchOf}
 use Rattle.encoder.specs.Axes.{encodedAxes, outAxes, scratchAxes}
@@ -78,6 +82,21 @@ RestoresTile s patches height width index out r out′ =
 pub kz-restore-tile-unique : (s : PictureSettings) (patches : List Float) (height width index : ℕ) (out : List ℕ) (r r′ : TileReport) (out′ out″ : List ℕ)
     → RestoresTile s patches height width index out r out′ → RestoresTile s patches height width index out r′ out″ → (r ≡ r′) × (out′ ≡ out″)
 kz-restore-tile-unique s patches height width index out r r′ out′ out″ a b = (one _ (a .0) (b .0), one _ (a .1) (b .1))
+
+pub kz-pool-new-unique : (n : ℕ) (r r′ : Pool) → r ≡ Pl.newPool n → r′ ≡ Pl.newPool n → r ≡ r′
+kz-pool-new-unique n r r′ = one _
+
+abbrev pub PoolAdds : Pool → List Float → ℕ → List Float → PoolReport → List Float → Type 0
+PoolAdds p s k vs r s′ = (r ≡ poolReport (Pl.addAnswer p s k vs)) × (s′ ≡ Pl.addSlice p s k vs)
+
+pub kz-pool-add-unique : (p : Pool) (s : List Float) (k : ℕ) (vs : List Float) (r r′ : PoolReport) (s′ s″ : List Float) → PoolAdds p s k vs r s′ → PoolAdds p s k vs r′ s″ → (r ≡ r′) × (s′ ≡ s″)
+kz-pool-add-unique p s k vs r r′ s′ s″ a b = (one _ (a .0) (b .0), one _ (a .1) (b .1))
+
+pub kz-pool-find-unique : (p : Pool) (s : List Float) (k : ℕ) (r r′ : PoolPlace) → r ≡ poolPlace (Pl.findAnswer p (length s) k) → r′ ≡ poolPlace (Pl.findAnswer p (length s) k) → r ≡ r′
+kz-pool-find-unique p s k r r′ = one _
+
+pub kz-pool-drop-unique : (p : Pool) (s : List Float) (k : ℕ) (r r′ : PoolReport) → r ≡ poolReport (Pl.dropAnswer p (length s) k) → r′ ≡ poolReport (Pl.dropAnswer p (length s) k) → r ≡ r′
+kz-pool-drop-unique p s k r r′ = one _
 
 pub kz-patch-unique : (patches : List Float) (p i : ℕ) (r r′ : PatchPlace) → r ≡ placeOf (length patches) p i → r′ ≡ placeOf (length patches) p i → r ≡ r′
 kz-patch-unique patches p i r r′ = one _

@@ -28,8 +28,13 @@ use Rattle.picture_tiles.specs.declared.Cutting.{Cutting}
 use Rattle.picture_tiles.specs.declared.Tiled.{Tiled}
 use Rattle.picture_salvage.specs.declared.Salvaged.{Salvaged}
 use Rattle.picture_salvage.specs.Salvage as Sal
+use Rattle.pool.specs.declared.Pooled.{Pooled}
+use Rattle.pool.specs.declared.Found.{Found}
+use Rattle.pool.specs.Pool as Pl
 use Rattle.picture_limits.specs.Refusal as R
 use Rattle.kyzgultam.specs.declared.salvage.SalvageReport.{SalvageReport}
+use Rattle.kyzgultam.specs.declared.pools.PoolReport.{PoolReport}
+use Rattle.kyzgultam.specs.declared.pools.PoolPlace.{PoolPlace}
 use Rattle.kyzgultam.specs.declared.tiles.CutReport.{CutReport}
 use Rattle.kyzgultam.specs.declared.tiles.TileReport.{TileReport}
 use Rattle.kyzgultam.specs.declared.EncoderSettings as KE
@@ -78,6 +83,13 @@ tileReport (Tiled.Refused r) = record { number = R.number r; «grid_h» = 0; «g
 
 abbrev pub salvageReport : Salvaged → SalvageReport
 salvageReport a = record { number = Sal.number a; height = Sal.height a; width = Sal.width a; bad = Sal.badOf a }
+
+-- the paper's number, and the pool after the call
+abbrev pub poolReport : Pooled → PoolReport
+poolReport a = record { number = Pl.number (a .outcome); pool = a .pool }
+
+abbrev pub poolPlace : Found → PoolPlace
+poolPlace a = record { number = Pl.foundNumber a; start = Pl.foundStart a; len = Pl.foundLen a }
 
 abbrev pub forwardReport : Encoded → ForwardReport
 forwardReport a = record { number = Fwd.number a; tokens = Fwd.tokens a }

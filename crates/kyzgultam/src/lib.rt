@@ -1,8 +1,9 @@
-// The C face: thin functions over `picture`, `picture_tiles`, `picture_salvage`, `encoder` and `config`, with structs of their own, so that what users linked stays
+// The C face: thin functions over `picture`, `picture_tiles`, `picture_salvage`, `encoder`, `config` and `pool`, with structs of their own, so that what users linked stays
 // as it is when the settings inside grow.
 pub mod axes;
 pub mod config_file;
 pub mod plain;
+pub mod pools;
 pub mod salvage;
 pub mod tiles;
 

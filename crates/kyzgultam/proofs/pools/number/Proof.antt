@@ -1,0 +1,24 @@
+-- `kyzgultam::pools::number` meets its contract. Assumes nothing.
+use mathlib.Core.Path.{sym, ap, _∙_}
+use Rattle.pool.specs.Pool as Pl
+use borrow.Author.Needs.{needs}
+use Rattle.kyzgultam.proofs.pools.number.Statement.{statement}
+use Rattle.kyzgultam.proofs.pools.number.Tie as tie
+
+enum-told : tie.Need-enum-told
+enum-told c = search needs
+
+enum-known-outcome : tie.Need-enum-known-outcome
+enum-known-outcome c = search needs
+
+number-requires : tie.Need-number-requires
+number-requires c κs = search needs
+
+returns : tie.Need-returns
+returns c = search needs
+
+returns-2 : tie.Need-returns-2
+returns-2 c = c .number .ensures ∙ sym (ap Pl.number (c .before .before .outcome .given .1))
+
+pub number-spec : {M : Type 1} → statement M
+number-spec = tie.close (tie.spec enum-told enum-known-outcome number-requires returns returns-2)
