@@ -1,39 +1,43 @@
 -- What a test of the bookkeeping says, and the answer of each call behind it. Assumes nothing.
-use mathlib.Core.Path.{_≡_, refl, sym, ap, _∙_}
+use mathlib.Core.Path.{_≡_, refl, sym, ap}
 use mathlib.Core.Bool.{Bool, true, false, cond}
 use Prim.Native.Nat.{ℕ, _≤_, _<_}
 use native.Mathlib.Omega.{arith}
-use lib.ListN.{length, getD}
-use lib.Seq.{getD-take}
+use lib.ListN.{length}
 use Rattle.picture_limits.specs.declared.Refusal as F
-use Rattle.pool.specs.declared.Held.{Held}
 use Rattle.pool.specs.declared.Pool.{Pool}
 use Rattle.pool.specs.declared.Found.{Found}
 use Rattle.pool.specs.declared.Books.{Books}
 use Rattle.pool.specs.Book.{entries, with, floats, endOf, wellMade, has, keyOf}
-use Rattle.pool.specs.Pool.{refused, done, findAnswer, dropAnswer}
+use Rattle.pool.specs.Pool.{refused, done, lookup, findAnswer, dropAnswer, foundStart, foundLen}
 use Rattle.pool.specs.inner.Place.{placeIn, leftOut, booksOf}
 use Rattle.pool.proofs.Orders.{length-entries}
-use Rattle.pool.proofs.Lookups.{place-held, place-none, place-lookup, none-lookup, place-without}
+use Rattle.pool.proofs.Lookups.{place-held, place-none, held-at, none-lookup, place-without}
 
-pub record Told (p : Pool) (n sum end : ℕ) : Type 0 where
+pub record Told (p : Pool) (n k sum end place start len : ℕ) : Type 0 where
   pub made : wellMade p n ≡ true
   pub sums : sum ≡ floats (entries p)
   pub ends : end ≡ endOf 0 (entries p)
+  pub stands : place ≡ placeIn k (entries p)
+  pub starts : start ≡ foundStart (lookup k (entries p))
+  pub long : len ≡ foundLen (lookup k (entries p))
 
-pub told : (p : Pool) (n sum end : ℕ) → booksOf p n ≡ Books.Made sum end → Told p n sum end
+abbrev told-of : Pool → ℕ → Books
+told-of p k = Books.Made (floats (entries p)) (endOf 0 (entries p)) (placeIn k (entries p)) (foundStart (lookup k (entries p))) (foundLen (lookup k (entries p)))
+
+pub told : (p : Pool) (n k sum end place start len : ℕ) → booksOf p n k ≡ Books.Made sum end place start len → Told p n k sum end place start len
 unfolding booksOf
-told p n sum end e = go (wellMade p n) refl e
+told p n k sum end place start len e = go (wellMade p n) refl e
   where
-    go : (b : Bool) → wellMade p n ≡ b → cond b (Books.Made (floats (entries p)) (endOf 0 (entries p))) Books.Unmade ≡ Books.Made sum end → Told p n sum end
-    go true m f = record { made = m; sums = cc; ends = cc }
+    go : (b : Bool) → wellMade p n ≡ b → cond b (told-of p k) Books.Unmade ≡ Books.Made sum end place start len → Told p n k sum end place start len
+    go true m f = record { made = m; sums = cc; ends = cc; stands = cc; starts = cc; long = cc }
     go false m f = let z : _≡_ {A = ℕ} 0 1 = cc in absurd (omega arith)
 
-pub untold : (p : Pool) (n : ℕ) → booksOf p n ≡ Books.Unmade → wellMade p n ≡ false
+pub untold : (p : Pool) (n k : ℕ) → booksOf p n k ≡ Books.Unmade → wellMade p n ≡ false
 unfolding booksOf
-untold p n e = go (wellMade p n) refl e
+untold p n k e = go (wellMade p n) refl e
   where
-    go : (b : Bool) → wellMade p n ≡ b → cond b (Books.Made (floats (entries p)) (endOf 0 (entries p))) Books.Unmade ≡ Books.Unmade → b ≡ false
+    go : (b : Bool) → wellMade p n ≡ b → cond b (told-of p k) Books.Unmade ≡ Books.Unmade → b ≡ false
     go true m f = let z : _≡_ {A = ℕ} 0 1 = cc in absurd (omega arith)
     go false m f = refl
 
@@ -54,12 +58,9 @@ module _ (p : Pool) (n k i : ℕ) (w : p .count ≤ length (p .held)) (m : wellM
   pub held-nowhere : p .count ≤ i → has keyOf k (entries p) ≡ false
   held-nowhere l = place-none k (entries p) (omega (arith, length-entries p w))
 
-  pub find-held : (d : Held) → i < p .count → Found.At (getD (p .held) i d .start) (getD (p .held) i d .len) ≡ findAnswer p n k
+  pub find-held : (start len : ℕ) → start ≡ foundStart (lookup k (entries p)) → len ≡ foundLen (lookup k (entries p)) → i < p .count → Found.At start len ≡ findAnswer p n k
   unfolding findAnswer
-  find-held d l =
-      let g : getD (entries p) (placeIn k (entries p)) d ≡ getD (p .held) i d = ap (λ (x : ℕ). getD (entries p) x d) (sym e) ∙ getD-take (p .count) (p .held) i d l in
-      let f = place-lookup k (entries p) d (omega (arith, length-entries p w)) in
-      rw m (ap (λ (h : Held). Found.At (h .start) (h .len)) (sym g) ∙ sym f)
+  find-held start len f g l = rw (m, f, g) (sym (held-at k (entries p) (held-there l)))
 
   pub find-unknown : p .count ≤ i → Found.Refused F.Refusal.KeyUnknown ≡ findAnswer p n k
   unfolding findAnswer

@@ -1,6 +1,7 @@
 pub mod Orders
 pub mod Parts
 pub mod Lookups
+pub mod Scans
 pub mod Answers
 pub mod Adds
 pub mod Results

@@ -1,11 +1,11 @@
 -- Laws of keys: where one stands, whether it is held, what is looked up and left out by it. Assumes nothing.
-use mathlib.Core.Path.{_≡_, refl, ap}
+use mathlib.Core.Path.{_≡_, refl, sym, ap}
 use mathlib.Core.Bool.{Bool, true, false, _||_, cond, true≢false}
 use mathlib.Core.List.{List, [], _∷_}
 use Prim.Native.Nat.{ℕ, suc, _+_, _≤_, _<_}
 use native.Mathlib.Omega.{arith}
 use lib.Dec.{eqb}
-use lib.ListN.{length, getD}
+use lib.ListN.{length}
 use Rattle.picture_limits.specs.declared.Refusal as F
 use Rattle.pool.specs.declared.Held.{Held}
 use Rattle.pool.specs.declared.Found.{Found}
@@ -43,17 +43,16 @@ place-none k (h ∷ hs) l = go (eqb (h .key) k) l (λ m. place-none k hs m)
     go true l r = absurd (omega arith)
     go false l r = r (omega arith)
 
-pub place-lookup : (k : ℕ) (es : List Held) (d : Held) → placeIn k es < length es → lookup k es ≡ Found.At (getD es (placeIn k es) d .start) (getD es (placeIn k es) d .len)
-unfolding placeIn lookup
-place-lookup k [] d l = absurd (omega arith)
-place-lookup k (h ∷ hs) d l = go (eqb (h .key) k) l (λ m. place-lookup k hs d m)
+pub held-at : (k : ℕ) (es : List Held) → has keyOf k es ≡ true → lookup k es ≡ Found.At (foundStart (lookup k es)) (foundLen (lookup k es))
+unfolding has lookup
+held-at k [] e = absurd (true≢false (sym e))
+held-at k (h ∷ hs) e = go (eqb (h .key) k) e (λ f. held-at k hs f)
   where
-    go : (b : Bool) → cond b 0 (suc (placeIn k hs)) < suc (length hs)
-        → (placeIn k hs < length hs → lookup k hs ≡ Found.At (getD hs (placeIn k hs) d .start) (getD hs (placeIn k hs) d .len))
+    go : (b : Bool) → b || has keyOf k hs ≡ true → (has keyOf k hs ≡ true → lookup k hs ≡ Found.At (foundStart (lookup k hs)) (foundLen (lookup k hs)))
         → cond b (Found.At (h .start) (h .len)) (lookup k hs)
-        ≡ Found.At (getD (h ∷ hs) (cond b 0 (suc (placeIn k hs))) d .start) (getD (h ∷ hs) (cond b 0 (suc (placeIn k hs))) d .len)
-    go true l r = refl
-    go false l r = r (omega arith)
+        ≡ Found.At (foundStart (cond b (Found.At (h .start) (h .len)) (lookup k hs))) (foundLen (cond b (Found.At (h .start) (h .len)) (lookup k hs)))
+    go true e r = refl
+    go false e r = r e
 
 pub none-lookup : (k : ℕ) (es : List Held) → has keyOf k es ≡ false → lookup k es ≡ Found.Refused F.Refusal.KeyUnknown
 unfolding has lookup

@@ -24,7 +24,7 @@ use Rattle.pool.specs.Map.{Adds, addNumber, Result, result, keyIn, mapOf
 use Rattle.pool.specs.Calls as C
 use Rattle.pool.specs.Calls.{Since, ifDone, differ, Sound, Balance, Full, Gone, AddMoves, DropMoves, Lent, Kept, Keeps}
 use Rattle.pool.proofs.Orders.{made-says, made-is, length-entries, with-entries, floats-append}
-use Rattle.pool.proofs.Lookups.{none-lookup, floats-without, order-without}
+use Rattle.pool.proofs.Lookups.{held-at, none-lookup, floats-without, order-without}
 use Rattle.pool.proofs.Adds.{add-unmade, add-held, add-none, add-full, add-done}
 use Rattle.pool.proofs.Answers.{drop-unmade}
 use Rattle.pool.proofs.Results.{has-results, has-laid}
@@ -327,17 +327,6 @@ stepped : (p : Pool) (s : List Float) (k : ℕ) (vs : List Float) → Adds p s k
 stepped p s k vs a x =
     let n : addNumber (length s) (mapOf p s) k vs ≡ 0 = sym (a .number-is) ∙ ap (λ (o : Pooled). number (o .outcome)) (x .is) in
     a .map-is ∙ rw n
-
-held-at : (k : ℕ) (es : List Held) → has keyOf k es ≡ true → lookup k es ≡ Found.At (foundStart (lookup k es)) (foundLen (lookup k es))
-unfolding has lookup
-held-at k [] e = absurd (true≢false (sym e))
-held-at k (h ∷ hs) e = go (eqb (h .key) k) e (λ f. held-at k hs f)
-  where
-    go : (b : Bool) → b || has keyOf k hs ≡ true → (has keyOf k hs ≡ true → lookup k hs ≡ Found.At (foundStart (lookup k hs)) (foundLen (lookup k hs)))
-        → cond b (Found.At (h .start) (h .len)) (lookup k hs)
-        ≡ Found.At (foundStart (cond b (Found.At (h .start) (h .len)) (lookup k hs))) (foundLen (cond b (Found.At (h .start) (h .len)) (lookup k hs)))
-    go true e r = refl
-    go false e r = r e
 
 pub held-so : (n k : ℕ) (vs : List Float) (p : Pool) (s : List Float) → Kept n k vs p s → (has keyIn k (mapOf p s) ≡ true) × (vectorsIn k (mapOf p s) ≡ vs)
 held-so n k vs p s (C.added {p = q} {s = t} c e) = go (led-made n q t (led n q t c)) (add-case q t k vs)

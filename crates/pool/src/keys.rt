@@ -1,15 +1,15 @@
-// The bookkeeping: whether it is one for the slice, where a key stands in it, and a key left out.
+// The bookkeeping: whether it is one for the slice and where a key stands in it, and a key left out.
 use crate::Books;
 use crate::Pool;
-use buffers::room::inside;
 ghost use mathlib.Core.Path.{_≡_};
 ghost use Prim.Native.Nat.{_≤_, _<_};
 ghost use Rattle.pool.specs.Book.{entries, with};
-ghost use Rattle.pool.specs.inner.Place.{placeIn, leftOut, booksOf};
+ghost use Rattle.pool.specs.inner.Place.{leftOut, booksOf};
 
-// Whether p is a pool for a slice of n floats: made for that length, and its results one behind the other inside.
-pub(crate) fn judge(p: Pool, n: usize) -> Books
-    ensures { λ r. ⌜ r ≡ booksOf p n ⌝ }
+// Whether p is a pool for a slice of n floats, and where the key stands. Both are asked here, since each function that reads
+// the bookkeeping copies it.
+pub(crate) fn scan(p: Pool, n: usize, key: u64) -> Books
+    ensures { λ r. ⌜ r ≡ booksOf p n key ⌝ }
 {
     let count = p.count;
     if (p.len != n) | (64 < count) {
@@ -20,30 +20,40 @@ pub(crate) fn judge(p: Pool, n: usize) -> Books
     let mut i = 0usize;
     while i < count {
         let h = p.held[i];
-        if (h.start < end) | !inside(n, h.start, h.len) {
+        if h.start < end {
+            return Books::Unmade;
+        }
+        if 18446744073709551615 - h.start < h.len {
             return Books::Unmade;
         }
         end = h.start + h.len;
         floats += h.len;
         i += 1;
     }
-    Books::Made { floats, end }
-}
-
-// Which of the held results has the key: the first that has it, and else as many as are held.
-pub(crate) fn place_of(p: Pool, key: u64) -> usize
-    requires { ⌜ p .count ≤ 64 ⌝ }
-    ensures { λ r. ⌜ r ≡ placeIn key (entries p) ⌝ }
-{
-    let count = p.count;
-    let mut i = 0usize;
-    while i < count {
-        if p.held[i].key == key {
-            return i;
-        }
-        i += 1;
+    if n < end {
+        return Books::Unmade;
     }
-    i
+    let mut j = 0usize;
+    while j < count {
+        let h = p.held[j];
+        if h.key == key {
+            return Books::Made {
+                floats,
+                end,
+                place: j,
+                start: h.start,
+                len: h.len,
+            };
+        }
+        j += 1;
+    }
+    Books::Made {
+        floats,
+        end,
+        place: count,
+        start: 0,
+        len: 0,
+    }
 }
 
 // All but the held result at place i; those behind it move up by one.

@@ -2,17 +2,16 @@
 mod keys;
 mod slice;
 
-use crate::keys::judge;
 use crate::keys::leave_out;
-use crate::keys::place_of;
+use crate::keys::scan;
 use crate::slice::slide;
 use crate::slice::store;
 use picture_limits::Refusal;
 ghost use mathlib.Core.Path.{_≡_};
-ghost use mathlib.Core.Bool.{true};
+ghost use mathlib.Core.Bool.{true, false};
 ghost use lib.ListN.{length};
 ghost use Rattle.pool.specs.Book as B;
-ghost use Rattle.pool.specs.Book.{entries, wellMade, endOf};
+ghost use Rattle.pool.specs.Book.{entries, wellMade, endOf, has, keyOf};
 ghost use Rattle.pool.specs.Pool.{newPool, refused, addAnswer, addSlice, findAnswer, dropAnswer};
 
 // A key, and the place of its vectors in the slice.
@@ -48,9 +47,16 @@ pub enum Found {
     Refused(Refusal),
 }
 
-// What a test of the bookkeeping finds: of a pool for this slice, the floats that it holds and where the last result ends.
+// What a look at the bookkeeping finds: of a pool for this slice, the floats that it holds, where the last result ends, and
+// which of the results has the key, as many as there are where none has it, with its place in the slice.
 pub enum Books {
-    Made { floats: usize, end: usize },
+    Made {
+        floats: usize,
+        end: usize,
+        place: usize,
+        start: usize,
+        len: usize,
+    },
     Unmade,
 }
 
@@ -78,21 +84,17 @@ fn refuse(p: Pool, why: Refusal) -> Pooled
     Pooled { outcome, pool: p }
 }
 
-// What add does with a pool for this slice, which holds `sum` floats, the last of them before `end`.
-fn add_made(p: Pool, s: &mut [f32], key: u64, vectors: &[f32], sum: usize, end: usize) -> Pooled
-    requires { ⌜ (wellMade p (length (now s)) ≡ true) × (sum ≡ B.floats (entries p)) × (end ≡ endOf 0 (entries p)) ⌝ }
+// What add does with a pool for this slice that does not hold the key; it holds `sum` floats, the last of them before `end`.
+fn add_new(p: Pool, s: &mut [f32], key: u64, vectors: &[f32], sum: usize, end: usize) -> Pooled
+    requires { ⌜ (wellMade p (length (now s)) ≡ true) × (sum ≡ B.floats (entries p)) × (end ≡ endOf 0 (entries p)) × (has keyOf key (entries p) ≡ false) ⌝ }
     ensures answer { λ r. ⌜ r ≡ addAnswer p (now (s .entry)) key (now (vectors .entry)) ⌝ }
     ensures output { λ _. ⌜ now (s .exit) ≡ addSlice p (now (s .entry)) key (now (vectors .entry)) ⌝ }
 {
-    let count = p.count;
-    if place_of(p, key) < count {
-        return refuse(p, Refusal::KeyHeld);
-    }
     let n = vectors.len();
     if n == 0 {
         return refuse(p, Refusal::NoVectors);
     }
-    if (64 <= count) | (s.len() - sum < n) {
+    if (64 <= p.count) | (s.len() - sum < n) {
         return refuse(p, Refusal::PoolFull);
     }
     let outcome = Outcome::Done;
@@ -111,29 +113,40 @@ pub fn add(p: Pool, s: &mut [f32], key: u64, vectors: &[f32]) -> Pooled
     ensures answer { λ r. ⌜ r ≡ addAnswer p (now (s .entry)) key (now (vectors .entry)) ⌝ }
     ensures output { λ _. ⌜ now (s .exit) ≡ addSlice p (now (s .entry)) key (now (vectors .entry)) ⌝ }
 {
-    let books = judge(p, s.len());
-    match books {
-        Books::Made { floats, end } => add_made(p, s, key, vectors, floats, end),
-        Books::Unmade => refuse(p, Refusal::PoolSlice),
+    let books = scan(p, s.len(), key);
+    let Books::Made {
+        floats,
+        end,
+        place,
+        start: _,
+        len: _,
+    } = books
+    else {
+        return refuse(p, Refusal::PoolSlice);
+    };
+    if place < p.count {
+        return refuse(p, Refusal::KeyHeld);
     }
+    add_new(p, s, key, vectors, floats, end)
 }
 
 // Where the vectors of the key stand.
 pub fn find(p: Pool, s: &[f32], key: u64) -> Found
     ensures { λ r. ⌜ r ≡ findAnswer p (length (now (s .entry))) key ⌝ }
 {
-    let books = judge(p, s.len());
-    let Books::Made { floats: _, end: _ } = books else {
+    let books = scan(p, s.len(), key);
+    let Books::Made {
+        floats: _,
+        end: _,
+        place,
+        start,
+        len,
+    } = books
+    else {
         return Found::Refused(Refusal::PoolSlice);
     };
-    let count = p.count;
-    let i = place_of(p, key);
-    if i < count {
-        let h = p.held[i];
-        return Found::At {
-            start: h.start,
-            len: h.len,
-        };
+    if place < p.count {
+        return Found::At { start, len };
     }
     Found::Refused(Refusal::KeyUnknown)
 }
@@ -142,15 +155,20 @@ pub fn find(p: Pool, s: &[f32], key: u64) -> Found
 pub fn drop_key(p: Pool, s: &[f32], key: u64) -> Pooled
     ensures { λ r. ⌜ r ≡ dropAnswer p (length (now (s .entry))) key ⌝ }
 {
-    let books = judge(p, s.len());
-    let Books::Made { floats: _, end: _ } = books else {
+    let books = scan(p, s.len(), key);
+    let Books::Made {
+        floats: _,
+        end: _,
+        place,
+        start: _,
+        len: _,
+    } = books
+    else {
         return refuse(p, Refusal::PoolSlice);
     };
-    let count = p.count;
-    let i = place_of(p, key);
-    if i < count {
+    if place < p.count {
         let outcome = Outcome::Done;
-        let pool = leave_out(p, i);
+        let pool = leave_out(p, place);
         return Pooled { outcome, pool };
     }
     refuse(p, Refusal::KeyUnknown)

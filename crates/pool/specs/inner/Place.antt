@@ -8,6 +8,7 @@ use Rattle.pool.specs.declared.Held.{Held}
 use Rattle.pool.specs.declared.Pool.{Pool}
 use Rattle.pool.specs.declared.Books.{Books}
 use Rattle.pool.specs.Book.{entries, floats, endOf, wellMade}
+use Rattle.pool.specs.Pool.{lookup, foundStart, foundLen}
 
 -- at which place the first with the key stands; as many as there are where none has it
 unfoldable pub placeIn : ℕ → List Held → ℕ
@@ -18,6 +19,9 @@ placeIn k (h ∷ hs) = cond (eqb (h .key) k) 0 (suc (placeIn k hs))
 abbrev pub leftOut : ℕ → List Held → List Held
 leftOut i es = take i es ++ drop (suc i) es
 
--- of a pool for a slice of n floats, how many floats it holds and where the last result ends
-unfoldable pub booksOf : Pool → ℕ → Books
-booksOf p n = cond (wellMade p n) (Books.Made (floats (entries p)) (endOf 0 (entries p))) Books.Unmade
+-- of a pool for a slice of n floats, how many floats it holds, where the last result ends, and where the key stands
+unfoldable pub booksOf : Pool → ℕ → ℕ → Books
+booksOf p n k =
+    cond (wellMade p n)
+    (Books.Made (floats (entries p)) (endOf 0 (entries p)) (placeIn k (entries p)) (foundStart (lookup k (entries p))) (foundLen (lookup k (entries p))))
+    Books.Unmade
