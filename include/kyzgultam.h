@@ -258,6 +258,54 @@ struct kz_config_report {
  */
 struct kz_config_report kz_config(struct kz_encoder_settings lent, const uint8_t *text, size_t text_len);
 
+/* A key that a pool holds, and where its vectors stand in the slice. */
+struct kz_held {
+    uint64_t key;
+    size_t start, len;
+};
+
+struct kz_pool {
+    size_t len;              /* of the slice that the pool was made for, in floats */
+    size_t count;            /* results held: the first of `held`, in the order of adding */
+    struct kz_held held[64]; /* what stands behind them says nothing */
+};
+
+struct kz_pool_report {
+    uint32_t number;
+    struct kz_pool pool; /* after the call: with any number but 0, the one that was lent */
+};
+
+struct kz_pool_place {
+    uint32_t number;
+    size_t start, len; /* 0 and 0 with any number but 0 */
+};
+
+/*
+ * A pool of token vectors: up to 64 results in one lent slice of floats, each under a key, the number of a sweep. The
+ * bookkeeping goes in by value and comes back; the floats stand in the slice. As long as every call lends that slice
+ * and nothing else writes to it, the vectors of a key are the ones that were added, until the key is dropped.
+ * kz_pool_new gives an empty pool for a slice of len floats, and reads no slice.
+ * Every call is refused with 27 first, where the lent slice has another length, and where no calls make such a pool:
+ * more than 64 results, or one that does not end inside the slice or starts before the end of the one before it. Keys
+ * are not compared for that; of equal ones the first counts. With any number but 0 the slice is as it was.
+ */
+struct kz_pool kz_pool_new(size_t len);
+
+/*
+ * Holds the vectors under the key. They stand behind the last result; only where the room there does not suffice are
+ * the held results first slid down, one right behind the other from the front of the slice. So add moves what
+ * kz_pool_find handed back before: ask again. The vectors may not overlap the slice. Refused with 27, 23, 24, 25: with
+ * 25 exactly where 64 results are held, or the floats held and the new ones are more than the slice has.
+ */
+struct kz_pool_report kz_pool_add(struct kz_pool pool, float *slice, size_t slice_len, uint64_t key,
+                                  const float *vectors, size_t vectors_len);
+
+/* Where the vectors of the key stand in the slice. Refused with 27, 26. */
+struct kz_pool_place kz_pool_find(struct kz_pool pool, const float *slice, size_t slice_len, uint64_t key);
+
+/* Holds the key no longer; no float is moved, and its room is used again. Refused with 27, 26. */
+struct kz_pool_report kz_pool_drop(struct kz_pool pool, const float *slice, size_t slice_len, uint64_t key);
+
 /*
  * The number rules, on bit patterns (libnumber.a). Each takes any pattern and returns; the first five and pack and
  * widen write nothing. The floating-point state is owed as above.

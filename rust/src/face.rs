@@ -120,6 +120,35 @@ pub struct ConfigReport {
     pub settings: EncoderSettings,
 }
 
+#[repr(C)]
+#[derive(Clone, Copy)]
+pub struct Held {
+    pub key: u64,
+    pub start: usize,
+    pub len: usize,
+}
+
+#[repr(C)]
+#[derive(Clone, Copy)]
+pub struct Pool {
+    pub len: usize,
+    pub count: usize,
+    pub held: [Held; 64],
+}
+
+#[repr(C)]
+pub struct PoolReport {
+    pub number: u32,
+    pub pool: Pool,
+}
+
+#[repr(C)]
+pub struct PoolPlace {
+    pub number: u32,
+    pub start: usize,
+    pub len: usize,
+}
+
 extern "C" {
     pub fn kz_preprocess(
         settings: PictureSettings,
@@ -222,6 +251,21 @@ extern "C" {
     pub fn kz_lengths(settings: EncoderSettings, grid_h: usize, grid_w: usize) -> LengthsReport;
 
     pub fn kz_config(lent: EncoderSettings, text: *const u8, text_len: usize) -> ConfigReport;
+
+    pub fn kz_pool_new(len: usize) -> Pool;
+
+    pub fn kz_pool_add(
+        pool: Pool,
+        slice: *mut f32,
+        slice_len: usize,
+        key: u64,
+        vectors: *const f32,
+        vectors_len: usize,
+    ) -> PoolReport;
+
+    pub fn kz_pool_find(pool: Pool, slice: *const f32, slice_len: usize, key: u64) -> PoolPlace;
+
+    pub fn kz_pool_drop(pool: Pool, slice: *const f32, slice_len: usize, key: u64) -> PoolReport;
 
     pub fn kz_bf16(x: u32) -> u32;
     pub fn kz_half(h: u16) -> u32;

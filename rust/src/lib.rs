@@ -10,7 +10,7 @@
 //! A picture larger than the image size is resized, or, where nothing may be lost, taken tile by tile: [`cut`],
 //! [`preprocess_tile`] and [`restore_tile`]. Patches that [`restore`] refuses for damaged samples, [`salvage`] brings
 //! back without these, and lists them. [`forward`] takes the Rust's rotary tables, [`forward_axes`] small ones. [`config`]
-//! reads settings from a config.json.
+//! reads settings from a config.json. A [`Pool`] keeps the token vectors of up to 64 sweeps, to compare a new one with.
 //!
 //! ```
 //! use kyzgultam::{forward_axes, pixtral_preprocess, restore, rope_axes, EncoderSettings, PictureSettings};
@@ -57,6 +57,7 @@ mod calls;
 mod config;
 mod face;
 mod number;
+mod pool;
 mod refusal;
 mod rope;
 mod salvage;
@@ -67,6 +68,7 @@ pub use calls::{forward, forward_axes, patch, pixtral_preprocess, restore, Patch
 pub use config::{config, ConfigRefusal};
 pub use number::{bf16, bf16_pack, bf16_pack_all, bf16_widen, bf16_widen_all};
 pub use number::{exp, half_to_f32, root, tanh};
+pub use pool::Pool;
 pub use refusal::Refusal;
 pub use rope::{rope_axes, RopeAxes};
 pub use salvage::{salvage, BadSample, Salvaged};

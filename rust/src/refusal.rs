@@ -136,7 +136,7 @@ impl fmt::Display for Refusal {
             Refusal::Tile => "the tile's index is outside the cut of the sweep",
             Refusal::List => "there are more bad samples than the list has entries",
             Refusal::KeyHeld => "the pool holds the key already",
-            Refusal::NoVectors => "no vectors are given",
+            Refusal::NoVectors => "there are no vectors to add",
             Refusal::PoolFull => "the pool holds 64 results, or its slice has no room for these vectors",
             Refusal::KeyUnknown => "the pool does not hold the key",
             Refusal::PoolSlice => "the pool was not made for a slice of this length",

@@ -999,6 +999,152 @@ static void config(void) {
     }
 }
 
+enum { POOL = 100 };
+
+/* The slice is marked with NaNs of their own bits, and so are the vectors: what is moved keeps its bits. */
+static float slice[POOL + TAIL], vectors[POOL + 1];
+
+static int same_pool(const struct kz_pool *a, const struct kz_pool *b) {
+    if (a->len != b->len || a->count != b->count) return 0;
+    for (size_t i = 0; i < 64; i++) {
+        const struct kz_held *x = a->held + i, *y = b->held + i;
+        if (x->key != y->key || x->start != y->start || x->len != y->len) return 0;
+    }
+    return 1;
+}
+
+/* A call that is refused hands back the pool that was lent, and the slice is as it was. */
+static void pool_refused(struct kz_pool p, size_t slice_len, uint64_t key, size_t n, uint32_t number) {
+    static float before[POOL + TAIL];
+    memcpy(before, slice, sizeof slice);
+    struct kz_pool_report r = kz_pool_add(p, slice, slice_len, key, vectors, n);
+    EXPECT(r.number == number && same_pool(&r.pool, &p) && memcmp(before, slice, sizeof slice) == 0);
+}
+
+static void pool_unknown(struct kz_pool p, size_t slice_len, uint64_t key, uint32_t number) {
+    static float before[POOL + TAIL];
+    memcpy(before, slice, sizeof slice);
+    struct kz_pool_report r = kz_pool_drop(p, slice, slice_len, key);
+    struct kz_pool_place found = kz_pool_find(p, slice, slice_len, key);
+    EXPECT(r.number == number && same_pool(&r.pool, &p) && memcmp(before, slice, sizeof slice) == 0);
+    EXPECT(found.number == number && found.start == 0 && found.len == 0);
+}
+
+static struct kz_pool pool_added(struct kz_pool p, uint64_t key, size_t from, size_t n) {
+    struct kz_pool_report r = kz_pool_add(p, slice, POOL, key, vectors + from, n);
+    EXPECT(r.number == KZ_ACCEPTED && r.pool.len == POOL && r.pool.count == p.count + 1);
+    EXPECT(r.pool.held[p.count].key == key && r.pool.held[p.count].len == n);
+    return r.pool;
+}
+
+static struct kz_pool pool_dropped(struct kz_pool p, uint64_t key) {
+    struct kz_pool_report r = kz_pool_drop(p, slice, POOL, key);
+    EXPECT(r.number == KZ_ACCEPTED && r.pool.len == POOL && r.pool.count == p.count - 1);
+    return r.pool;
+}
+
+/* The key is held at this place, with the vectors from there on. */
+static void pool_has(struct kz_pool p, uint64_t key, size_t start, size_t from, size_t n) {
+    struct kz_pool_place found = kz_pool_find(p, slice, POOL, key);
+    EXPECT(found.number == KZ_ACCEPTED && found.start == start && found.len == n);
+    EXPECT(memcmp(slice + start, vectors + from, n * sizeof *slice) == 0);
+}
+
+static void pool(void) {
+    struct kz_pool p = kz_pool_new(POOL), q;
+
+    mark_all(slice, POOL + TAIL);
+    for (size_t i = 0; i < POOL + 1; i++) {
+        uint32_t bits = UINT32_C(0xFF900000) + (uint32_t)i;
+        memcpy(vectors + i, &bits, sizeof bits);
+    }
+    EXPECT(p.len == POOL && p.count == 0);
+    for (size_t i = 0; i < 64; i++) EXPECT(p.held[i].key == 0 && p.held[i].start == 0 && p.held[i].len == 0);
+    pool_unknown(p, POOL, 0, KZ_KEY_UNKNOWN);
+    pool_refused(p, POOL, 0, 0, KZ_NO_VECTORS);
+    pool_refused(p, POOL, 0, POOL + 1, KZ_POOL_FULL);
+
+    /* Three results, the middle one dropped: the next goes behind the last while there is room, and slides then. */
+    p = pool_added(p, 7, 0, 40);
+    p = pool_added(p, UINT64_MAX, 40, 20);
+    p = pool_added(p, 0, 60, 30);
+    pool_has(p, 7, 0, 0, 40);
+    pool_has(p, UINT64_MAX, 40, 40, 20);
+    pool_has(p, 0, 60, 60, 30);
+    EXPECT(marked(slice, 90, POOL + TAIL));
+    pool_refused(p, POOL, 7, 0, KZ_KEY_HELD);
+    pool_refused(p, POOL, 0, POOL, KZ_KEY_HELD);
+    pool_refused(p, POOL, 1, 0, KZ_NO_VECTORS);
+    pool_refused(p, POOL, 1, 11, KZ_POOL_FULL);
+    p = pool_dropped(p, UINT64_MAX);
+    pool_unknown(p, POOL, UINT64_MAX, KZ_KEY_UNKNOWN);
+    q = pool_added(p, 5, 1, 10);
+    pool_has(q, 0, 60, 60, 30);
+    pool_has(q, 5, 90, 1, 10);
+    p = pool_added(p, 5, 1, 30);
+    pool_has(p, 7, 0, 0, 40);
+    pool_has(p, 0, 40, 60, 30);
+    pool_has(p, 5, 70, 1, 30);
+    EXPECT(marked(slice, POOL, POOL + TAIL));
+    pool_refused(p, POOL, 6, 1, KZ_POOL_FULL);
+
+    /* Sixty-four results. */
+    p = kz_pool_new(POOL);
+    for (uint64_t key = 0; key < 64; key++) p = pool_added(p, key * key, (size_t)key, 1);
+    pool_refused(p, POOL, 2, 1, KZ_POOL_FULL);
+    pool_refused(p, POOL, 63 * 63, 1, KZ_KEY_HELD);
+    p = pool_dropped(p, 0);
+    p = pool_added(p, 2, 70, 37);
+    for (size_t key = 1; key < 64; key++) pool_has(p, key * key, key - 1, key, 1);
+    pool_has(p, 2, 63, 70, 31 + 6);
+
+    /* Another slice, and bookkeepings that no calls make. */
+    pool_refused(p, POOL - 1, 3, 1, KZ_POOL_SLICE);
+    pool_refused(p, POOL + 1, 2, 0, KZ_POOL_SLICE);
+    pool_refused(p, 0, 2, 0, KZ_POOL_SLICE);
+    pool_unknown(p, POOL + 1, 2, KZ_POOL_SLICE);
+    static const struct kz_held bad[][2] = {
+        {{1, POOL, 1}, {2, 0, 0}},
+        {{1, POOL + 1, 0}, {2, 0, 0}},
+        {{1, 0, POOL + 1}, {2, POOL, 0}},
+        {{1, SIZE_MAX, 2}, {2, 1, 1}},
+        {{1, 1, SIZE_MAX}, {2, 0, 1}},
+        {{1, SIZE_MAX, SIZE_MAX}, {2, SIZE_MAX, SIZE_MAX}},
+        {{1, 0, 10}, {2, 9, 10}},
+        {{1, 10, 10}, {2, 0, 10}},
+        {{1, 0, 10}, {2, 10, POOL - 9}},
+    };
+    for (size_t i = 0; i < sizeof bad / sizeof *bad; i++) {
+        p = kz_pool_new(POOL);
+        p.count = 2;
+        memcpy(p.held, bad[i], sizeof bad[i]);
+        pool_refused(p, POOL, 3, 1, KZ_POOL_SLICE);
+        pool_unknown(p, POOL, 1, KZ_POOL_SLICE);
+        p.count = 0;
+        pool_unknown(p, POOL, 1, KZ_KEY_UNKNOWN);
+    }
+    p = kz_pool_new(POOL);
+    for (size_t count = 65; count != 0; count <<= 1) {
+        p.count = count;
+        pool_refused(p, POOL, 0, 0, KZ_POOL_SLICE);
+        pool_unknown(p, POOL, 0, KZ_POOL_SLICE);
+    }
+    /* Of equal keys the first counts. */
+    p.count = 2;
+    p.held[0] = (struct kz_held){1, 3, 4};
+    p.held[1] = (struct kz_held){1, 7, 5};
+    struct kz_pool_place found = kz_pool_find(p, slice, POOL, 1);
+    EXPECT(found.number == KZ_ACCEPTED && found.start == 3 && found.len == 4);
+    p = pool_dropped(p, 1);
+    found = kz_pool_find(p, slice, POOL, 1);
+    EXPECT(found.number == KZ_ACCEPTED && found.start == 7 && found.len == 5);
+    /* A slice of none. */
+    p = kz_pool_new(0);
+    EXPECT(kz_pool_add(p, NULL, 0, 1, NULL, 0).number == KZ_NO_VECTORS);
+    EXPECT(kz_pool_add(p, NULL, 0, 1, vectors, 1).number == KZ_POOL_FULL);
+    EXPECT(kz_pool_find(p, NULL, 0, 1).number == KZ_KEY_UNKNOWN);
+}
+
 static void number(void) {
     EXPECT(kz_bf16(0x3F808000) == 0x3F800000 && kz_bf16(0x3F818000) == 0x3F820000);
     EXPECT(kz_bf16(0x7FFFFFFF) == 0x80000000 && kz_bf16(0x7F7FFFFF) == 0x7F800000);
@@ -1044,6 +1190,7 @@ int main(void) {
     projector_bias();
     lengths();
     config();
+    pool();
     number();
     packed();
     if (!failed) puts("face.c: every call and every number is as the header says");
