@@ -96,6 +96,10 @@ fn usage() {
         ("restore a.patches -o out.ppm --all", "no option --all"),
         ("restore a.patches -o out.ppm --map m.png", "no option --map"),
         ("compare a.ppm", "two files"),
+        ("compare --tokens a.npy", "two files or more"),
+        ("compare --tokens a.npy b.npy -o out.png", "files only"),
+        ("compare --tokens a.npy b.npy --force", "files only"),
+        ("encode a.ppm --tokens", "no option --tokens"),
         ("compare a.ppm a.ppm a.ppm", "two files"),
         ("bench now", "no files"),
         ("bench --quick --size 8x8", "--quick goes with no other option"),
@@ -569,6 +573,53 @@ fn compare_finds_the_patches_that_differ() {
 }
 
 #[test]
+fn compare_finds_the_nearest_earlier_sweep() {
+    let folder = Folder::new("nearest");
+    // Two vectors of three floats; b turns the second by a right angle, c both of them by none, d is of another shape.
+    let a = [3.0, 0.0, 0.0, 0.0, 0.5, 0.0];
+    folder.put("a.npy", &npy([1, 2, 3], &a));
+    folder.put("b.npy", &npy([1, 2, 3], &[1.0, 0.0, 0.0, 0.0, 0.0, -7.0]));
+    folder.put("c.npy", &npy([1, 2, 3], &a.map(|x| x * 4.0)));
+    folder.put("d.npy", &npy([2, 1, 3], &a));
+    folder.put("none.npy", &npy([1, 2, 3], &[0.0, 0.0, 0.0, 0.0, 1.0, f32::NAN]));
+    let said = folder.done("compare --tokens a.npy b.npy c.npy d.npy none.npy c.npy b.npy");
+    let rows: Vec<Vec<&str>> = said.lines().map(|line| line.split_whitespace().collect()).collect();
+    assert_eq!(rows[0], ["sweep", "nearest", "earlier", "mean", "cosine"]);
+    let right = [
+        ["a.npy", "-", "-"],
+        ["b.npy", "a.npy", "0.500000"],
+        ["c.npy", "a.npy", "1.000000"],
+        ["d.npy", "-", "-"],
+        ["none.npy", "c.npy", "0.000000"],
+        ["c.npy", "c.npy", "1.000000"],
+        ["b.npy", "b.npy", "1.000000"],
+    ];
+    assert_eq!(rows[1..], right);
+    // Of more than 64 the last 64 are kept: the first file is nearest to the 65th, and gone for the 66th.
+    let other = "b.npy ".repeat(64);
+    let said = folder.done(&format!("compare --tokens a.npy {other}"));
+    assert!(said.lines().last().unwrap().contains("b.npy  b.npy"));
+    let far = |n: usize| folder.done(&format!("compare --tokens a.npy {} a.npy", "d.npy ".repeat(n)));
+    assert!(far(63).lines().last().unwrap().contains("1.000000"));
+    assert!(!far(64).lines().last().unwrap().contains("1.000000"));
+    folder.put("cut.npy", &npy([1, 2, 3], &a)[..140]);
+    folder.put("empty.npy", &npy([0, 2, 3], &[]));
+    folder.fails(1, "compare --tokens a.npy cut.npy", &["cut.npy", "is damaged"]);
+    folder.fails(1, "compare --tokens a.npy empty.npy", &["empty.npy", "holds no token vectors"]);
+    folder.fails(1, "compare --tokens a.npy away.npy", &["away.npy", "cannot be read"]);
+    // Packed ones are widened.
+    sweep(&folder, "a.ppm", 8, 8, 1);
+    sweep(&folder, "b.ppm", 8, 8, 2);
+    folder.done(&format!("encode a.ppm b.ppm -o wide {LIST}"));
+    folder.done(&format!("encode a.ppm b.ppm -o packed --bf16 {LIST}"));
+    let said =
+        folder.done("compare --tokens wide/a.tokens.npy wide/b.tokens.npy packed/b.tokens.npy packed/a.tokens.npy");
+    let rows: Vec<Vec<&str>> = said.lines().map(|line| line.split_whitespace().collect()).collect();
+    assert_eq!((rows[3][1], rows[4][1]), ("wide/b.tokens.npy", "wide/a.tokens.npy"));
+    assert!(rows[3][2].parse::<f64>().unwrap() > 0.999);
+}
+
+#[test]
 fn names_after_two_dashes_are_files() {
     let folder = Folder::new("dashes");
     sweep(&folder, "-a.ppm", 8, 8, 1);
@@ -593,6 +644,7 @@ fn bench_times_every_call() {
     a_tile(&said);
     a_salvage(&said);
     small_tables(&said);
+    a_pool(&said);
 }
 
 /// The lines of a tile: two calls, each with two times and their ratio.
@@ -618,6 +670,16 @@ fn small_tables(said: &str) {
     for (line, name) in [(built_in, "hidden 64, grid 20x20 "), (wide, "hidden 1024, grid 8x8 ")] {
         assert!(line.starts_with(name) && line.ends_with(" of the speed"), "{line}");
     }
+}
+
+/// The lines of a pool: add with no slide and with one, and how long a find takes.
+fn a_pool(said: &str) {
+    let lines: Vec<&str> = said.lines().skip_while(|line| !line.starts_with("pool of 64 MB, ms ")).collect();
+    let [_, behind, slid, find, ..] = &lines[..] else { panic!("{said}") };
+    times_and_ratio(behind, "behind the last ");
+    times_and_ratio(slid, "after a slide of all ");
+    let each = find.strip_prefix("find in 64 keys, ns ").unwrap_or_else(|| panic!("{said}"));
+    assert!(each.trim().parse::<f64>().unwrap() > 1.0, "{said}");
 }
 
 /// A name, two times and how many times as long the first is.
@@ -671,6 +733,7 @@ fn bench_beside_the_rust() {
         a_tile(&said);
         a_salvage(&said);
         small_tables(&said);
+        a_pool(&said);
     }
     // Without the source the port is timed alone.
     let (status, said, errors) = bench_with(&folder, Some(&folder.path("none")));
@@ -681,6 +744,7 @@ fn bench_beside_the_rust() {
     a_tile(&said);
     a_salvage(&said);
     small_tables(&said);
+    a_pool(&said);
     // With a source that is another, oracle/run fails, and kz says so.
     fs::create_dir_all(folder.path("empty/crates/vision/src")).unwrap();
     for name in ["pixtral.rs", "image_process.rs"] {

@@ -4,7 +4,7 @@ use crate::fail::Fail;
 use crate::given::{Given, SMALL};
 use crate::model::{refused_settings, Lent, Model, Random, Tables};
 use crate::{room, say};
-use kyzgultam::{BadSample, EncoderSettings, PictureSettings, Refusal};
+use kyzgultam::{BadSample, EncoderSettings, PictureSettings, Pool, Refusal};
 use std::fs;
 use std::hint::black_box;
 use std::io::{stderr, Write};
@@ -27,15 +27,17 @@ with the archives that kz was linked with; the Rust's source is
 of 3000x2000, is timed in turn with a picture of the same 1540x1540 pixels;
 salvage of as many, with no sample bad and with every one, in turn with restore
 of the good ones; forward by small tables, in turn with forward by full ones;
-and bf16 packed and widened, in turn with a copy.
+bf16 packed and widened, and add to a pool, in turn with a copy; and find in a
+pool.
 
 The second form, and the first where the source or rustc is missing, times
 the port alone on noise, on one core: the best of the runs that fit into half
 a second, at least one. `share` is the part of a sweep's time. Without --size
 three sizes are timed, the largest without forward. The model is as for
-`kz encode`. Then come tile, salvage, tables, bf16 as above and, last, restore
-of the largest by three choices of mean and deviation, whatever --settings say:
-the Rust's, 0.2 and 0.25, and 0.2 and 1e38, with bytes found by halving.
+`kz encode`. Then come tile, salvage, tables, bf16 and pool as above and, last,
+restore of the largest by three choices of mean and deviation, whatever
+--settings say: the Rust's, 0.2 and 0.25, and 0.2 and 1e38, with bytes found by
+halving.
 ";
 
 const ORACLE: &str = concat!(env!("CARGO_MANIFEST_DIR"), "/../oracle/run");
@@ -83,6 +85,8 @@ fn beside_the_rust(grids: Option<&str>) -> Result<bool, Fail> {
             tables()?;
             say(format_args!(""));
             packs()?;
+            say(format_args!(""));
+            pools()?;
             say(format_args!(""));
         }
         let status = Command::new(&oracle).arg(ARCHIVES).args(&words).status();
@@ -135,6 +139,8 @@ fn alone(given: &Given) -> Result<(), Fail> {
     tables()?;
     say(format_args!(""));
     packs()?;
+    say(format_args!(""));
+    pools()?;
     let (height, width) = sizes[sizes.len() - 1];
     choices(&s.picture, height, width)
 }
@@ -304,6 +310,70 @@ fn packs() -> Result<(), Fail> {
         }
     }
     Ok(())
+}
+
+/// Floats of a pool's slice: 64 MB.
+const POOLED: usize = 16_000_000;
+
+/// Times add to a pool behind the last result, and add that slides 64 MB down first, each in turn with a copy of as many
+/// bytes, within the slice where it slides; and find of each of 64 keys.
+fn pools() -> Result<(), Fail> {
+    let advice = "try it again where there is more";
+    let mut slice = room::zeros(POOLED, "a pool", advice).map_err(Fail::Refused)?;
+    let mut to: Vec<f32> = room::zeros(POOLED, "a copy", advice).map_err(Fail::Refused)?;
+    let mut vectors = room::empty(POOLED, "vectors", advice).map_err(Fail::Refused)?;
+    vectors.extend((0..POOLED).map(|i| i as f32));
+    let added = in_turn(
+        || Pool::new(&mut slice).add(0, black_box(&vectors)),
+        || {
+            to.copy_from_slice(black_box(&vectors));
+            black_box(&to);
+            Ok(())
+        },
+    );
+    let slid = slides(&mut slice, &mut to, &vectors);
+    say(format_args!("{:<24}{:>10}{:>10}", "pool of 64 MB, ms", "add", "copy"));
+    for (name, times) in [("behind the last", added), ("after a slide of all", slid)] {
+        let [add, copy] = times.map_err(refused_settings)?.map(|time| time.as_secs_f64() * 1e3);
+        say(format_args!("{name:<24}{add:>10.2}{copy:>10.2}   {:.3} times as long", add / copy));
+    }
+    let mut pool = Pool::new(&mut slice);
+    for key in 0..64 {
+        pool.add(key, &vectors[..1024]).map_err(refused_settings)?;
+    }
+    let rounds = 1000;
+    let time = best(|| {
+        for key in (0..64).cycle().take(64 * rounds) {
+            black_box(pool.find(black_box(key))?);
+        }
+        Ok(())
+    });
+    let each = time.map_err(refused_settings)?.as_secs_f64() * 1e9 / (64 * rounds) as f64;
+    say(format_args!("{:<24}{each:>10.1}", "find in 64 keys, ns"));
+    Ok(())
+}
+
+/// The shortest of five adds for which all held results are slid down by sixteen floats, and of five such moves.
+fn slides(slice: &mut [f32], to: &mut [f32], vectors: &[f32]) -> Result<[Duration; 2], Refusal> {
+    let mut best = [Duration::MAX; 2];
+    for _ in 0..5 {
+        let mut pool = Pool::new(slice);
+        pool.add(0, &vectors[..16])?;
+        let rest = &vectors[16..];
+        for (key, some) in rest.chunks(rest.len().div_ceil(62)).enumerate() {
+            pool.add(key as u64 + 1, some)?;
+        }
+        pool.drop_key(0)?;
+        let began = Instant::now();
+        pool.add(0, black_box(&vectors[..16]))?;
+        best[0] = best[0].min(began.elapsed());
+        assert!(pool.find(1)?.iter().zip(rest).all(|(x, y)| x.to_bits() == y.to_bits()));
+        let began = Instant::now();
+        to.copy_within(16.., 0);
+        black_box(&*to);
+        best[1] = best[1].min(began.elapsed());
+    }
+    Ok(best)
 }
 
 /// The shortest run of each of two within a second. They take turns, and in being first too.

@@ -6,11 +6,12 @@ use crate::given::Given;
 use crate::model::allowed;
 use crate::netpbm::Picture;
 use crate::shown::shown;
-use crate::{answer, files, paint, png, room};
+use crate::{answer, files, nearest, paint, png, room};
 use kyzgultam::{patch, restore};
 
 pub const HELP: &str = "\
 kz compare A.ppm B.ppm [-o OUT.png] [--settings LIST] [--force]
+kz compare --tokens A.tokens.npy B.tokens.npy ..
 
 Says how many patches of A and B are equal, bit for bit, and which is the
 first that is not. Both are resized first, by the rule of --settings; where a
@@ -21,11 +22,19 @@ which the patches that differ are red (PPM, if OUT ends in .ppm). Exit status
 Of --settings (`kz encode --help`) patch, merge, image, rule, mean and
 deviation are used; the last two change no answer, since the same patches are
 equal by all that are allowed.
+
+With --tokens it reads token vectors, as `kz encode` writes them, and says of
+each sweep in turn, in a table, which of up to 64 before it is nearest: the
+one with the largest mean, over the places of the grid, of the cosine of the
+two token vectors there. Sweeps of another shape are not compared.
 ";
 
 const LARGER: &str = "give a larger patch= or a smaller image= in --settings";
 
 pub fn run(given: &Given) -> Result<(), Fail> {
+    if given.tokens {
+        return nearest::run(given);
+    }
     let [a, b] = &given.files[..] else {
         return Err(Fail::usage("compare takes two files, A.ppm and B.ppm"));
     };

@@ -10,7 +10,7 @@ use std::os::unix::ffi::OsStrExt;
 use std::path::{Path, PathBuf};
 
 /// The options without a value.
-const BARE: [&str; 7] = ["--all", "--bf16", "--force", "--large", "--quick", "--skip-existing", "--tiles"];
+const BARE: [&str; 8] = ["--all", "--bf16", "--force", "--large", "--quick", "--skip-existing", "--tiles", "--tokens"];
 
 /// Whether a word is an option, known or not. A single - is a name.
 fn dashed(word: &OsStr) -> bool {
@@ -53,6 +53,7 @@ pub struct Given {
     pub quick: bool,
     pub skip: bool,
     pub tiles: bool,
+    pub tokens: bool,
     options: Vec<(&'static str, OsString)>,
 }
 
@@ -73,6 +74,7 @@ impl Given {
                 given.quick |= word == "--quick";
                 given.skip |= word == "--skip-existing";
                 given.tiles |= word == "--tiles";
+                given.tokens |= word == "--tokens";
             } else {
                 let (name, joined) = parted(word);
                 let name = if name == "--out" { OsStr::new("-o") } else { name };

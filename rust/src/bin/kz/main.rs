@@ -11,6 +11,7 @@ mod given;
 mod join;
 mod log;
 mod model;
+mod nearest;
 mod netpbm;
 mod npy;
 mod paint;
@@ -39,7 +40,7 @@ kz: the Pixtral image encoder, proved; from the command line
   kz patches SWEEP.ppm .. -o DIR        patches of each sweep
   kz restore FILE.npy -o OUT.ppm        the picture that gave the patches
   kz salvage FILE.npy -o OUT.ppm        the picture of damaged patches
-  kz compare A.ppm B.ppm [-o OUT.png]   which patches are equal, as a picture
+  kz compare A.ppm B.ppm [-o OUT.png]   equal patches; --tokens: nearest sweeps
   kz config CONFIG.json                 the settings that a config.json says
   kz bench                              how long each call takes
 Pictures are binary netpbm, P5 or P6. Patches and token vectors are .npy of
@@ -87,7 +88,7 @@ const COMMANDS: [Command; 8] = [
     ),
     ("restore", restore::HELP, &["-o", "--tiles", "--grid", "--settings", "--force"], restore::run),
     ("salvage", salvage::HELP, &["-o", "--map", "--all", "--grid", "--settings", "--force"], salvage::run),
-    ("compare", compare::HELP, &["-o", "--settings", "--force"], compare::run),
+    ("compare", compare::HELP, &["-o", "--tokens", "--settings", "--force"], compare::run),
     ("config", config::HELP, &["--settings"], config::run),
     ("bench", bench::HELP, &["--quick", "--large", "--size", "--weights", "--tables", "--settings"], bench::run),
 ];

@@ -72,7 +72,7 @@ pub fn shape(source: &mut Source<impl Read>, wanted: Element) -> Result<Shape, S
 }
 
 /// The same of elements of either kind.
-fn any(source: &mut Source<impl Read>) -> Result<(Element, Shape), String> {
+pub fn any(source: &mut Source<impl Read>) -> Result<(Element, Shape), String> {
     let unread = |e: io::Error| format!("cannot be read: {e}");
     let short = || "ends inside its .npy header; get the whole file".to_string();
     let mut front = [0; FRONT];
