@@ -60,7 +60,14 @@ struct Place {
 
 extern "C" {
     fn kz_pool_new(len: usize) -> Books;
-    fn kz_pool_add(p: Books, slice: *mut u32, len: usize, key: u64, from: *const u32, n: usize) -> PoolReport;
+    fn kz_pool_add(
+        p: Books,
+        slice: *mut u32,
+        len: usize,
+        key: u64,
+        from: *const u32,
+        n: usize,
+    ) -> PoolReport;
     fn kz_pool_find(p: Books, slice: *const u32, len: usize, key: u64) -> Place;
     fn kz_pool_drop(p: Books, slice: *const u32, len: usize, key: u64) -> PoolReport;
 }
@@ -103,7 +110,12 @@ struct Map {
 
 impl Map {
     fn new(len: usize) -> Map {
-        Map { len, held: Vec::new(), added: 0, dropped: 0 }
+        Map {
+            len,
+            held: Vec::new(),
+            added: 0,
+            dropped: 0,
+        }
     }
 
     fn place(&self, key: u64) -> Option<usize> {
@@ -195,26 +207,39 @@ impl Layout {
             let old = self.cells.clone();
             end = 0;
             for held in &mut self.books.held[..self.books.count] {
-                self.cells[end..end + held.len].copy_from_slice(&old[held.start..held.start + held.len]);
+                self.cells[end..end + held.len]
+                    .copy_from_slice(&old[held.start..held.start + held.len]);
                 held.start = end;
                 end += held.len;
             }
             self.slides += 1;
         }
         self.cells[end..end + vectors.len()].copy_from_slice(vectors);
-        self.books.held[self.books.count] = Held { key, start: end, len: vectors.len() };
+        self.books.held[self.books.count] = Held {
+            key,
+            start: end,
+            len: vectors.len(),
+        };
         self.books.count += 1;
         0
     }
 
     fn find(&self, lent: usize, key: u64) -> Place {
-        let refused = |number| Place { number, start: 0, len: 0 };
+        let refused = |number| Place {
+            number,
+            start: 0,
+            len: 0,
+        };
         if !self.made(lent) {
             return refused(27);
         }
         match self.place(key) {
             None => refused(26),
-            Some(place) => Place { number: 0, start: self.held()[place].start, len: self.held()[place].len },
+            Some(place) => Place {
+                number: 0,
+                start: self.held()[place].start,
+                len: self.held()[place].len,
+            },
         }
     }
 
@@ -222,7 +247,9 @@ impl Layout {
         match self.find(lent, key).number {
             0 => {
                 let place = self.place(key).expect("it was found");
-                self.books.held.copy_within(place + 1..self.books.count, place);
+                self.books
+                    .held
+                    .copy_within(place + 1..self.books.count, place);
                 self.books.count -= 1;
                 0
             }
@@ -246,31 +273,58 @@ impl Beside {
     fn new(cells: Vec<u32>) -> Beside {
         let len = cells.len();
         let ours = unsafe { kz_pool_new(len) };
-        let books = Books { len, count: 0, held: [Held::default(); MOST] };
+        let books = Books {
+            len,
+            count: 0,
+            held: [Held::default(); MOST],
+        };
         let slice = Lent::new(&cells, len);
-        Beside { ours, slice, layout: Layout { books, cells, slides: 0 }, map: Some(Map::new(len)) }
+        Beside {
+            ours,
+            slice,
+            layout: Layout {
+                books,
+                cells,
+                slides: 0,
+            },
+            map: Some(Map::new(len)),
+        }
     }
 
     /// A bookkeeping of which nothing is known.
     fn damaged(books: Books, cells: Vec<u32>) -> Beside {
         let slice = Lent::new(&cells, cells.len());
-        Beside { ours: books, slice, layout: Layout { books, cells, slides: 0 }, map: None }
+        Beside {
+            ours: books,
+            slice,
+            layout: Layout {
+                books,
+                cells,
+                slides: 0,
+            },
+            map: None,
+        }
     }
 
     fn differs(&self) -> Option<String> {
         if self.ours != self.layout.books {
             let (a, b) = (self.ours, self.layout.books);
             let at = (0..MOST).find(|at| a.held[*at] != b.held[*at]);
-            let entries = at.map(|at| format!(", held[{at}] {:?}, not {:?}", a.held[at], b.held[at]));
+            let entries =
+                at.map(|at| format!(", held[{at}] {:?}, not {:?}", a.held[at], b.held[at]));
             let entries = entries.unwrap_or_default();
-            return Some(format!("the pool is len {} count {}, not {} {}{entries}", a.len, a.count, b.len, b.count));
+            return Some(format!(
+                "the pool is len {} count {}, not {} {}{entries}",
+                a.len, a.count, b.len, b.count
+            ));
         }
         self.slice.differs("slice", &self.layout.cells)
     }
 
     fn number(&self, found: u32, layout: u32, map: Option<u32>) -> Option<String> {
         let right = map.unwrap_or(layout);
-        (found != right || layout != right).then(|| format!("the number is {found}, not {right} (placed: {layout})"))
+        (found != right || layout != right)
+            .then(|| format!("the number is {found}, not {right} (placed: {layout})"))
     }
 
     fn add(&mut self, lent: usize, key: u64, vectors: &[u32]) -> (u32, Option<String>) {
@@ -281,7 +335,12 @@ impl Beside {
         let layout = self.layout.add(lent, key, vectors);
         let map = self.map.as_mut().map(|map| map.add(lent, key, vectors));
         let found = self.number(report.number, layout, map);
-        (report.number, found.or_else(|| from.differs("vectors", vectors)).or_else(|| self.differs()))
+        (
+            report.number,
+            found
+                .or_else(|| from.differs("vectors", vectors))
+                .or_else(|| self.differs()),
+        )
     }
 
     fn drop_key(&mut self, lent: usize, key: u64) -> (u32, Option<String>) {
@@ -289,7 +348,11 @@ impl Beside {
         self.ours = report.pool;
         let layout = self.layout.drop_key(lent, key);
         let map = self.map.as_mut().map(|map| map.drop_key(lent, key));
-        (report.number, self.number(report.number, layout, map).or_else(|| self.differs()))
+        (
+            report.number,
+            self.number(report.number, layout, map)
+                .or_else(|| self.differs()),
+        )
     }
 
     fn find(&mut self, lent: usize, key: u64) -> (u32, Option<String>) {
@@ -303,7 +366,9 @@ impl Beside {
                 _ => None,
             };
             if lent == map.len && held != there {
-                what = what.or(Some(format!("the vectors of {key} are not those that were added")));
+                what = what.or(Some(format!(
+                    "the vectors of {key} are not those that were added"
+                )));
             }
         }
         (found.number, what.or_else(|| self.differs()))
@@ -312,9 +377,15 @@ impl Beside {
     /// All keys of the map, in its order, and the floats that were added and not dropped.
     fn held(&self) -> Option<String> {
         let map = self.map.as_ref()?;
-        let keys = self.ours.held[..self.ours.count].iter().map(|held| held.key);
-        let floats: usize = self.ours.held[..self.ours.count].iter().map(|held| held.len).sum();
-        let same = keys.eq(map.held.iter().map(|(key, _)| *key)) && floats == map.added - map.dropped;
+        let keys = self.ours.held[..self.ours.count]
+            .iter()
+            .map(|held| held.key);
+        let floats: usize = self.ours.held[..self.ours.count]
+            .iter()
+            .map(|held| held.len)
+            .sum();
+        let same =
+            keys.eq(map.held.iter().map(|(key, _)| *key)) && floats == map.added - map.dropped;
         (!same).then(|| "the keys or the floats held are others".to_string())
     }
 }
@@ -336,7 +407,13 @@ impl Comparison {
     /// Every key that is held, and one that is not.
     fn finds(&mut self, pool: &mut Beside, unknown: u64, words: &dyn Fn() -> String) {
         let len = pool.layout.books.len;
-        let keys: Vec<u64> = pool.layout.held().iter().map(|held| held.key).chain([unknown]).collect();
+        let keys: Vec<u64> = pool
+            .layout
+            .held()
+            .iter()
+            .map(|held| held.key)
+            .chain([unknown])
+            .collect();
         for key in keys {
             let found = pool.find(len, key);
             self.note(found, words);
@@ -355,7 +432,10 @@ impl Comparison {
         };
         let keys: Vec<u64> = match kind {
             1 => (0..80).collect(),
-            _ => (0..1 + random.below(90)).map(|_| random.next() >> random.below(64)).chain([0, u64::MAX]).collect(),
+            _ => (0..1 + random.below(90))
+                .map(|_| random.next() >> random.below(64))
+                .chain([0, u64::MAX])
+                .collect(),
         };
         let most = match kind {
             0 => 4,
@@ -368,7 +448,11 @@ impl Comparison {
         let mut pool = Beside::new(cells);
         self.wrong.note(pool.differs(), &words);
         for call in 0..CALLS {
-            let key = random.pick(&keys);
+            // Of the second kind most keys are new, so that the pool fills up.
+            let key = match kind == 1 && random.below(4) != 0 {
+                true => call as u64 % 80,
+                false => random.pick(&keys),
+            };
             let lent = match random.below(24) {
                 0 => random.pick(&[0, len.saturating_sub(1), len]),
                 _ => len,
@@ -380,10 +464,11 @@ impl Comparison {
                     let n = match random.below(10) {
                         0 => 0,
                         // What is left, one more, and one less.
-                        1 | 2 => {
+                        1 | 2 if kind != 1 => {
                             let left = len - pool.map.as_ref().map_or(0, Map::floats);
                             (left + random.below(3)).saturating_sub(1)
                         }
+                        _ if kind == 1 => 1,
                         _ => random.below(most + 1),
                     };
                     let vectors = random.words(n);
@@ -404,12 +489,30 @@ impl Comparison {
         let words = || format!("pool damaged {seed}");
         let mut random = Random(!seed);
         let len = random.below(40);
-        let mut books = Books { len, count: random.below(7), held: [Held::default(); MOST] };
-        let edges = [0, 1, len, len + 1, len.saturating_sub(1), MAX, MAX - 1, MAX - len, MAX / 2 + 1];
+        let mut books = Books {
+            len,
+            count: random.below(7),
+            held: [Held::default(); MOST],
+        };
+        let edges = [
+            0,
+            1,
+            len,
+            len + 1,
+            len.saturating_sub(1),
+            MAX,
+            MAX - 1,
+            MAX - len,
+            MAX / 2 + 1,
+        ];
         let mut at = 0;
         for held in &mut books.held {
             let (start, n) = (at + random.below(3), random.below(4));
-            *held = Held { key: random.next() % 8, start, len: n };
+            *held = Held {
+                key: random.next() % 8,
+                start,
+                len: n,
+            };
             at = start + n;
         }
         for _ in 0..random.below(4) {
@@ -447,17 +550,31 @@ impl Comparison {
         let cells = random.words(10);
         let mut pool = Beside::new(cells);
         let some = random.words(12);
-        for (key, n, right) in
-            [(7, 0, 24), (7, 11, 25), (7, 4, 0), (7, 0, 23), (7, 11, 23), (8, 0, 24), (8, 7, 25), (8, 6, 0), (9, 1, 25)]
-        {
+        for (key, n, right) in [
+            (7, 0, 24),
+            (7, 11, 25),
+            (7, 4, 0),
+            (7, 0, 23),
+            (7, 11, 23),
+            (8, 0, 24),
+            (8, 7, 25),
+            (8, 6, 0),
+            (9, 1, 25),
+        ] {
             let answer = pool.add(10, key, &some[..n]);
             let found = self.note(answer, &words);
             assert_eq!(found, right, "add of {n} under {key}");
         }
         for lent in [0, 9] {
             for key in [7, 9] {
-                let answers = [pool.add(lent, key, &[]), pool.find(lent, key), pool.drop_key(lent, key)];
-                assert!(answers.into_iter().all(|answer| self.note(answer, &words) == 27));
+                let answers = [
+                    pool.add(lent, key, &[]),
+                    pool.find(lent, key),
+                    pool.drop_key(lent, key),
+                ];
+                assert!(answers
+                    .into_iter()
+                    .all(|answer| self.note(answer, &words) == 27));
             }
         }
         for (key, right) in [(9, 26), (7, 0), (7, 26)] {
@@ -512,7 +629,12 @@ impl Comparison {
         }
         // A slice of none.
         let mut pool = Beside::new(Vec::new());
-        let answers = [pool.add(0, 1, &[]), pool.add(0, 1, &some[..1]), pool.find(0, 0), pool.drop_key(0, 0)];
+        let answers = [
+            pool.add(0, 1, &[]),
+            pool.add(0, 1, &some[..1]),
+            pool.find(0, 0),
+            pool.drop_key(0, 0),
+        ];
         let numbers = answers.map(|answer| self.note(answer, &words));
         assert_eq!(numbers, [24, 25, 26, 26]);
     }
@@ -547,7 +669,10 @@ const ROOM: usize = 512;
 
 /// The replay's floats: bits of whole numbers.
 fn floats(seed: u32, n: usize) -> Vec<u32> {
-    sample::states(seed).take(n).map(|x| (x as f32).to_bits()).collect()
+    sample::states(seed)
+        .take(n)
+        .map(|x| (x as f32).to_bits())
+        .collect()
 }
 
 /// A record: what is asked, and what is answered and left. The slice has ROOM cells, of which the call is lent n.
@@ -567,14 +692,36 @@ impl<W: Write> Sample<W> {
 
     /// A new pool for n floats, over a slice of the seed's floats.
     fn new_pool(&mut self, n: usize, seed: u32) {
-        let books = Books { len: n, count: 0, held: [Held::default(); MOST] };
-        self.layout = Layout { books, cells: floats(seed, ROOM), slides: 0 };
-        self.put([0, n, 0, 0, seed as usize], Place { number: 0, start: 0, len: 0 });
+        let books = Books {
+            len: n,
+            count: 0,
+            held: [Held::default(); MOST],
+        };
+        self.layout = Layout {
+            books,
+            cells: floats(seed, ROOM),
+            slides: 0,
+        };
+        self.put(
+            [0, n, 0, 0, seed as usize],
+            Place {
+                number: 0,
+                start: 0,
+                len: 0,
+            },
+        );
     }
 
     fn add(&mut self, lent: usize, key: u64, n: usize, seed: u32) {
         let number = self.layout.add(lent, key, &floats(seed, n));
-        self.put([1, lent, key as usize, n, seed as usize], Place { number, start: 0, len: 0 });
+        self.put(
+            [1, lent, key as usize, n, seed as usize],
+            Place {
+                number,
+                start: 0,
+                len: 0,
+            },
+        );
     }
 
     fn find(&mut self, lent: usize, key: u64) {
@@ -584,26 +731,58 @@ impl<W: Write> Sample<W> {
 
     fn drop_key(&mut self, lent: usize, key: u64) {
         let number = self.layout.drop_key(lent, key);
-        self.put([3, lent, key as usize, 0, 0], Place { number, start: 0, len: 0 });
+        self.put(
+            [3, lent, key as usize, 0, 0],
+            Place {
+                number,
+                start: 0,
+                len: 0,
+            },
+        );
     }
 
     /// Damage: another count, and another entry.
     fn count(&mut self, count: usize) {
         self.layout.books.count = count;
-        self.put([4, 0, 0, count, 0], Place { number: 0, start: 0, len: 0 });
+        self.put(
+            [4, 0, 0, count, 0],
+            Place {
+                number: 0,
+                start: 0,
+                len: 0,
+            },
+        );
     }
 
     fn entry(&mut self, at: usize, held: Held) {
         self.layout.books.held[at] = held;
         let asked = [5, at, held.key as usize, held.start, held.len];
-        self.put(asked, Place { number: 0, start: 0, len: 0 });
+        self.put(
+            asked,
+            Place {
+                number: 0,
+                start: 0,
+                len: 0,
+            },
+        );
     }
 }
 
 fn sample() {
-    let books = Books { len: 0, count: 0, held: [Held::default(); MOST] };
-    let layout = Layout { books, cells: Vec::new(), slides: 0 };
-    let mut list = Sample { to: std::io::stdout().lock(), layout };
+    let books = Books {
+        len: 0,
+        count: 0,
+        held: [Held::default(); MOST],
+    };
+    let layout = Layout {
+        books,
+        cells: Vec::new(),
+        slides: 0,
+    };
+    let mut list = Sample {
+        to: std::io::stdout().lock(),
+        layout,
+    };
     let mut random = Random(13);
     // Random sequences: short and long slices, small and large results.
     for (len, most, keys, drops, calls) in [
@@ -616,7 +795,11 @@ fn sample() {
         list.new_pool(len, random.next() as u32);
         for _ in 0..calls {
             let key = random.below(keys) as u64;
-            let lent = if random.below(20) == 0 { random.below(ROOM + 1) } else { len };
+            let lent = if random.below(20) == 0 {
+                random.below(ROOM + 1)
+            } else {
+                len
+            };
             match random.below(100) {
                 share if share < drops => list.drop_key(lent, key),
                 share if share < drops + 12 => list.find(lent, key),
@@ -635,18 +818,76 @@ fn sample() {
         }
         list.drop_key(3 * 9 + gap, 1);
         list.add(3 * 9 + gap, 1, gap, 99);
-        [1, 2, u64::MAX, 4].into_iter().for_each(|key| list.find(3 * 9 + gap, key));
+        [1, 2, u64::MAX, 4]
+            .into_iter()
+            .for_each(|key| list.find(3 * 9 + gap, key));
     }
     // Bookkeepings that no calls make.
     for (at, held) in [
-        (0, Held { key: 1, start: 40, len: 1 }),
-        (0, Held { key: 1, start: 41, len: 0 }),
-        (0, Held { key: 1, start: MAX, len: 1 }),
-        (1, Held { key: 2, start: 9, len: 5 }),
-        (1, Held { key: 2, start: 10, len: 31 }),
-        (1, Held { key: 2, start: 2, len: MAX }),
-        (1, Held { key: 1, start: 12, len: 5 }),
-        (2, Held { key: 3, start: 99, len: 99 }),
+        (
+            0,
+            Held {
+                key: 1,
+                start: 40,
+                len: 1,
+            },
+        ),
+        (
+            0,
+            Held {
+                key: 1,
+                start: 41,
+                len: 0,
+            },
+        ),
+        (
+            0,
+            Held {
+                key: 1,
+                start: MAX,
+                len: 1,
+            },
+        ),
+        (
+            1,
+            Held {
+                key: 2,
+                start: 9,
+                len: 5,
+            },
+        ),
+        (
+            1,
+            Held {
+                key: 2,
+                start: 10,
+                len: 31,
+            },
+        ),
+        (
+            1,
+            Held {
+                key: 2,
+                start: 2,
+                len: MAX,
+            },
+        ),
+        (
+            1,
+            Held {
+                key: 1,
+                start: 12,
+                len: 5,
+            },
+        ),
+        (
+            2,
+            Held {
+                key: 3,
+                start: 99,
+                len: 99,
+            },
+        ),
     ] {
         list.new_pool(40, 5);
         list.add(40, 1, 10, 6);
