@@ -5,7 +5,7 @@ use mathlib.Core.List.{List, [], _∷_, _++_}
 use Prim.Native.Nat.{ℕ, _+_, _-_, _≤_, _<_}
 use native.Mathlib.Nat.{add-zero}
 use native.Mathlib.Omega.{arith}
-use borrow.Author.Tests.{leb-true, ltb-true, eq-eqb, ne-eqb, eqb-true, eqb-false, le-leb}
+use borrow.Author.Tests.{leb-true, ltb-true, eq-eqb, ne-eqb, eqb-true, eqb-false, le-leb, not-true}
 use lib.Dec.{eqb, leb, ltb}
 use lib.ListN.{length, length-append, length-replicate}
 use lib.Ieee.{Float}
@@ -49,10 +49,6 @@ or-right : (a b : Bool) → a || b ≡ false → b ≡ false
 or-right true b e = absurd (true≢false e)
 or-right false b e = e
 
-not-says : (b : Bool) → not b ≡ true → b ≡ false
-not-says true e = sym e
-not-says false e = refl
-
 differ-laid : (at : ℕ) (es : List Held) → differ (laid at es) ≡ differ es
 unfolding laid differ
 differ-laid at [] = refl
@@ -70,7 +66,7 @@ unfolding has differ
 differ-more x [] e d = refl
 differ-more x (h ∷ hs) e d =
     let a : eqb (x .key) (h .key) ≡ false = ne-eqb (x .key) (h .key) (λ z. eqb-false (h .key) (x .key) (or-left (eqb (h .key) (x .key)) (has keyOf (x .key) hs) e) (sym z)) in
-    let b = not-says (has keyOf (h .key) hs) (and-left (not (has keyOf (h .key) hs)) (differ hs) d) in
+    let b = not-true (has keyOf (h .key) hs) (and-left (not (has keyOf (h .key) hs)) (differ hs) d) in
     let c = differ-more x hs (or-right (eqb (h .key) (x .key)) (has keyOf (x .key) hs) e) (and-right (not (has keyOf (h .key) hs)) (differ hs) d) in
     rw (has-append keyOf (h .key) hs (x ∷ []), b, a, c)
 
@@ -91,7 +87,7 @@ differ-without k [] d = refl
 differ-without k (h ∷ hs) d =
     let a = and-left (not (has keyOf (h .key) hs)) (differ hs) d in
     let b = and-right (not (has keyOf (h .key) hs)) (differ hs) d in
-    go (eqb (h .key) k) b (none-without keyOf (h .key) k hs (not-says (has keyOf (h .key) hs) a)) (differ-without k hs b)
+    go (eqb (h .key) k) b (none-without keyOf (h .key) k hs (not-true (has keyOf (h .key) hs) a)) (differ-without k hs b)
   where
     go : (b : Bool) → differ hs ≡ true → has keyOf (h .key) (without keyOf k hs) ≡ false → differ (without keyOf k hs) ≡ true → differ (cond b hs (h ∷ without keyOf k hs)) ≡ true
     go true x y r = x
@@ -102,7 +98,7 @@ none-left : (k : ℕ) (es : List Held) → differ es ≡ true → has keyOf k (w
 unfolding has differ without
 none-left k [] d = refl
 none-left k (h ∷ hs) d =
-    go (eqb (h .key) k) refl (not-says (has keyOf (h .key) hs) (and-left (not (has keyOf (h .key) hs)) (differ hs) d)) (none-left k hs (and-right (not (has keyOf (h .key) hs)) (differ hs) d))
+    go (eqb (h .key) k) refl (not-true (has keyOf (h .key) hs) (and-left (not (has keyOf (h .key) hs)) (differ hs) d)) (none-left k hs (and-right (not (has keyOf (h .key) hs)) (differ hs) d))
   where
     go : (b : Bool) → eqb (h .key) k ≡ b → has keyOf (h .key) hs ≡ false → has keyOf k (without keyOf k hs) ≡ false → has keyOf k (cond b hs (h ∷ without keyOf k hs)) ≡ false
     go true e x r = rw (eqb-true (h .key) k e) at x

@@ -23,7 +23,7 @@ abbrev pub ifDone : Outcome → ℕ → ℕ
 ifDone Outcome.Done n = n
 ifDone (Outcome.Refused r) n = 0
 
--- a floats were added, and d were dropped
+-- a floats were added, and d were dropped: of a key, as many as find reports of it
 pub data Since (n : ℕ) : Pool → ℕ → ℕ → Type 0 where
   new : Since n (newPool n) 0 0
   add : {p : Pool} {a d : ℕ} → Since n p a d → (s : List Float) (k : ℕ) (vs : List Float)

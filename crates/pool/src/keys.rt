@@ -6,6 +6,18 @@ ghost use Prim.Native.Nat.{_≤_, _<_};
 ghost use Rattle.pool.specs.Book.{entries, with};
 ghost use Rattle.pool.specs.inner.Place.{leftOut, booksOf};
 
+fn found_at(floats: usize, end: usize, place: usize, start: usize, len: usize) -> Books
+    ensures { λ r. ⌜ r ≡ Books.Made floats end place start len ⌝ }
+{
+    Books::Made {
+        floats,
+        end,
+        place,
+        start,
+        len,
+    }
+}
+
 // Whether p is a pool for a slice of n floats, and where the key stands. Both are asked here, since each function that reads
 // the bookkeeping copies it.
 pub(crate) fn scan(p: Pool, n: usize, key: u64) -> Books
@@ -37,23 +49,11 @@ pub(crate) fn scan(p: Pool, n: usize, key: u64) -> Books
     while j < count {
         let h = p.held[j];
         if h.key == key {
-            return Books::Made {
-                floats,
-                end,
-                place: j,
-                start: h.start,
-                len: h.len,
-            };
+            return found_at(floats, end, j, h.start, h.len);
         }
         j += 1;
     }
-    Books::Made {
-        floats,
-        end,
-        place: count,
-        start: 0,
-        len: 0,
-    }
+    found_at(floats, end, count, 0, 0)
 }
 
 // All but the held result at place i; those behind it move up by one.

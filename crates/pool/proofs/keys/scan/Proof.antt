@@ -1,5 +1,5 @@
 -- `pool::keys::scan` meets its contract. Assumes nothing.
-use mathlib.Core.Path.{_≡_}
+use mathlib.Core.Path.{_≡_, _∙_}
 use Prim.Native.Nat.{ℕ, _-_, _≤_}
 use native.Mathlib.Omega.{arith}
 use borrow.Author.Needs.{needs}
@@ -110,13 +110,17 @@ mul-h-2 c = omega (arith, known (c .before .before .before .before .before) .1)
 element-copy-out-h-2 : tie.Need-element-copy-out-h-2 Inv-loop μ-loop Inv-loop2 μ-loop2
 element-copy-out-h-2 c = omega (arith, known (c .before .before .before .before .before) .1)
 
+found-at-requires : tie.Need-found-at-requires Inv-loop μ-loop Inv-loop2 μ-loop2
+found-at-requires c κs = search needs
+
 returns-5 : tie.Need-returns-5 Inv-loop μ-loop Inv-loop2 μ-loop2
 returns-5 c =
-    let k = c .before .before .before .before .before .before .before .before in
+    let k = c .before .before .before .before .before .before .before .before .before in
     let a = k .before .args in
-    let h = getD (a .t1 .held) (c .before .before .before .before .loop2 .j) (held 0 0 0) in
-    let s = sought-here (a .t1) (a .key) (c .before .before .before .before .loop2 .j) (held 0 0 0) (room k) (c .before .before .before .loop2-test .taken) (c .before .before .before .before .loop2 .inv) (c .if5 .taken) in
-    found (c .before .before .before .before .before) (c .before .before .before .before .loop2 .j) (Found.At (h .start) (h .len)) (s .0) (s .1)
+    let j = c .before .before .before .before .before .loop2 .j in
+    let h = getD (a .t1 .held) j (held 0 0 0) in
+    let s = sought-here (a .t1) (a .key) j (held 0 0 0) (room k) (c .before .before .before .before .loop2-test .taken) (c .before .before .before .before .before .loop2 .inv) (c .before .if5 .taken) in
+    c .found-at .ensures ∙ found (c .before .before .before .before .before .before) j (Found.At (h .start) (h .len)) (s .0) (s .1)
 
 add-j : tie.Need-add-j Inv-loop μ-loop Inv-loop2 μ-loop2
 add-j c = omega (arith, known (c .before .before .before .before .before .before .before .before) .1)
@@ -130,12 +134,15 @@ loop2-again c =
     let a = k .before .args in
     sought-more (a .t1) (a .key) (c .before .before .before .before .loop2 .j) (held 0 0 0) (room k) (c .before .before .before .loop2-test .taken) (c .before .before .before .before .loop2 .inv) (c .if5 .left)
 
+found-at-requires-2 : tie.Need-found-at-requires-2 Inv-loop μ-loop Inv-loop2 μ-loop2
+found-at-requires-2 c κs = search needs
+
 returns-6 : tie.Need-returns-6 Inv-loop μ-loop Inv-loop2 μ-loop2
 returns-6 c =
-    let k = c .before .before .before .before .before in
+    let k = c .before .before .before .before .before .before in
     let a = k .before .args in
-    let s = sought-all (a .t1) (a .key) (c .before .loop2 .j) (room k) (c .loop2-test .left) (c .before .loop2 .inv) in
-    found (c .before .before) (a .t1 .count) (Found.Refused F.Refusal.KeyUnknown) (s .0) (s .1)
+    let s = sought-all (a .t1) (a .key) (c .before .before .loop2 .j) (room k) (c .before .loop2-test .left) (c .before .before .loop2 .inv) in
+    c .found-at2 .ensures ∙ found (c .before .before .before) (a .t1 .count) (Found.Refused F.Refusal.KeyUnknown) (s .0) (s .1)
 
 pub scan-spec : {M : Type 1} → statement M
 scan-spec =
@@ -161,8 +168,10 @@ scan-spec =
     loop2-holds
     mul-h-2
     element-copy-out-h-2
+    found-at-requires
     returns-5
     add-j
     loop2-less
     loop2-again
+    found-at-requires-2
     returns-6)
