@@ -1,7 +1,7 @@
 // One record: whether its call answers as stored.
 ghost use mathlib.Core.Path.{_≡_};
 ghost use Prim.Native.Nat.{_<_};
-ghost use Rattle.pool_replay.specs.Record.{sameAs, placeOf, differs};
+ghost use Rattle.pool_replay.specs.Record.{sameAs, placeOf, differs, toldOf, judgedIn, sliceIn};
 use crate::run::Ran;
 use libc::STDOUT_FILENO;
 use pool::Pool;
@@ -72,7 +72,9 @@ fn bad(line: &[u8]) -> usize
     6
 }
 
-fn tell(ran: Ran, cells: usize) -> Told {
+fn tell(ran: Ran, cells: usize) -> Told
+    ensures { λ r. ⌜ r ≡ toldOf ran cells ⌝ }
+{
     let pool = ran.pool;
     Told {
         number: ran.number,
@@ -85,7 +87,8 @@ fn tell(ran: Ran, cells: usize) -> Told {
 
 // The pool and the slice are those that the lines before have left.
 pub(crate) fn judge(p: Pool, s: &mut [f32], line: &[u8]) -> Judged
-    ensures { λ r. ⌜ r .place < 7 ⌝ }
+    ensures answer { λ r. ⌜ (r ≡ judgedIn p (now (s .entry)) (now (line .entry))) × (r .place < 7) ⌝ }
+    ensures output { λ _. ⌜ now (s .exit) ≡ sliceIn p (now (s .entry)) (now (line .entry)) ⌝ }
 {
     let mut v = [0usize; 10];
     if !read_line(line, &mut v) {

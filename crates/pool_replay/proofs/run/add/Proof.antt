@@ -1,8 +1,9 @@
--- `run::add` is safe. Assumes nothing.
+-- `run::add` meets its contract. Assumes nothing.
 use borrow.Author.Needs.{needs}
 use mathlib.Core.Path.{sym}
-use lib.Seq.{length-take-le}
 use native.Mathlib.Omega.{arith}
+use lib.Seq.{length-take-le}
+use Rattle.pool_replay.proofs.Runs.{added}
 use Rattle.pool_replay.proofs.run.add.Statement.{statement}
 use Rattle.pool_replay.proofs.run.add.Tie as tie
 
@@ -31,7 +32,7 @@ slice-relend-prefix-add : tie.Need-slice-relend-prefix-add
 slice-relend-prefix-add c = search needs
 
 slice-aggregate-add : tie.Need-slice-aggregate-add
-slice-aggregate-add c = sym (length-take-le _ _ (c .before .before .before .lent .ensures))
+slice-aggregate-add c = sym (length-take-le _ _ (c .before .before .before .lent .ensures .1))
 
 element-copy-out-add : tie.Need-element-copy-out-add
 element-copy-out-add c = search needs
@@ -40,7 +41,7 @@ array-share-prefix-vectors : tie.Need-array-share-prefix-vectors
 array-share-prefix-vectors c = search needs
 
 slice-aggregate-add-2 : tie.Need-slice-aggregate-add-2
-slice-aggregate-add-2 c = sym (length-take-le _ _ (omega (arith, c .before .before .before .lent2 .ensures, c .before .before .before .before .before .before .before .before .fill-floats .kept .1 .0)))
+slice-aggregate-add-2 c = sym (length-take-le _ _ (omega (arith, c .before .before .before .lent2 .ensures .1, c .before .before .before .before .before .before .before .before .fill-floats .kept .1 .0)))
 
 add-requires : tie.Need-add-requires
 add-requires c κs = search needs
@@ -52,7 +53,11 @@ same-length : tie.Need-same-length
 same-length c = search needs
 
 returns : tie.Need-returns
-returns c = search needs
+returns c =
+    let a = c .before .before .before .before .before .before .before .before .before .before .before .before .before .before .before .before .before .args in
+    let d = c .before .before .before .before .add in
+    added (a .p) (a .s .now) (a .v .now) (c .before .before .before .before .before .before .before .before .before .before .lent .result) (c .before .before .before .before .before .before .before .before .lent2 .result) (c .number .result) (c .before .before .before .before .before .before .before .before .before .before .before .before .before .fill-floats .last .1 .0) (d .last .1 .0) (d .result)
+    (c .before .before .before .before .before .before .before .before .before .before .lent .ensures .0) (c .before .before .before .before .before .before .before .before .lent2 .ensures .0) (c .before .before .before .before .before .before .before .before .before .before .before .before .before .fill-floats .ensures) (d .ensures .0) (d .ensures .1) (c .number .ensures)
 
 pub add-spec : {M : Type 1} → statement M
 add-spec =
