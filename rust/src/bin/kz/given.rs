@@ -57,6 +57,11 @@ pub struct Given {
     options: Vec<(&'static str, OsString)>,
 }
 
+/// The f32 nearest to 1 / root of head, for every head that is allowed, as is the Rust's powf with glibc's.
+fn scale_of(head: usize) -> f32 {
+    (1.0 / (head as f64).sqrt()) as f32
+}
+
 impl Given {
     pub fn read(words: &[OsString], known: &[&'static str]) -> Result<Given, Fail> {
         let mut given = Given::default();
@@ -135,7 +140,7 @@ impl Given {
         }
         let lent = EncoderSettings { scaling: scale.unwrap_or(1.0), ..settings };
         let s = config::settings(&lent, file)?;
-        Ok(EncoderSettings { scaling: scale.unwrap_or((s.head_dim as f32).powf(-0.5)), ..s })
+        Ok(EncoderSettings { scaling: scale.unwrap_or(scale_of(s.head_dim)), ..s })
     }
 
     fn listed(&self) -> Result<Listed, Fail> {
@@ -174,8 +179,7 @@ impl Given {
             0 | 1 => bias == 1,
             _ => return Err(refused_settings(Refusal::Setting)),
         };
-        // The f32 nearest to 1 / root of head, for every head that is allowed, as is the Rust's powf with glibc's.
-        s.scaling = scale.unwrap_or((1.0 / (s.head_dim as f64).sqrt()) as f32);
+        s.scaling = scale.unwrap_or(scale_of(s.head_dim));
         Ok(Listed { settings: s, scale, size })
     }
 }
