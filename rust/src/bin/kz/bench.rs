@@ -23,21 +23,18 @@ bit that differs ends it with status 1. That takes some five minutes; --quick
 has small grids alone and takes one, --large has these and 64x64, with one
 layer, and takes ten. It is oracle/run of the repository where kz was built,
 with the archives that kz was linked with; the Rust's source is
-../shared/docs/src from its root, or KZ_RUST_SRC. A tile, the first of a sweep
-of 3000x2000, is timed in turn with a picture of the same 1540x1540 pixels;
-salvage of as many, with no sample bad and with every one, in turn with restore
-of the good ones; forward by small tables, in turn with forward by full ones;
-bf16 packed and widened, and add to a pool, in turn with a copy; and find in a
-pool.
+../shared/docs/src from its root, or KZ_RUST_SRC. A tile of 1540x1540 is timed
+in turn with a picture of as many pixels; salvage, with no sample bad and with
+every one, in turn with restore; forward by small tables, in turn with forward
+by full ones; bf16 packed and widened, and add to a pool, in turn with a copy;
+and find in a pool.
 
 The second form, and the first where the source or rustc is missing, times
 the port alone on noise, on one core: the best of the runs that fit into half
 a second, at least one. `share` is the part of a sweep's time. Without --size
 three sizes are timed, the largest without forward. The model is as for
-`kz encode`. Then come tile, salvage, tables, bf16 and pool as above and, last,
-restore of the largest by three choices of mean and deviation, whatever
---settings say: the Rust's, 0.2 and 0.25, and 0.2 and 1e38, with bytes found by
-halving.
+`kz encode`. Then come tile to pool as above and, last, restore of the largest
+by mean and deviation of the Rust, 0.2 and 0.25, and 0.2 and 1e38 (by halving).
 ";
 
 const ORACLE: &str = concat!(env!("CARGO_MANIFEST_DIR"), "/../oracle/run");
