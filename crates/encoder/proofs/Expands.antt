@@ -15,7 +15,7 @@ use Rattle.buffers.specs.Region.{region}
 use Rattle.buffers.proofs.Lists.{equal-rows, all-ext}
 use Rattle.buffers.proofs.Rooms.{and-parts}
 use Rattle.encoder_settings.specs.declared.Form.{Form}
-use Rattle.encoder_kernels.specs.Finite.{allFinite}
+use Rattle.encoder_kernels.specs.Kernels.{allFinite}
 use Rattle.encoder_kernels.proofs.Finites.{all-finite-append, all-finite-rows}
 use Rattle.encoder_steps.specs.Run.{stagesFinite}
 use Rattle.encoder_rotation.specs.Axes.{twice, axisRow, expand}

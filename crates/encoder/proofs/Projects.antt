@@ -15,7 +15,7 @@ use Rattle.buffers.proofs.Lists.{length-tab, length-rows}
 use Rattle.encoder_settings.specs.Weights.{part, projector}
 use Rattle.encoder_settings.proofs.Weights.{stands}
 use Rattle.encoder_linear.specs.Linear.{carried}
-use Rattle.encoder_kernels.specs.Finite.{allFinite}
+use Rattle.encoder_kernels.specs.Kernels.{allFinite}
 use Rattle.encoder_elements.specs.Element.{gelued}
 use Rattle.encoder.specs.Stages.{placeOf, mergedToken, mergeOf, biasOf, projNorm, mergingLayer, linear1, linear2, projectRun}
 use Rattle.encoder_steps.specs.Run.{stagesFinite, answer}

@@ -11,7 +11,7 @@ use Rattle.encoder_blocks.specs.declared.Sizes.{Sizes}
 use Rattle.encoder_blocks.specs.Block.{nOf, layersRun}
 use Rattle.encoder_linear.specs.Linear.{linearOf, Bias, none, carried, linearBy}
 use Rattle.encoder_elements.specs.Element.{rounded, gelued}
-use Rattle.encoder_kernels.specs.Norm.{normOf}
+use Rattle.encoder_kernels.specs.Kernels.{normOf}
 use Rattle.encoder_steps.specs.Run.{Run, examined, thenRun}
 use Rattle.buffers.specs.Rows.{tab, rows}
 use Rattle.picture_limits.specs.Places.{patchFloats}

@@ -16,7 +16,7 @@ use Rattle.buffers.specs.inner.Apart.{Apart}
 use Rattle.buffers.proofs.Regions.{put-put, region-put, region-put-same, region-region, length-region, apart-sub}
 use Rattle.buffers.proofs.Lists.{fit, length-tab, length-rows, put-rows}
 use Rattle.buffers.specs.Each.{blank}
-use Rattle.encoder_kernels.specs.Finite.{allFinite}
+use Rattle.encoder_kernels.specs.Kernels.{allFinite}
 use Rattle.encoder_attention.specs.Attention.{scoreRow, headScores, headSums, tokenScores, tokenSums, attentionOf}
 use Rattle.encoder_softmax.specs.Softmax.{scaled, softmaxOf}
 use Rattle.encoder_linear.specs.Linear.{weighedRow}

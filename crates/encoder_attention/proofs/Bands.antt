@@ -15,7 +15,7 @@ use Rattle.buffers.specs.inner.Apart.{Apart, before}
 use Rattle.buffers.proofs.Regions.{put-append, put-put, put-comm, put-split, region-put, length-region, apart-sym}
 use Rattle.buffers.proofs.Lists.{fit, length-tab, tab-add, length-rows}
 use Rattle.buffers.proofs.Steps.{blank-region}
-use Rattle.encoder_kernels.specs.Finite.{allFinite}
+use Rattle.encoder_kernels.specs.Kernels.{allFinite}
 use Rattle.encoder_kernels.proofs.Finites.{all-finite-append, all-finite-rows}
 
 module _ {A : Type 0} where

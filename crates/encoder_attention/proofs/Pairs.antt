@@ -17,7 +17,7 @@ use Rattle.buffers.proofs.Lists.{fit, length-tab}
 use Rattle.buffers.proofs.Puts.{puts-step}
 use Rattle.buffers.proofs.Steps.{blank-same, blank-put}
 use Rattle.number_floats.specs.Constants.{zero32}
-use Rattle.encoder_kernels.specs.Finite.{allFinite}
+use Rattle.encoder_kernels.specs.Kernels.{allFinite}
 use Rattle.encoder_kernels.proofs.Finites.{all-finite-append}
 use Rattle.encoder_linear.specs.Linear.{weighedRow}
 use Rattle.encoder_linear.specs.inner.Weighed.{weighedPair}

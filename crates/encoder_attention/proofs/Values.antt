@@ -16,7 +16,7 @@ use Rattle.buffers.proofs.Regions.{region-put, region-put-same, apart-sub, apar
 use Rattle.buffers.proofs.Lists.{fit, length-tab, length-rows, tab-ext}
 use Rattle.buffers.proofs.Puts.{puts-ext}
 use Rattle.number_floats.specs.Constants.{zero32}
-use Rattle.encoder_kernels.specs.Finite.{allFinite}
+use Rattle.encoder_kernels.specs.Kernels.{allFinite}
 use Rattle.encoder_linear.specs.Linear.{sumOf, columnOf, weighedRow}
 use Rattle.encoder_linear.proofs.Sums.{sum-ext, length-weighed}
 use Rattle.encoder_linear.proofs.Pieces.{length-grid, getD-grid}

@@ -8,7 +8,7 @@ ghost use lib.Ieee.{nan};
 ghost use Rattle.buffers.specs.Region.{region, put};
 ghost use Rattle.number_floats.specs.Constants.{zero32};
 ghost use Rattle.buffers.specs.Each.{blank};
-ghost use Rattle.encoder_kernels.specs.Finite.{allFinite};
+ghost use Rattle.encoder_kernels.specs.Kernels.{allFinite};
 ghost use Rattle.encoder_linear.specs.inner.Lanes.{spread};
 ghost use Rattle.encoder_linear.specs.Linear.{weighedRow};
 ghost use Rattle.encoder_linear.specs.inner.Fits.{WeighFits};

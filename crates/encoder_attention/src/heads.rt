@@ -8,7 +8,7 @@ ghost use Rattle.buffers.specs.Region.{region, put, putRows};
 ghost use Rattle.buffers.specs.Rows.{tab, rows};
 ghost use Rattle.buffers.specs.Each.{blank};
 ghost use Rattle.number_floats.specs.Constants.{zero32};
-ghost use Rattle.encoder_kernels.specs.Finite.{allFinite};
+ghost use Rattle.encoder_kernels.specs.Kernels.{allFinite};
 ghost use Rattle.encoder_linear.specs.Linear.{weighedRow};
 ghost use Rattle.encoder_attention.specs.Attention.{headScores, scoresOf, attentionOf};
 ghost use Rattle.encoder_softmax.specs.Softmax.{softmaxOf};

@@ -6,7 +6,7 @@ ghost use lib.ListN.{length};
 ghost use Rattle.buffers.specs.Region.{region, put};
 ghost use Rattle.buffers.specs.Each.{blank};
 ghost use Rattle.number_floats.specs.Constants.{zero32};
-ghost use Rattle.encoder_kernels.specs.Finite.{allFinite};
+ghost use Rattle.encoder_kernels.specs.Kernels.{allFinite};
 ghost use Rattle.encoder_linear.specs.Linear.{weighedRow};
 ghost use Rattle.encoder_linear.specs.inner.Fits.{WeighPairFits};
 ghost use Rattle.encoder_attention.specs.Attention.{headScores};

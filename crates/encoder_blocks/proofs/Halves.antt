@@ -23,7 +23,7 @@ use Rattle.encoder_settings.proofs.Weights.{placeIn, floatsIn, stands}
 use Rattle.encoder_linear.proofs.Sums.{length-linear}
 use Rattle.encoder_elements.specs.Element.{added, gated, rounded}
 use Rattle.encoder_elements.proofs.Lengths.{length-added, length-gated, length-rounded}
-use Rattle.encoder_kernels.specs.Finite.{allFinite}
+use Rattle.encoder_kernels.specs.Kernels.{allFinite}
 use Rattle.encoder_rotation.specs.inner.Fits.{PlacesFit, RotateFits, AxesFits}
 use Rattle.encoder_kernels.proofs.Lengths.{length-norm}
 use Rattle.encoder_rotation.proofs.Rotated.{length-rotate}

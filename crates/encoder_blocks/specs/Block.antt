@@ -7,7 +7,7 @@ use Rattle.encoder_settings.specs.Weights.{Table, layer, part, nthLayer}
 use Rattle.encoder_blocks.specs.declared.Sizes.{Sizes}
 use Rattle.encoder_linear.specs.Linear.{linearOf}
 use Rattle.encoder_elements.specs.Element.{added, gated, rounded}
-use Rattle.encoder_kernels.specs.Norm.{normOf}
+use Rattle.encoder_kernels.specs.Kernels.{normOf}
 use Rattle.encoder_rotation.specs.Rotate.{rotateOf}
 use Rattle.encoder_attention.specs.Attention.{scoresOf, attentionOf}
 use Rattle.encoder_steps.specs.Run.{Run, examined, thenRun, went}

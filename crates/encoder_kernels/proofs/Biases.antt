@@ -15,7 +15,7 @@ use Rattle.buffers.specs.Each.{both}
 use Rattle.buffers.proofs.Lists.{fit, tab-self, equal-rows, all-at, all-of}
 use Rattle.buffers.proofs.Regions.{length-region}
 use Rattle.encoder_linear.specs.Linear.{biased}
-use Rattle.encoder_kernels.specs.Finite.{allFinite}
+use Rattle.encoder_kernels.specs.Kernels.{allFinite}
 use Rattle.encoder_kernels.proofs.Finites.{all-finite-tab, all-finite-rows}
 
 finite-sum : (x b : Float) → finite b ≡ true → finite (add binary32 x b) ≡ true → finite x ≡ true

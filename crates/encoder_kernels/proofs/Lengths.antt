@@ -6,7 +6,7 @@ use lib.ListN.{length}
 use lib.Ieee.{Float}
 use Rattle.buffers.specs.Region.{region}
 use Rattle.buffers.proofs.Lists.{length-tab, length-rows}
-use Rattle.encoder_kernels.specs.Norm.{normRow, normOf}
+use Rattle.encoder_kernels.specs.Kernels.{normRow, normOf}
 
 pub length-norm-row : (dim : ℕ) (w x : List Float) → length (normRow dim w x) ≡ dim
 unfolding normRow

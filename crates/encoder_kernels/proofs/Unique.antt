@@ -5,9 +5,8 @@ use mathlib.Core.List.{List}
 use Prim.Native.Nat.{ℕ, _*_}
 use lib.ListN.{length}
 use lib.Ieee.{Float}
-use Rattle.encoder_kernels.specs.Finite.{allFinite}
+use Rattle.encoder_kernels.specs.Kernels.{allFinite, normOf}
 use Rattle.buffers.specs.Region.{region}
-use Rattle.encoder_kernels.specs.Norm.{normOf}
 use Rattle.buffers.specs.inner.Room.{whereFits}
 use Rattle.encoder_kernels.specs.inner.Room.{normFits}
 use Rattle.number_floats.proofs.Unique.{one}

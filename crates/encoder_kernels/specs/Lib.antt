@@ -1,3 +1,2 @@
-pub mod Finite
-pub mod Norm
+pub mod Kernels
 pub mod inner

@@ -1,6 +1,6 @@
 // The test for finite values.
 ghost use mathlib.Core.Path.{_≡_};
-ghost use Rattle.encoder_kernels.specs.Finite.{allFinite};
+ghost use Rattle.encoder_kernels.specs.Kernels.{allFinite};
 
 // Whether every value of x is finite.
 pub fn finite(x: &[f32]) -> bool

@@ -4,7 +4,7 @@ ghost use Prim.Native.Nat.{_*_, _≤_};
 ghost use lib.ListN.{length};
 ghost use Rattle.buffers.specs.Region.{region, put};
 ghost use Rattle.encoder_linear.specs.Linear.{dotOf};
-ghost use Rattle.encoder_kernels.specs.Norm.{invRms, normRow, normOf};
+ghost use Rattle.encoder_kernels.specs.Kernels.{invRms, normRow, normOf};
 ghost use Rattle.buffers.specs.inner.Room.{whereFits};
 ghost use Rattle.encoder_kernels.specs.inner.Room.{normFits};
 ghost use Rattle.encoder_kernels.specs.inner.Fits.{NormRowFits, NormFits};

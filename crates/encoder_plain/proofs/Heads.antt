@@ -16,7 +16,7 @@ use Rattle.buffers.specs.inner.Apart.{Apart}
 use Rattle.buffers.proofs.Regions.{apart-sub}
 use Rattle.buffers.proofs.Lists.{fit, length-rows}
 use Rattle.buffers.proofs.Puts.{puts-joined, puts-ext}
-use Rattle.encoder_kernels.specs.Finite.{allFinite}
+use Rattle.encoder_kernels.specs.Kernels.{allFinite}
 use Rattle.encoder_kernels.proofs.Finites.{all-finite-append}
 use Rattle.encoder_attention.proofs.Bands.{puts-seen, puts-more}
 use Rattle.encoder_plain.specs.Plain.{floats, off, scores, softRows, sums, plainOf}

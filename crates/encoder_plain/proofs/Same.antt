@@ -16,7 +16,7 @@ use Rattle.buffers.proofs.Lists.{fit, length-tab, tab-ext, length-rows, getD-ro
 use Rattle.buffers.proofs.Puts.{puts-joined, puts-ext}
 use Rattle.encoder_linear.specs.Linear.{sumOf, dotOf, columnOf, weighedRow}
 use Rattle.encoder_linear.proofs.Sums.{sum-ext, length-weighed}
-use Rattle.encoder_kernels.specs.Finite.{allFinite}
+use Rattle.encoder_kernels.specs.Kernels.{allFinite}
 use Rattle.encoder_softmax.specs.Softmax.{softmaxOf}
 use Rattle.encoder_softmax.proofs.Lengths.{length-softmax}
 use Rattle.encoder_attention.specs.Attention.{scoreRow, headScores, headSums, tokenScores, tokenSums, scoresOf, attentionOf}

@@ -8,7 +8,7 @@ use lib.Ieee.{Float}
 use Rattle.buffers.specs.Region.{region, put}
 use Rattle.number_floats.specs.Constants.{zero32}
 use Rattle.buffers.specs.Each.{blank}
-use Rattle.encoder_kernels.specs.Finite.{allFinite}
+use Rattle.encoder_kernels.specs.Kernels.{allFinite}
 use Rattle.encoder_plain.specs.Plain.{floats, allScores, plainOf}
 use Rattle.encoder_plain.specs.inner.Room.{plainFits}
 use Rattle.number_floats.proofs.Unique.{one}

@@ -9,7 +9,7 @@ ghost use Rattle.number_floats.specs.Constants.{zero32};
 ghost use Rattle.buffers.specs.Rows.{tab};
 ghost use Rattle.buffers.specs.Region.{region, put, putRows};
 ghost use Rattle.buffers.specs.Each.{blank};
-ghost use Rattle.encoder_kernels.specs.Finite.{allFinite};
+ghost use Rattle.encoder_kernels.specs.Kernels.{allFinite};
 ghost use Rattle.encoder_linear.specs.Linear.{sumOf};
 ghost use Rattle.encoder_softmax.specs.Softmax.{totalOf, expLess, softmaxOf};
 ghost use Rattle.encoder_plain.specs.Plain.{floats, off, score, scores, softRows, sums, allScores, plainOf};

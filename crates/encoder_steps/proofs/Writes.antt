@@ -24,8 +24,7 @@ use Rattle.encoder_elements.specs.inner.Fits.{PairFits}
 use Rattle.encoder_elements.specs.inner.Room.{pairFits}
 use Rattle.encoder_elements.proofs.Lengths.{length-added, length-gated, length-gelued, length-rounded}
 use Rattle.encoder_elements.proofs.Rooms.{pair-fits}
-use Rattle.encoder_kernels.specs.Finite.{allFinite}
-use Rattle.encoder_kernels.specs.Norm.{normOf}
+use Rattle.encoder_kernels.specs.Kernels.{allFinite, normOf}
 use Rattle.encoder_rotation.specs.Rotate.{rotateOf}
 use Rattle.encoder_kernels.specs.inner.Fits.{NormFits}
 use Rattle.encoder_rotation.specs.Axes.{expand}

@@ -3,7 +3,7 @@ use mathlib.Core.Bool.{Bool, true, false, _&&_}
 use mathlib.Core.List.{List, [], _∷_}
 use lib.Ieee.{Float}
 use Rattle.buffers.specs.Region.{over, cleared}
-use Rattle.encoder_kernels.specs.Finite.{allFinite}
+use Rattle.encoder_kernels.specs.Kernels.{allFinite}
 
 pub data Run : Type 0 where
   stopped : Run

@@ -9,7 +9,7 @@ ghost use Rattle.encoder_linear.specs.Linear.{linearOf, carried, linearBy};
 ghost use Rattle.encoder_linear.specs.inner.Room.{fromFits};
 ghost use Rattle.encoder_elements.specs.Element.{added, gated, gelued, rounded};
 ghost use Rattle.encoder_elements.specs.inner.Room.{pairFits};
-ghost use Rattle.encoder_kernels.specs.Norm.{normOf};
+ghost use Rattle.encoder_kernels.specs.Kernels.{normOf};
 ghost use Rattle.encoder_rotation.specs.Rotate.{rotateOf};
 ghost use Rattle.encoder_kernels.specs.inner.Room.{normFits};
 ghost use Rattle.encoder_rotation.specs.Axes.{expand};

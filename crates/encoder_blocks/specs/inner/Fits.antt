@@ -10,7 +10,7 @@ use Rattle.encoder_blocks.specs.inner.Room.{tablesFit, scoreFloats}
 use lib.ListN.{length}
 use lib.Ieee.{Float}
 use Rattle.buffers.specs.Region.{region}
-use Rattle.encoder_kernels.specs.Finite.{allFinite}
+use Rattle.encoder_kernels.specs.Kernels.{allFinite}
 use Rattle.encoder_blocks.specs.Block.{nOf, mOf, partsOf, scored, mixed}
 use Rattle.encoder_blocks.specs.inner.Live.{hAt}
 

@@ -5,7 +5,7 @@ use native.Mathlib.Omega.{arith}
 use borrow.Author.Needs.{needs}
 use borrow.Author.Tests.{leb-true}
 use lib.ListN.{length}
-use Rattle.encoder_kernels.specs.Finite.{allFinite}
+use Rattle.encoder_kernels.specs.Kernels.{allFinite}
 use Rattle.encoder_steps.specs.inner.Step.{finiteAt}
 use Rattle.encoder_steps.proofs.finite_rows.Statement.{statement}
 use Rattle.encoder_steps.proofs.finite_rows.Tie as tie

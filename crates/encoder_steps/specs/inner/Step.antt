@@ -9,7 +9,7 @@ use Rattle.buffers.specs.Region.{region, put}
 use Rattle.buffers.specs.inner.Apart.{Apart}
 use Rattle.buffers.specs.inner.Room.{inside, whereFits}
 use Rattle.encoder_linear.specs.inner.Room.{linearFits}
-use Rattle.encoder_kernels.specs.Finite.{allFinite}
+use Rattle.encoder_kernels.specs.Kernels.{allFinite}
 
 -- the n floats at y lie inside, and are finite
 unfoldable pub finiteAt : List Float → ℕ → ℕ → Bool

@@ -5,7 +5,7 @@ use native.Mathlib.Omega.{arith}
 use borrow.Author.Needs.{needs}
 use lib.ListN.{length}
 use Rattle.buffers.proofs.Rooms.{written}
-use Rattle.encoder_kernels.specs.Finite.{allFinite}
+use Rattle.encoder_kernels.specs.Kernels.{allFinite}
 use Rattle.encoder_attention.proofs.Keys.{stands, same-scores, same-left}
 use Rattle.encoder_attention.proofs.Rooms.{attend-says}
 use Rattle.encoder_attention.proofs.attention.attend.Statement.{statement}

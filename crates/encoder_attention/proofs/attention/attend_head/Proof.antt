@@ -6,7 +6,7 @@ use borrow.Author.Needs.{needs}
 use lib.ListN.{length}
 use Rattle.buffers.proofs.Lists.{fit}
 use Rattle.buffers.proofs.Regions.{apart-sub, apart-sym}
-use Rattle.encoder_kernels.specs.Finite.{allFinite}
+use Rattle.encoder_kernels.specs.Kernels.{allFinite}
 use Rattle.buffers.proofs.Rooms.{written}
 use Rattle.encoder_attention.proofs.Attends.{head-run, head-rows}
 use Rattle.encoder_linear.specs.inner.Fits.{WeighFits}

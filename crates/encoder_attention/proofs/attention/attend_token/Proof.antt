@@ -10,7 +10,7 @@ use Rattle.buffers.specs.Rows.{rows}
 use Rattle.buffers.proofs.Lists.{fit}
 use Rattle.encoder_attention.specs.Attention.{tokenScores, tokenSums}
 use Rattle.buffers.specs.Each.{blank}
-use Rattle.encoder_kernels.specs.Finite.{allFinite}
+use Rattle.encoder_kernels.specs.Kernels.{allFinite}
 use Rattle.encoder_attention.proofs.Attends.{sumsAt, scoresAt, token-turn}
 use Rattle.encoder_attention.proofs.attention.attend_token.Statement.{statement}
 use Rattle.encoder_attention.proofs.attention.attend_token.Tie as tie

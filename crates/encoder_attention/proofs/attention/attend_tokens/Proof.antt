@@ -10,7 +10,7 @@ use Rattle.buffers.specs.Rows.{rows}
 use Rattle.buffers.specs.Each.{blank}
 use Rattle.encoder_attention.specs.Attention.{tokenScores, scoresOf, attentionOf}
 use Rattle.encoder_attention.specs.inner.Keys.{keysOf}
-use Rattle.encoder_kernels.specs.Finite.{allFinite}
+use Rattle.encoder_kernels.specs.Kernels.{allFinite}
 use Rattle.encoder_attention.proofs.Attends.{tokenAt, attend-turn}
 use Rattle.encoder_attention.proofs.attention.attend_tokens.Statement.{statement}
 use Rattle.encoder_attention.proofs.attention.attend_tokens.Tie as tie

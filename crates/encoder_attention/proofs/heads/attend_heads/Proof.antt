@@ -11,7 +11,7 @@ use Rattle.buffers.proofs.Lists.{fit, length-rows}
 use Rattle.buffers.proofs.Puts.{puts-joined}
 use Rattle.buffers.proofs.Regions.{apart-sub}
 use Rattle.number_floats.specs.Constants.{zero32}
-use Rattle.encoder_kernels.specs.Finite.{allFinite}
+use Rattle.encoder_kernels.specs.Kernels.{allFinite}
 use Rattle.encoder_attention.specs.Attention.{tokenScores, tokenSums, scoresOf, attentionOf}
 use Rattle.encoder_attention.specs.inner.Fits.{GatherFits, HeadsFit}
 use Rattle.encoder_attention.proofs.Attends.{sumsAt, scoresAt, length-sumsAt}

@@ -8,7 +8,7 @@ use Rattle.buffers.specs.Region.{putRows}
 use Rattle.buffers.specs.Rows.{rows}
 use Rattle.buffers.specs.Each.{blank}
 use Rattle.number_floats.specs.Constants.{zero32}
-use Rattle.encoder_kernels.specs.Finite.{allFinite}
+use Rattle.encoder_kernels.specs.Kernels.{allFinite}
 use Rattle.encoder_attention.proofs.Values.{scored, summed, goes}
 use Rattle.encoder_attention.proofs.Pairs.{pair-turn, query-turn}
 use Rattle.encoder_attention.proofs.heads.attend_queries.Statement.{statement}

@@ -5,7 +5,7 @@ use native.Mathlib.Omega.{arith}
 use borrow.Author.Needs.{needs}
 use lib.ListN.{length}
 use Rattle.buffers.proofs.Lists.{fit}
-use Rattle.encoder_kernels.specs.Finite.{allFinite}
+use Rattle.encoder_kernels.specs.Kernels.{allFinite}
 use Rattle.encoder_linear.proofs.Rooms.{weigh-pair-fits}
 use Rattle.encoder_attention.specs.inner.Fits.{PairAt}
 use Rattle.encoder_attention.proofs.Attends.{head-rows}

@@ -2,7 +2,7 @@
 use mathlib.Core.Path.{ap, _∙_}
 use native.Mathlib.Omega.{arith}
 use borrow.Author.Needs.{needs}
-use Rattle.encoder_kernels.specs.Finite.{allFinite}
+use Rattle.encoder_kernels.specs.Kernels.{allFinite}
 use Rattle.encoder_blocks.specs.Tables.{tableBy}
 use Rattle.encoder_blocks.proofs.Halves.{attn-half}
 use Rattle.encoder_blocks.proofs.block.attn.Statement.{statement}

@@ -8,7 +8,7 @@ use lib.ListN.{length, take, getD}
 use lib.Seq.{take-all}
 use lib.Ieee.{nan, div, neg, ofBits}
 use Rattle.number_floats.proofs.Order.{finite-tests}
-use Rattle.encoder_kernels.specs.Finite.{allFinite}
+use Rattle.encoder_kernels.specs.Kernels.{allFinite}
 use Rattle.encoder_kernels.proofs.Finites.{all-finite-take}
 use Rattle.encoder_kernels.proofs.finite.finite.Statement.{statement}
 use Rattle.encoder_kernels.proofs.finite.finite.Tie as tie

@@ -4,7 +4,7 @@ use borrow.Author.Tests.{le-leb}
 use native.Mathlib.Omega.{arith}
 use borrow.Author.Needs.{needs}
 use lib.Ieee.{inFloat}
-use Rattle.encoder_kernels.specs.Norm.{invRms}
+use Rattle.encoder_kernels.specs.Kernels.{invRms}
 use Rattle.encoder_kernels.proofs.norm.inv_rms.Statement.{statement}
 use Rattle.encoder_kernels.proofs.norm.inv_rms.Tie as tie
 

@@ -8,7 +8,7 @@ use lib.Ieee.{nan, binary32, mul}
 use Rattle.buffers.proofs.Regions.{apart-sub}
 use Rattle.buffers.specs.Region.{region, put}
 use Rattle.buffers.specs.Rows.{tab}
-use Rattle.encoder_kernels.specs.Norm.{invRms, normRow}
+use Rattle.encoder_kernels.specs.Kernels.{invRms, normRow}
 use Rattle.buffers.proofs.Steps.{elem-step}
 use Rattle.encoder_kernels.proofs.norm.norm_row.Statement.{statement}
 use Rattle.encoder_kernels.proofs.norm.norm_row.Tie as tie

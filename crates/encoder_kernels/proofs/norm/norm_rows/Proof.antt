@@ -11,7 +11,7 @@ use Rattle.buffers.proofs.Regions.{apart-sub}
 use Rattle.buffers.specs.Region.{region, put}
 use Rattle.buffers.specs.Rows.{rows}
 use Rattle.buffers.specs.Each.{eachRow}
-use Rattle.encoder_kernels.specs.Norm.{normRow, normOf}
+use Rattle.encoder_kernels.specs.Kernels.{normRow, normOf}
 use Rattle.buffers.proofs.Steps.{row-step}
 use Rattle.encoder_kernels.proofs.Lengths.{length-norm-row}
 use Rattle.encoder_kernels.proofs.norm.norm_rows.Statement.{statement}

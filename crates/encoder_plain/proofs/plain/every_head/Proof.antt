@@ -8,7 +8,7 @@ use Rattle.number_floats.specs.Constants.{zero32}
 use Rattle.buffers.specs.Rows.{rows}
 use Rattle.buffers.specs.Region.{region, putRows}
 use Rattle.buffers.specs.Each.{blank}
-use Rattle.encoder_kernels.specs.Finite.{allFinite}
+use Rattle.encoder_kernels.specs.Kernels.{allFinite}
 use Rattle.encoder_attention.proofs.Bands.{puts-none}
 use Rattle.encoder_plain.specs.Plain.{floats, scores, softRows, sums, allScores}
 use Rattle.encoder_plain.proofs.Heads.{heads-turn, heads-end}

@@ -3,7 +3,7 @@ use mathlib.Core.Path.{ap, _∙_}
 use Prim.Native.Nat.{_*_}
 use native.Mathlib.Omega.{arith}
 use borrow.Author.Needs.{needs}
-use Rattle.encoder_kernels.specs.Finite.{allFinite}
+use Rattle.encoder_kernels.specs.Kernels.{allFinite}
 use Rattle.encoder_plain.proofs.Loops.{head-run}
 use Rattle.encoder_plain.proofs.plain.one_head.Statement.{statement}
 use Rattle.encoder_plain.proofs.plain.one_head.Tie as tie

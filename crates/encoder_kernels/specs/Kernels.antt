@@ -1,9 +1,12 @@
--- The norm of rows: each value times 1 / root (mean square + eps), times its weight. Assumes nothing.
-use mathlib.Core.List.{List}
+-- The norm of rows, each value times 1 / root (mean square + eps), times its weight; and whether every value of a list
+-- is finite, neither NaN nor an infinity. Assumes nothing.
+use mathlib.Core.Bool.{Bool, true, _&&_}
+use mathlib.Core.List.{List, [], _∷_}
 use Prim.Native.Nat.{ℕ}
 use lib.IntN.{pos}
 use lib.ListN.{getD}
 use lib.Ieee.{Float, nan, binary32, add, mul, div, ofBits, ofInt}
+use lib.Ieee.Scale.{finite}
 use Rattle.number_bf16_half_root.specs.Root.{rootOf}
 use Rattle.buffers.specs.Rows.{tab}
 use Rattle.number_floats.specs.Constants.{one32}
@@ -23,3 +26,7 @@ normRow dim w x = tab dim (λ j. mul binary32 (mul binary32 (getD x j nan) (invR
 -- n rows of dim, each normed
 unfoldable pub normOf : ℕ → ℕ → List Float → List Float → List Float
 normOf n dim w x = eachRow n dim (λ _. normRow dim w) x
+
+unfoldable pub allFinite : List Float → Bool
+allFinite [] = true
+allFinite (x ∷ l) = finite x && allFinite l
