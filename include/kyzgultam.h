@@ -9,7 +9,7 @@
  * Where two versions differ in the first or the second number, an answer may have other bits: docs/DIFFERENCES.md says
  * which. So an archive keeps this beside what it stores. `kz --version` prints it too.
  */
-#define KZ_VERSION "0.4.0"
+#define KZ_VERSION "0.5.0"
 
 #ifdef __cplusplus
 extern "C" {
@@ -38,7 +38,7 @@ enum kz_number {
     KZ_SAMPLE = 8,         /* a sample has bits that no byte has in its channel; in a tile's padding, not byte 0's */
     KZ_WEIGHTS_LENGTH = 9, /* the weights' length is not that of the settings */
     KZ_TABLE_LENGTH = 10,  /* a rotary table's length is not P^2 * head_dim; of kz_forward_axes, not P * head_dim / 4 */
-    KZ_SCRATCH = 11,       /* the scratch is shorter than kz_forward needs */
+    KZ_SCRATCH = 11,       /* the scratch is shorter than the call needs */
     KZ_NOT_FINITE = 12,    /* a value is not finite, in the inputs or at a stage */
     KZ_CONFIG_TEXT = 13,   /* the text is above 64 KiB, or no RFC 8259 text agrees with a byte of it, or with its end */
     KZ_CONFIG_DEPTH = 14,  /* a bracket of the text opens level 33 */
@@ -46,6 +46,7 @@ enum kz_number {
     KZ_CHANNEL = 19,       /* a channel's mean and deviation are not allowed: what is stands with the fields */
     KZ_TILE = 20,          /* a tile's index is outside the cut */
     KZ_LIST = 21,          /* there are more bad samples than the list has entries */
+    KZ_TOKENS = 22,        /* of kz_forward_plain: grid_h * grid_w is above 64 */
     KZ_KEY_HELD = 23,      /* the pool holds the key already */
     KZ_NO_VECTORS = 24,    /* no vectors are given */
     KZ_POOL_FULL = 25,     /* 64 results are held, or floats held plus new ones exceed the slice */
@@ -56,7 +57,7 @@ enum kz_number {
 /*
  * The sample of byte b in channel c (red, green, blue) is (b / 255 - mean[c]) / deviation[c] in floats, each operation
  * rounded. A channel is allowed when its 256 samples are finite and strictly rise or strictly fall with b, compared as
- * numbers: then no two bytes are alike. kz_forward, kz_forward_axes and kz_lengths never read mean and deviation.
+ * numbers: then no two bytes are alike. The forward calls and kz_lengths never read mean and deviation.
  */
 struct kz_picture_settings {
     size_t patch_size;         /* 1..32 */
@@ -231,9 +232,24 @@ struct kz_forward_report kz_forward_axes(struct kz_encoder_settings settings, co
                                          size_t scratch_len, float *out, size_t out_len);
 
 /*
+ * kz_forward with attention in the source's form, to be read beside it: for each head the full matrix of scores, t * t
+ * floats of the scratch, then softmax row by row, then the weighted sums. It serves up to 64 tokens, counted before
+ * merging: 22 where t is above 64. The scratch has at least 7*t*H + 2*t*I + t*t + 2*o*X floats, t*t - t more than
+ * kz_forward needs; after 0 and 12 all of it is +0, after any other number it is as it was. A call that it accepts,
+ * kz_forward accepts with the same bits, and 12 is given by both for the same calls, where it gives neither 22 nor 11.
+ * Everything else is as with kz_forward. Refused with 1, 6, 7, 22, 9, 10, 5, 11, 12.
+ */
+struct kz_forward_report kz_forward_plain(struct kz_encoder_settings settings, const float *patches,
+                                          size_t patches_len, size_t grid_h, size_t grid_w, const float *weights,
+                                          size_t weights_len, const float *rope_cos, size_t rope_cos_len,
+                                          const float *rope_sin, size_t rope_sin_len, float *scratch,
+                                          size_t scratch_len, float *out, size_t out_len);
+
+/*
  * How many floats each buffer of a kz_forward or kz_forward_axes call with these settings and this grid has to have:
  * exactly so many in patches, weights and each table, at least so many in scratch and output. Weights and tables are as
- * long with every grid. These are the lengths that both calls compare with for 7, 9, 10, 5 and 11. Refused with 1, 6.
+ * long with every grid. These are the lengths that both calls compare with for 7, 9, 10, 5 and 11; those of
+ * kz_forward_plain are kz_forward's but for t*t - t floats more of scratch. Refused with 1, 6.
  */
 struct kz_lengths_report kz_lengths(struct kz_encoder_settings settings, size_t grid_h, size_t grid_w);
 

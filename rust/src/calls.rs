@@ -252,6 +252,80 @@ pub fn forward_axes<T: AsRef<[f32]>>(
     Ok(report.tokens)
 }
 
+/// [`forward`] with attention in the source's form, to be read beside it: for each head the full matrix of scores, t × t
+/// floats of the scratch with t = `grid_h` × `grid_w`, then softmax row by row, then the weighted sums.
+///
+/// It serves up to 64 tokens, counted before merging, and refuses more with [`Refusal::Tokens`]. Its scratch has t² − t
+/// floats more than [`forward`]'s: [`EncoderSettings::plain_scratch_len`]. A call that it accepts, [`forward`] accepts
+/// with the same bits, and [`Refusal::NotFinite`] is given by both for the same calls, where it gives neither 22 nor 11.
+/// All else is as with [`forward`]. Refused with the first of 1, 6, 7, 22, 9, 10, 5, 11, 12.
+///
+/// ```
+/// # fn main() -> Result<(), kyzgultam::Refusal> {
+/// # use kyzgultam::{EncoderSettings, PictureSettings};
+/// use kyzgultam::{forward, forward_plain, Refusal};
+///
+/// # let settings = EncoderSettings {
+/// #     picture: PictureSettings::new(1, 1, 13),
+/// #     hidden_size: 8, num_heads: 2, head_dim: 4, num_layers: 1, intermediate_size: 1,
+/// #     text_hidden_size: 3, projector_bias: false, scaling: 0.5,
+/// # };
+/// # let weights: Vec<f32> = (0..settings.weights_len()?).map(|i| (i % 7) as f32 / 8.0 - 0.25).collect();
+/// # let (cos, sin) = (vec![0.8; settings.tables_len()?], vec![0.6; settings.tables_len()?]);
+/// # let patches: Vec<f32> = (0..13 * 5 * 3).map(|i| (i % 5) as f32 - 2.0).collect();
+/// let mut scratch = vec![0.0; settings.plain_scratch_len(3, 5)?];
+/// assert_eq!(scratch.len(), settings.scratch_len(3, 5)? + 15 * 15 - 15);
+/// let mut out = vec![0.0; settings.tokens_len(3, 5)?];
+/// # let few = &patches[..3 * 5 * 3];
+/// let count = forward_plain(&settings, few, 3, 5, &weights, &cos, &sin, &mut scratch, &mut out)?;
+/// assert_eq!(count, 15);
+///
+/// // The row-wise engine gives the same bits.
+/// let mut same = vec![0.0; out.len()];
+/// forward(&settings, few, 3, 5, &weights, &cos, &sin, &mut scratch, &mut same)?;
+/// assert_eq!(out, same);
+///
+/// // 13 × 5 are 65 tokens.
+/// let refused = forward_plain(&settings, &patches, 13, 5, &weights, &cos, &sin, &mut scratch, &mut out);
+/// assert_eq!(refused, Err(Refusal::Tokens));
+/// # Ok(())
+/// # }
+/// ```
+#[allow(clippy::too_many_arguments)] // as those of forward
+pub fn forward_plain(
+    settings: &EncoderSettings,
+    patches: &[f32],
+    grid_h: usize,
+    grid_w: usize,
+    weights: &[f32],
+    rope_cos: &[f32],
+    rope_sin: &[f32],
+    scratch: &mut [f32],
+    out: &mut [f32],
+) -> Result<usize, Refusal> {
+    let report = unsafe {
+        face::kz_forward_plain(
+            settings.into(),
+            patches.as_ptr(),
+            patches.len(),
+            grid_h,
+            grid_w,
+            weights.as_ptr(),
+            weights.len(),
+            rope_cos.as_ptr(),
+            rope_cos.len(),
+            rope_sin.as_ptr(),
+            rope_sin.len(),
+            scratch.as_mut_ptr(),
+            scratch.len(),
+            out.as_mut_ptr(),
+            out.len(),
+        )
+    };
+    Refusal::check(report.number)?;
+    Ok(report.tokens)
+}
+
 /// An encoder over lent weights and tables, for calls in the Rust's form: `encoder.forward(..)`.
 ///
 /// ```
@@ -301,5 +375,17 @@ impl PixtralEncoder<'_> {
         out: &mut [f32],
     ) -> Result<usize, Refusal> {
         forward(&self.settings, patches, grid_h, grid_w, self.weights, self.rope_cos, self.rope_sin, scratch, out)
+    }
+
+    /// [`forward_plain`] with this encoder's settings, weights and tables.
+    pub fn forward_plain(
+        &self,
+        patches: &[f32],
+        grid_h: usize,
+        grid_w: usize,
+        scratch: &mut [f32],
+        out: &mut [f32],
+    ) -> Result<usize, Refusal> {
+        forward_plain(&self.settings, patches, grid_h, grid_w, self.weights, self.rope_cos, self.rope_sin, scratch, out)
     }
 }

@@ -248,6 +248,24 @@ extern "C" {
         out_len: usize,
     ) -> ForwardReport;
 
+    pub fn kz_forward_plain(
+        settings: EncoderSettings,
+        patches: *const f32,
+        patches_len: usize,
+        grid_h: usize,
+        grid_w: usize,
+        weights: *const f32,
+        weights_len: usize,
+        rope_cos: *const f32,
+        rope_cos_len: usize,
+        rope_sin: *const f32,
+        rope_sin_len: usize,
+        scratch: *mut f32,
+        scratch_len: usize,
+        out: *mut f32,
+        out_len: usize,
+    ) -> ForwardReport;
+
     pub fn kz_lengths(settings: EncoderSettings, grid_h: usize, grid_w: usize) -> LengthsReport;
 
     pub fn kz_config(lent: EncoderSettings, text: *const u8, text_len: usize) -> ConfigReport;

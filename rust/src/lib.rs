@@ -9,8 +9,9 @@
 //!
 //! A picture larger than the image size is resized, or, where nothing may be lost, taken tile by tile: [`cut`],
 //! [`preprocess_tile`] and [`restore_tile`]. Patches that [`restore`] refuses for damaged samples, [`salvage`] brings
-//! back without these, and lists them. [`forward`] takes the Rust's rotary tables, [`forward_axes`] small ones. [`config`]
-//! reads settings from a config.json. A [`Pool`] keeps the token vectors of up to 64 sweeps, to compare a new one with.
+//! back without these, and lists them. [`forward`] takes the Rust's rotary tables, [`forward_axes`] small ones;
+//! [`forward_plain`] is [`forward`] with attention in the source's form, for up to 64 tokens. [`config`] reads settings
+//! from a config.json. A [`Pool`] keeps the token vectors of up to 64 sweeps, to compare a new one with.
 //!
 //! ```
 //! use kyzgultam::{forward_axes, pixtral_preprocess, restore, rope_axes, EncoderSettings, PictureSettings};
@@ -64,7 +65,8 @@ mod salvage;
 mod settings;
 mod tiles;
 
-pub use calls::{forward, forward_axes, patch, pixtral_preprocess, restore, Patches, Picture, PixtralEncoder};
+pub use calls::{forward, forward_axes, forward_plain, patch, pixtral_preprocess, restore};
+pub use calls::{Patches, Picture, PixtralEncoder};
 pub use config::{config, ConfigRefusal};
 pub use number::{bf16, bf16_pack, bf16_pack_all, bf16_widen, bf16_widen_all};
 pub use number::{exp, half_to_f32, root, tanh};

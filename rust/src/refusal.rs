@@ -54,6 +54,8 @@ pub enum Refusal {
     Tile = 20,
     /// 21: there are more bad samples than the list of [`salvage`](crate::salvage) has entries.
     List = 21,
+    /// 22: of [`forward_plain`](crate::forward_plain), a grid of more than 64 tokens, counted before merging.
+    Tokens = 22,
     /// 23: the pool holds the key already.
     KeyHeld = 23,
     /// 24: no vectors are given.
@@ -68,7 +70,7 @@ pub enum Refusal {
 
 impl Refusal {
     /// Every refusal, by number.
-    pub const ALL: [Refusal; 23] = [
+    pub const ALL: [Refusal; 24] = [
         Refusal::Setting,
         Refusal::Side,
         Refusal::RgbLength,
@@ -87,6 +89,7 @@ impl Refusal {
         Refusal::Channel,
         Refusal::Tile,
         Refusal::List,
+        Refusal::Tokens,
         Refusal::KeyHeld,
         Refusal::NoVectors,
         Refusal::PoolFull,
@@ -94,7 +97,7 @@ impl Refusal {
         Refusal::PoolSlice,
     ];
 
-    /// The number, the same as in C and in the documents: 1 to 15, 19 to 21, and 23 to 27.
+    /// The number, the same as in C and in the documents: 1 to 15, and 19 to 27.
     pub fn number(self) -> u32 {
         self as u32
     }
@@ -135,6 +138,7 @@ impl fmt::Display for Refusal {
             Refusal::Channel => "a channel's samples are not all finite, or neither strictly rise nor strictly fall",
             Refusal::Tile => "the tile's index is outside the cut of the sweep",
             Refusal::List => "there are more bad samples than the list has entries",
+            Refusal::Tokens => "the grid has more than 64 tokens",
             Refusal::KeyHeld => "the pool holds the key already",
             Refusal::NoVectors => "there are no vectors to add",
             Refusal::PoolFull => "the pool holds 64 results, or its slice has no room for these vectors",

@@ -299,6 +299,28 @@ impl EncoderSettings {
         Ok(self.lengths(grid_h, grid_w)?.scratch)
     }
 
+    /// How many floats of scratch [`forward_plain`](crate::forward_plain) needs for this grid: t² − t more than
+    /// [`forward`](crate::forward), with t = `grid_h` × `grid_w`. Refused with 1 or 6, and with 22 above 64 tokens, where
+    /// no scratch is long enough.
+    ///
+    /// ```
+    /// # fn main() -> Result<(), kyzgultam::Refusal> {
+    /// let settings = kyzgultam::EncoderSettings::default();
+    /// assert_eq!(settings.plain_scratch_len(8, 8)?, settings.scratch_len(8, 8)? + 64 * 64 - 64);
+    /// assert_eq!(settings.plain_scratch_len(8, 10), Err(kyzgultam::Refusal::Tokens));
+    /// # Ok(())
+    /// # }
+    /// ```
+    pub fn plain_scratch_len(&self, grid_h: usize, grid_w: usize) -> Result<usize, Refusal> {
+        let lengths = self.lengths(grid_h, grid_w)?;
+        // No side of an allowed grid is above 2048.
+        let t = grid_h * grid_w;
+        if t > 64 {
+            return Err(Refusal::Tokens);
+        }
+        Ok(lengths.scratch + t * t - t)
+    }
+
     /// How many floats [`forward`](crate::forward) writes for this grid: a vector of `text_hidden_size` for each
     /// merge × merge patches. Refused with 1 or 6.
     pub fn tokens_len(&self, grid_h: usize, grid_w: usize) -> Result<usize, Refusal> {

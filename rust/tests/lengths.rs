@@ -3,7 +3,7 @@
 mod common;
 
 use common::Random;
-use kyzgultam::{forward, forward_axes, EncoderSettings, Lengths, PictureSettings, Refusal, RopeAxes};
+use kyzgultam::{forward, forward_axes, forward_plain, EncoderSettings, Lengths, PictureSettings, Refusal, RopeAxes};
 
 /// Numbers 1 and 6, and the lengths, as the scope document states them.
 fn stated(s: &EncoderSettings, grid_h: usize, grid_w: usize) -> Result<Lengths, Refusal> {
@@ -51,6 +51,13 @@ fn compare(s: &EncoderSettings, grid_h: usize, grid_w: usize) -> Result<Lengths,
     assert_eq!(s.lengths(grid_h, grid_w), right, "{s:?} {grid_h} {grid_w}");
     assert_eq!(s.scratch_len(grid_h, grid_w), right.map(|n| n.scratch), "{s:?} {grid_h} {grid_w}");
     assert_eq!(s.tokens_len(grid_h, grid_w), right.map(|n| n.out), "{s:?} {grid_h} {grid_w}");
+    // The scope document's sum with the matrix in the place of the row.
+    let plain = right.and_then(|n| {
+        let t = grid_h * grid_w;
+        let (h, i, o) = (s.hidden_size, s.intermediate_size, n.out);
+        (t <= 64).then_some(7 * t * h + 2 * t * i + t * t + 2 * o).ok_or(Refusal::Tokens)
+    });
+    assert_eq!(s.plain_scratch_len(grid_h, grid_w), plain, "{s:?} {grid_h} {grid_w}");
     let merge = s.picture.spatial_merge_size;
     let smallest = stated(s, merge, merge);
     assert_eq!(s.weights_len(), smallest.map(|n| n.weights), "{s:?}");
@@ -170,9 +177,9 @@ fn the_largest() {
 /// more it is where the length is to be exact.
 #[test]
 fn forward_takes_just_these() {
-    use Refusal::{Output, PatchesLength, Scratch, TableLength, WeightsLength};
+    use Refusal::{Output, PatchesLength, Scratch, TableLength, Tokens, WeightsLength};
     let mut random = Random(1_234_567);
-    let (mut accepted, mut refused, mut hopeless) = (0, 0, 0);
+    let (mut accepted, mut refused, mut hopeless, mut many) = (0, 0, 0, 0);
     for _ in 0..400 {
         let mut s = random.encoder();
         (s.picture.mean, s.picture.deviation) = ([f32::NAN; 3], [0.0; 3]);
@@ -182,6 +189,8 @@ fn forward_takes_just_these() {
             let call = forward(&s, &[], grid_h, grid_w, &[], &[], &[], &mut [], &mut []);
             assert_eq!(call.err(), found.err(), "{s:?} {grid_h} {grid_w}");
             let call = forward_axes(&s, &[], grid_h, grid_w, &[], &RopeAxes::<&[f32]>::default(), &mut [], &mut []);
+            assert_eq!(call.err(), found.err(), "{s:?} {grid_h} {grid_w}");
+            let call = forward_plain(&s, &[], grid_h, grid_w, &[], &[], &[], &mut [], &mut []);
             assert_eq!(call.err(), found.err(), "{s:?} {grid_h} {grid_w}");
             refused += 1;
             // Without a length for the weights there is no picture that gives a grid.
@@ -208,6 +217,26 @@ fn forward_takes_just_these() {
             assert_eq!(call(less), Err(number), "{s:?} {grid_h} {grid_w}");
             assert_eq!(call(more).err(), (k < 4).then_some(number), "{s:?} {grid_h} {grid_w}");
         }
+        // The same with plain attention, up to 64 tokens.
+        let t = grid_h * grid_w;
+        let lens = [n.patches, n.weights, n.tables, n.tables, n.scratch + t * t - t, n.out];
+        let floats = lens.map(|len| random.floats(len + 1, 0.2));
+        let call = |lens: [usize; 6]| {
+            let part = |k: usize| &floats[k][..lens[k]];
+            let (mut scratch, mut out) = (part(4).to_vec(), part(5).to_vec());
+            forward_plain(&s, part(0), grid_h, grid_w, part(1), part(2), part(3), &mut scratch, &mut out)
+        };
+        let right = if t <= 64 { Ok(n.out) } else { Err(Tokens) };
+        assert_eq!(call(lens).map(|count| count * s.text_hidden_size), right);
+        for (k, number) in numbers.into_iter().enumerate() {
+            let (mut less, mut more) = (lens, lens);
+            less[k] -= 1;
+            more[k] += 1;
+            let number = if t <= 64 || k == 0 { number } else { Tokens };
+            assert_eq!(call(less), Err(number), "{s:?} {grid_h} {grid_w}");
+            assert_eq!(call(more).err(), (k < 4 || t > 64).then_some(number), "{s:?} {grid_h} {grid_w}");
+        }
+        many += usize::from(t > 64);
         // The same with four tables.
         let lens = [n.patches, n.weights, n.axes, n.axes, n.axes, n.axes, n.scratch, n.out];
         let floats = lens.map(|len| random.floats(len + 1, 0.2));
@@ -227,5 +256,5 @@ fn forward_takes_just_these() {
             assert_eq!(call(more).err(), (k < 6).then_some(number), "{s:?} {grid_h} {grid_w}");
         }
     }
-    assert!(accepted > 50 && refused > 50 && hopeless > 10, "{accepted} {refused} {hopeless}");
+    assert!(accepted > 50 && refused > 50 && hopeless > 10 && many > 0, "{accepted} {refused} {hopeless} {many}");
 }

@@ -4,8 +4,8 @@ mod common;
 
 use common::{allowed, same, Random};
 use kyzgultam::{
-    cut, forward, forward_axes, pixtral_preprocess, preprocess_tile, restore, restore_tile, salvage, BadSample,
-    EncoderSettings, Patches, PictureSettings, PixtralEncoder, Refusal, RopeAxes,
+    cut, forward, forward_axes, forward_plain, pixtral_preprocess, preprocess_tile, restore, restore_tile, salvage,
+    BadSample, EncoderSettings, Patches, PictureSettings, PixtralEncoder, Refusal, RopeAxes,
 };
 
 const PICTURE: PictureSettings = PictureSettings::new(2, 2, 8);
@@ -46,7 +46,7 @@ fn each<C: Clone>(good: &C, spoils: Spoils<C>, run: fn(&C) -> Result<(), Refusal
 fn numbers_and_sentences() {
     assert_eq!(
         Refusal::ALL.map(Refusal::number),
-        [1, 2, 3, 4, 5, 6, 7, 8, 9, 10, 11, 12, 13, 14, 15, 19, 20, 21, 23, 24, 25, 26, 27]
+        [1, 2, 3, 4, 5, 6, 7, 8, 9, 10, 11, 12, 13, 14, 15, 19, 20, 21, 22, 23, 24, 25, 26, 27]
     );
     for (i, refusal) in Refusal::ALL.iter().enumerate() {
         let sentence = refusal.to_string();
@@ -625,6 +625,105 @@ fn forward_axes_refuses() {
     }
 }
 
+/// With plain attention.
+fn run_forward_plain(c: &Forward) -> Result<(), Refusal> {
+    let marks = Random(7).floats(c.out.max(c.scratch), 1e9);
+    let (mut out, mut scratch) = (marks[..c.out].to_vec(), marks[..c.scratch].to_vec());
+    let found =
+        forward_plain(&c.settings, &c.patches, c.grid.0, c.grid.1, &c.weights, &c.cos, &c.sin, &mut scratch, &mut out);
+    let floats = found.map_or(0, |count| count * c.settings.text_hidden_size);
+    assert!(same(&out[floats..], &marks[floats..c.out]));
+    if matches!(found, Ok(_) | Err(Refusal::NotFinite)) {
+        assert!(same(&scratch, &vec![0.0; c.scratch]), "the scratch is +0 all over");
+    } else {
+        assert!(same(&scratch, &marks[..c.scratch]), "the scratch is as it was");
+    }
+    // The same through the struct.
+    let encoder = PixtralEncoder { settings: c.settings, weights: &c.weights, rope_cos: &c.cos, rope_sin: &c.sin };
+    let mut again = marks[..c.out].to_vec();
+    assert_eq!(encoder.forward_plain(&c.patches, c.grid.0, c.grid.1, &mut scratch, &mut again), found);
+    assert!(same(&again, &out));
+    found.map(drop)
+}
+
+/// A grid of 8 × 8, the most tokens that are served, where one of 8 × 10 is allowed too.
+fn good_forward_plain() -> Forward {
+    let settings = EncoderSettings { picture: PictureSettings::new(2, 2, 20), ..ENCODER };
+    let mut random = Random(13);
+    Forward {
+        settings,
+        patches: random.floats(settings.picture.restored_len(8, 8).unwrap(), 1.0),
+        grid: (8, 8),
+        weights: random.floats(settings.weights_len().unwrap(), 0.3),
+        cos: random.floats(settings.tables_len().unwrap(), 1.0),
+        sin: random.floats(settings.tables_len().unwrap(), 1.0),
+        scratch: settings.plain_scratch_len(8, 8).unwrap() + 9,
+        out: settings.tokens_len(8, 8).unwrap() + 5,
+    }
+}
+
+#[test]
+fn forward_plain_refuses() {
+    let good = good_forward_plain();
+    let spoils: fn() -> Spoils<Forward> = || {
+        vec![
+            (1, |c| c.settings.num_layers = 49),
+            (1, |c| c.settings.picture.resize_rule = 0),
+            (6, |c| c.grid.0 = 3),
+            (7, |c| c.patches.truncate(c.patches.len() - 1)),
+            (22, |c| {
+                c.grid.1 = 10;
+                c.patches.resize(8 * 10 * 3 * 4, 0.5);
+            }),
+            (9, |c| c.weights.truncate(c.weights.len() - 1)),
+            (10, |c| c.sin.push(0.0)),
+            (5, |c| c.out = 47),
+            (11, |c| c.scratch -= 10),
+            (12, |c| c.weights[3] = f32::NAN),
+        ]
+    };
+    each(&good, spoils(), run_forward_plain);
+    let mut odd = good.clone();
+    (odd.settings.picture.mean, odd.settings.picture.deviation) = ([f32::NAN; 3], [0.0; 3]);
+    each(&odd, spoils(), run_forward_plain);
+    let others: Spoils<Forward> = vec![
+        (6, |c| c.grid.1 = 0),
+        (6, |c| c.grid.1 = usize::MAX),
+        // Patches of 8 × 8 for 8 × 10, and none.
+        (7, |c| c.grid.1 = 10),
+        (7, |c| c.patches.clear()),
+        // Room for 80 tokens and their matrix, and no room at all.
+        (22, |c| {
+            c.grid = (10, 8);
+            c.patches.resize(8 * 10 * 3 * 4, 0.5);
+            (c.scratch, c.out) = (20_000, 1_000);
+        }),
+        (22, |c| {
+            c.grid = (10, 10);
+            c.patches.resize(10 * 10 * 3 * 4, f32::NAN);
+            (c.scratch, c.out) = (0, 0);
+            (c.weights, c.cos, c.sin) = (vec![], vec![], vec![]);
+        }),
+        (9, |c| c.weights.push(0.0)),
+        (9, |c| c.weights.clear()),
+        (10, |c| c.cos.truncate(c.cos.len() - 1)),
+        (10, |c| c.cos.clear()),
+        (5, |c| c.out = 0),
+        (11, |c| c.scratch = c.settings.scratch_len(8, 8).unwrap()),
+        (11, |c| c.scratch = 0),
+        (12, |c| c.patches[0] = f32::INFINITY),
+        (12, |c| *c.cos.last_mut().unwrap() = f32::NEG_INFINITY),
+        (12, |c| *c.sin.last_mut().unwrap() = f32::NAN),
+        // Finite inputs, but a stage that is not.
+        (12, |c| c.weights.fill(f32::MAX)),
+    ];
+    for (number, spoil) in others {
+        let mut bad = good.clone();
+        spoil(&mut bad);
+        assert_eq!(run_forward_plain(&bad).unwrap_err().number(), number);
+    }
+}
+
 #[test]
 fn settings_at_their_ends() {
     type Field<S> = fn(&mut S) -> &mut usize;
@@ -653,6 +752,8 @@ fn settings_at_their_ends() {
             assert_eq!(run_forward(&bad), Err(Refusal::Setting));
             assert_eq!(bad.settings.lengths(2, 4), Err(Refusal::Setting));
             assert_eq!(bad.settings.weights_len(), Err(Refusal::Setting));
+            assert_eq!(run_forward_plain(&bad), Err(Refusal::Setting));
+            assert_eq!(bad.settings.plain_scratch_len(2, 4), Err(Refusal::Setting));
             let small = ForwardAxes { call: bad, ..good_forward_axes() };
             assert_eq!(run_forward_axes(&small), Err(Refusal::Setting));
         }
@@ -676,6 +777,8 @@ fn settings_at_their_ends() {
             assert_eq!(bad.settings.axes_len(), Err(Refusal::Setting));
             assert_eq!(bad.settings.scratch_len(2, 4), Err(Refusal::Setting));
             assert_eq!(bad.settings.tokens_len(2, 4), Err(Refusal::Setting));
+            assert_eq!(run_forward_plain(&bad), Err(Refusal::Setting));
+            assert_eq!(bad.settings.plain_scratch_len(2, 4), Err(Refusal::Setting));
             let small = ForwardAxes { call: bad, ..good_forward_axes() };
             assert_eq!(run_forward_axes(&small), Err(Refusal::Setting));
         }
@@ -686,6 +789,8 @@ fn settings_at_their_ends() {
         assert_eq!(run_forward(&bad), Err(Refusal::Setting));
         assert_eq!(bad.settings.lengths(2, 4), Err(Refusal::Setting));
         assert_eq!(bad.settings.weights_len(), Err(Refusal::Setting));
+        assert_eq!(run_forward_plain(&bad), Err(Refusal::Setting));
+        assert_eq!(bad.settings.plain_scratch_len(2, 4), Err(Refusal::Setting));
         let small = ForwardAxes { call: bad, ..good_forward_axes() };
         assert_eq!(run_forward_axes(&small), Err(Refusal::Setting));
     }
@@ -698,6 +803,7 @@ fn lengths_refuse() {
             assert_eq!(ENCODER.lengths(grid_h, grid_w), Err(Refusal::Grid));
             assert_eq!(ENCODER.scratch_len(grid_h, grid_w), Err(Refusal::Grid));
             assert_eq!(ENCODER.tokens_len(grid_h, grid_w), Err(Refusal::Grid));
+            assert_eq!(ENCODER.plain_scratch_len(grid_h, grid_w), Err(Refusal::Grid));
             assert_eq!(PICTURE.restored_len(grid_h, grid_w), Err(Refusal::Grid));
             // A setting comes first.
             assert_eq!(EncoderSettings { num_layers: 49, ..ENCODER }.lengths(grid_h, grid_w), Err(Refusal::Setting));

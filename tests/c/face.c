@@ -823,6 +823,146 @@ static void forward_axes(void) {
     }
 }
 
+/* With plain attention: what kz_forward gives, with a matrix of scores in the scratch, and up to 64 tokens. */
+static void forward_plain(void) {
+    enum { PLAIN = SCRATCH + 8 * 8 - 8 };
+    const struct kz_encoder_settings good = {KZ_PICTURE_SETTINGS(2, 2, 8), 4, 1, 4, 1, 5, 3, 0, 0.5f};
+    float weights[WEIGHTS], rope_cos[TABLE], rope_sin[TABLE], scratch[PLAIN + TAIL], out[TOKENS + TAIL];
+    float right[TOKENS];
+    struct kz_encoder_settings other = good;
+    struct kz_forward_report r;
+
+    for (size_t i = 0; i < WEIGHTS; i++) weights[i] = (float)(int)(i * 37 % 41) / 82.0f - 0.2f;
+    for (size_t i = 0; i < TABLE; i++) {
+        rope_cos[i] = (float)(int)(i * 7 % 17) / 17.0f;
+        rope_sin[i] = (float)(int)(i * 5 % 19) / 19.0f;
+    }
+    r = kz_forward(good, patches, FLOATS, 2, 4, weights, WEIGHTS, rope_cos, TABLE, rope_sin, TABLE, scratch, SCRATCH,
+                   right, TOKENS);
+    EXPECT(r.number == KZ_ACCEPTED && r.tokens == 2);
+    for (size_t rule = 1; rule <= 2; rule++) {
+        other.picture = ruled(rule);
+        mark_all(scratch, PLAIN + TAIL);
+        mark_all(out, TOKENS + TAIL);
+        r = kz_forward_plain(other, patches, FLOATS, 2, 4, weights, WEIGHTS, rope_cos, TABLE, rope_sin, TABLE, scratch,
+                             PLAIN + TAIL, out, TOKENS + TAIL);
+        EXPECT(r.number == KZ_ACCEPTED && r.tokens == 2 && memcmp(out, right, sizeof right) == 0);
+        EXPECT(marked(out, TOKENS, TOKENS + TAIL) && zeroed(scratch, PLAIN + TAIL));
+    }
+    /* Means and deviations it never reads; and the tables in another order are others. */
+    other.picture = with(3, NAN, 0);
+    mark_all(out, TOKENS);
+    r = kz_forward_plain(other, patches, FLOATS, 2, 4, weights, WEIGHTS, rope_cos, TABLE, rope_sin, TABLE, scratch,
+                         PLAIN, out, TOKENS);
+    EXPECT(r.number == KZ_ACCEPTED && memcmp(out, right, sizeof right) == 0);
+    other = good;
+    other.scaling = 32.0f;
+    r = kz_forward_plain(other, patches, FLOATS, 2, 4, weights, WEIGHTS, rope_sin, TABLE, rope_cos, TABLE, scratch,
+                         PLAIN, out, TOKENS);
+    EXPECT(r.number == KZ_ACCEPTED && memcmp(out, right, sizeof right) != 0);
+
+    struct {
+        uint32_t number;
+        size_t rule, layers, grid_w, patches_len, weights_len, cos_len, sin_len, out_len, scratch_len;
+        float damage; /* over the last weight */
+    } calls[] = {
+        {KZ_SETTING, 0, 1, 4, FLOATS, WEIGHTS, TABLE, TABLE, TOKENS, PLAIN, 0},
+        {KZ_SETTING, SIZE_MAX, 1, 5, 0, 0, 0, 0, TOKENS, PLAIN, 1},
+        {KZ_SETTING, 1, 49, 4, FLOATS, WEIGHTS, TABLE, TABLE, TOKENS, PLAIN, 0},
+        {KZ_GRID, 1, 1, 5, FLOATS, WEIGHTS, TABLE, TABLE, TOKENS, PLAIN, 0},
+        {KZ_GRID, 1, 1, SIZE_MAX, 0, 0, 0, 0, 0, 0, 0},
+        {KZ_PATCHES_LENGTH, 1, 1, 4, FLOATS - 1, 0, 0, 0, 0, 0, 0},
+        {KZ_WEIGHTS_LENGTH, 1, 1, 4, FLOATS, WEIGHTS - 1, 0, 0, 0, 0, 0},
+        {KZ_TABLE_LENGTH, 1, 1, 4, FLOATS, WEIGHTS, TABLE - 1, TABLE, 0, 0, 0},
+        {KZ_TABLE_LENGTH, 1, 1, 4, FLOATS, WEIGHTS, TABLE, 0, TOKENS, PLAIN, 0},
+        {KZ_OUTPUT, 1, 1, 4, FLOATS, WEIGHTS, TABLE, TABLE, TOKENS - 1, 0, 0},
+        {KZ_SCRATCH, 1, 1, 4, FLOATS, WEIGHTS, TABLE, TABLE, TOKENS, PLAIN - 1, 1},
+        {KZ_SCRATCH, 1, 1, 4, FLOATS, WEIGHTS, TABLE, TABLE, TOKENS, SCRATCH, 0},
+        {KZ_NOT_FINITE, 1, 1, 4, FLOATS, WEIGHTS, TABLE, TABLE, TOKENS, PLAIN, 1},
+    };
+    for (size_t i = 0; i < sizeof calls / sizeof *calls; i++) {
+        struct kz_encoder_settings s = good;
+        float last = weights[WEIGHTS - 1];
+        s.picture = ruled(calls[i].rule);
+        s.num_layers = calls[i].layers;
+        if (calls[i].damage != 0) weights[WEIGHTS - 1] = strtof("inf", NULL);
+        mark_all(scratch, PLAIN);
+        mark_all(out, TOKENS);
+        r = kz_forward_plain(s, patches, calls[i].patches_len, 2, calls[i].grid_w, weights, calls[i].weights_len,
+                             rope_cos, calls[i].cos_len, rope_sin, calls[i].sin_len, scratch, calls[i].scratch_len, out,
+                             calls[i].out_len);
+        EXPECT(r.number == calls[i].number && r.tokens == 0);
+        EXPECT(marked(out, 0, TOKENS));
+        EXPECT(r.number == KZ_NOT_FINITE ? zeroed(scratch, PLAIN) : marked(scratch, 0, PLAIN));
+        weights[WEIGHTS - 1] = last;
+    }
+}
+
+/* At 64 and at 65 tokens, with patch and merge 1: 22 behind 7 and before all else. */
+static void tokens(void) {
+    enum {
+        FEW = 8 * 8,
+        MANY = 13 * 5,
+        SMALL = 4 * 3 + 4 + (2 * 4 + 4 * 16 + 3 * 4 * 5) + 4 + 4 * 4 + 3 * 4 + 3 * 3,
+        WIDE = 13 * 13 * 4,
+        LEAST = 7 * FEW * 4 + 2 * FEW * 5 + FEW * FEW + 2 * FEW * 3,
+        MOST = 7 * MANY * 4 + 2 * MANY * 5 + MANY * MANY + 2 * MANY * 3
+    };
+    const struct kz_encoder_settings good = {KZ_PICTURE_SETTINGS(1, 1, 13), 4, 1, 4, 1, 5, 3, 0, 0.5f};
+    static float floats[MANY * 3], weights[SMALL], rope_cos[WIDE], rope_sin[WIDE], scratch[MOST], out[MANY * 3];
+    static float right[FEW * 3];
+    struct kz_forward_report r;
+
+    for (size_t i = 0; i < MANY * 3; i++) floats[i] = (float)(int)(i * 29 % 31) / 15.0f - 1.0f;
+    for (size_t i = 0; i < SMALL; i++) weights[i] = (float)(int)(i * 37 % 41) / 82.0f - 0.2f;
+    for (size_t i = 0; i < WIDE; i++) {
+        rope_cos[i] = (float)(int)(i * 7 % 17) / 17.0f;
+        rope_sin[i] = (float)(int)(i * 5 % 19) / 19.0f;
+    }
+    r = kz_forward(good, floats, FEW * 3, 8, 8, weights, SMALL, rope_cos, WIDE, rope_sin, WIDE, scratch, MOST, right,
+                   FEW * 3);
+    EXPECT(r.number == KZ_ACCEPTED && r.tokens == FEW);
+    mark_all(scratch, MOST);
+    r = kz_forward_plain(good, floats, FEW * 3, 8, 8, weights, SMALL, rope_cos, WIDE, rope_sin, WIDE, scratch,
+                         LEAST - 1, out, FEW * 3);
+    EXPECT(r.number == KZ_SCRATCH && r.tokens == 0 && marked(scratch, 0, MOST));
+    r = kz_forward_plain(good, floats, FEW * 3, 8, 8, weights, SMALL, rope_cos, WIDE, rope_sin, WIDE, scratch, LEAST,
+                         out, FEW * 3);
+    EXPECT(r.number == KZ_ACCEPTED && r.tokens == FEW && memcmp(out, right, sizeof right) == 0);
+    EXPECT(zeroed(scratch, LEAST) && marked(scratch, LEAST, MOST));
+
+    struct {
+        uint32_t number;
+        size_t layers, grid_h, patches_len, weights_len, table_len, out_len, scratch_len;
+    } calls[] = {
+        {KZ_TOKENS, 1, 13, MANY * 3, SMALL, WIDE, MANY * 3, MOST},
+        {KZ_TOKENS, 1, 13, MANY * 3, SMALL - 1, WIDE, MANY * 3, MOST},
+        {KZ_TOKENS, 1, 13, MANY * 3, SMALL, 0, MANY * 3, MOST},
+        {KZ_TOKENS, 1, 13, MANY * 3, SMALL, WIDE, 0, MOST},
+        {KZ_TOKENS, 1, 13, MANY * 3, SMALL, WIDE, MANY * 3, 0},
+        {KZ_TOKENS, 1, 13, MANY * 3, 0, 0, 0, 0},
+        {KZ_PATCHES_LENGTH, 1, 13, MANY * 3 - 1, SMALL, WIDE, MANY * 3, MOST},
+        {KZ_PATCHES_LENGTH, 1, 13, FEW * 3, 0, 0, 0, 0},
+        {KZ_GRID, 1, 14, MANY * 3, 0, 0, 0, 0},
+        {KZ_SETTING, 49, 13, MANY * 3, SMALL, WIDE, MANY * 3, MOST},
+    };
+    mark_all(scratch, MOST);
+    mark_all(out, MANY * 3);
+    for (size_t i = 0; i < sizeof calls / sizeof *calls; i++) {
+        struct kz_encoder_settings s = good;
+        s.num_layers = calls[i].layers;
+        r = kz_forward_plain(s, floats, calls[i].patches_len, calls[i].grid_h, 5, weights, calls[i].weights_len,
+                             rope_cos, calls[i].table_len, rope_sin, calls[i].table_len, scratch, calls[i].scratch_len,
+                             out, calls[i].out_len);
+        EXPECT(r.number == calls[i].number && r.tokens == 0);
+        EXPECT(marked(out, 0, MANY * 3) && marked(scratch, 0, MOST));
+    }
+    /* kz_forward takes them all. */
+    r = kz_forward(good, floats, MANY * 3, 13, 5, weights, SMALL, rope_cos, WIDE, rope_sin, WIDE, scratch, MOST, out,
+                   MANY * 3);
+    EXPECT(r.number == KZ_ACCEPTED && r.tokens == MANY);
+}
+
 /* With a bias of linear_1 and of linear_2, each behind its matrix. */
 static void projector_bias(void) {
     enum { BIAS_1 = WEIGHTS - 3 * 3, BIAS_2 = WEIGHTS + 3, BIASED = WEIGHTS + 2 * 3 };
@@ -1187,6 +1327,8 @@ int main(void) {
     patch();
     forward();
     forward_axes();
+    forward_plain();
+    tokens();
     projector_bias();
     lengths();
     config();
