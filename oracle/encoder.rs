@@ -1,5 +1,5 @@
-//! Compares libkyzgultam's kz_forward and kz_forward_axes with the Rust, byte for byte, and kz_lengths with the text of
-//! the paper.
+//! Compares libkyzgultam's kz_forward, kz_forward_axes and kz_forward_plain with the Rust, byte for byte, and kz_lengths
+//! with the text of the paper.
 //!
 //! The Rust's `PixtralEncoder::forward`, the types and all that it calls are cut from its source, with E and T in the
 //! place of the platform's exp and tanh (`run` does it), one thread, and no log and no progress bar. The Rust has no
@@ -9,8 +9,8 @@
 //! too. Each call is made twice, with 01's means and deviations and with others, between which forward and lengths make
 //! no difference.
 //!
-//!     encoder            edges, a call for each stage (stages.rs), calls by small tables (axes.rs), and random
-//!                        calls with a fixed seed
+//!     encoder            edges, a call for each stage (stages.rs), calls by small tables (axes.rs) and with
+//!                        plain attention (plain.rs), and random calls with a fixed seed
 //!     encoder --bench    times ours and the Rust, on one thread (bench.rs); with --quick, on
 //!                        small grids alone, with --large, on these and 64x64, with one layer
 //!     encoder --sample   prints the Rust's answers as crates/encoder_replay/stdin holds them
@@ -22,6 +22,8 @@ use std::io::Write;
 mod axes;
 #[path = "bench.rs"]
 mod bench;
+#[path = "plain.rs"]
+mod plain;
 mod rules;
 #[path = "sample.rs"]
 mod sample;
@@ -526,7 +528,11 @@ struct Answer {
 }
 
 fn answer(c: &Call) -> Answer {
-    let number = refusal(c);
+    answered(c, refusal(c))
+}
+
+/// The same where a refusal before 12 is known.
+fn answered(c: &Call, number: u32) -> Answer {
     if number != 0 {
         return Answer { number, stage: None, rows: None };
     }
@@ -620,6 +626,7 @@ fn with_others(s: &Settings, index: usize) -> [Settings; 2] {
 struct Tally {
     calls: usize,
     axes: usize,
+    plain: usize,
     lengths: usize,
     accepted: usize,
     differ: usize,
@@ -957,13 +964,15 @@ fn edges_and_random() -> bool {
     }
     no_rules(&mut r, &mut tally);
     every_end(&mut tally);
+    plain::all(&mut Random(SEED + 11), &mut tally);
     let all = tally.every_stage();
     eprintln!("encoder: numbers {:?}, stages {:?}", tally.numbers, tally.stages);
     println!(
-        "encoder: {} forward calls by full tables, {} by small ones and {} lengths calls compared with the Rust; of \
-         forward {} accepted, stopped at {} stages of {}; {} differ",
+        "encoder: {} forward calls by full tables, {} by small ones, {} with plain attention and {} lengths calls \
+         compared with the Rust; of forward {} accepted, stopped at {} stages of {}; {} differ",
         tally.calls,
         tally.axes,
+        tally.plain,
         tally.lengths,
         tally.accepted,
         tally.stages.len(),
