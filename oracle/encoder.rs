@@ -998,6 +998,8 @@ struct Asked {
     /// As `sample::damage` numbers it, at a place among the cells.
     damage: usize,
     place: usize,
+    /// 1 where it is a forward with plain attention.
+    plain: usize,
 }
 
 impl Asked {
@@ -1027,7 +1029,7 @@ impl Asked {
     fn answered(&self) -> String {
         let s = &self.s;
         let c = self.call();
-        let a = answer(&c);
+        let a = if self.plain == 1 { answered(&c, plain::refusal(&c)) } else { answer(&c) };
         let (tokens, out, work) = left(&c, &a);
         let hash = |x: &[f32]| sample::hash(&bits(x)) as usize;
         let mut list = vec![s.patch_size, s.spatial_merge_size, s.image_size];
@@ -1037,6 +1039,7 @@ impl Asked {
         list.extend(self.lengths);
         list.extend([self.seed as usize, self.damage, self.place]);
         list.extend([a.number as usize, tokens, hash(&out), hash(&work), s.resize_rule, s.projector_bias]);
+        list.push(self.plain);
         sample::line(&list)
     }
 }
@@ -1073,7 +1076,7 @@ fn asked(r: &mut Random, layers: usize) -> Asked {
         scratch_floats(&s, t, o),
         o * s.text_hidden_size,
     ];
-    Asked { s, grid, lengths, seed: r.next() as u32, damage: 0, place: 0 }
+    Asked { s, grid, lengths, seed: r.next() as u32, damage: 0, place: 0, plain: 0 }
 }
 
 /// 0 to 2 layers; scratch and output as long as needed, or longer; now and then -0 or a flipped low bit.
@@ -1219,6 +1222,61 @@ fn sample_biased(r: &mut Random, list: &mut Vec<Asked>) {
     }
 }
 
+/// With plain attention: accepted with 0 to 2 layers and with 48 tokens; the scratch one short, and that of forward; 66
+/// tokens, alone and with each refusal beside it; a value that is not finite in each input, and scores that are not.
+fn sample_plain(r: &mut Random, list: &mut Vec<Asked>) {
+    let mut plain = |mut a: Asked, change: &dyn Fn(&mut Asked)| {
+        let t = a.grid[0] * a.grid[1];
+        a.plain = 1;
+        a.lengths[4] += if t > 64 { 0 } else { t * t - t };
+        change(&mut a);
+        list.push(a);
+    };
+    for i in 0..9 {
+        plain(asked(r, i % 3), &|a| a.lengths[4] += [0, 0, 7][i % 3]);
+    }
+    plain(many(r, [6, 8]), &|_| ());
+    plain(many(r, [8, 6]), &|a| a.lengths[4] -= 1);
+    plain(many(r, [6, 8]), &|a| a.lengths[4] -= 48 * 48 - 48);
+    for change in [
+        (|_| ()) as fn(&mut Asked),
+        |a| a.s.num_layers = 49,
+        |a| a.grid[0] = 0,
+        |a| a.lengths[0] -= 1,
+        |a| a.lengths[1] -= 1,
+        |a| a.lengths[3] -= 1,
+        |a| a.lengths[5] = 0,
+        |a| a.lengths[4] = 0,
+        |a| (a.damage, a.place) = (2, 0),
+    ] {
+        plain(many(r, [6, 11]), &change);
+    }
+    for k in 0..4 {
+        plain(asked(r, 1), &|a| (a.damage, a.place) = (2, STARTS[k] + a.lengths[k] - 1));
+    }
+    let unscaled = std::iter::repeat_with(|| {
+        let mut a = many(r, [3, 4]);
+        a.s.scaling = 3.0e38;
+        a
+    });
+    let stops = |a: &Asked| staged(&a.call(), &model(&a.call()), &mut Vec::new()).err() == Some("scores");
+    let found = unscaled.take(1000).find(stops).expect("scores that are not finite");
+    plain(found, &|_| ());
+}
+
+/// A record of many tokens, with one head of four, one layer, and no merging.
+fn many(r: &mut Random, grid: [usize; 2]) -> Asked {
+    let mut a = asked(r, 1);
+    let most = grid[0].max(grid[1]);
+    (a.s.patch_size, a.s.spatial_merge_size, a.s.image_size) = (1, 1, most);
+    (a.s.hidden_size, a.s.num_heads, a.s.head_dim) = (4, 1, 4);
+    (a.s.intermediate_size, a.s.text_hidden_size) = (2, 1);
+    let (t, table) = (grid[0] * grid[1], most * most * 4);
+    a.grid = grid;
+    a.lengths = [t * 3, weight_floats(&a.s), table, table, scratch_floats(&a.s, t, t), t];
+    a
+}
+
 fn sample() -> std::io::Result<()> {
     let mut r = Random(SEED);
     let mut list = Vec::new();
@@ -1227,6 +1285,7 @@ fn sample() -> std::io::Result<()> {
     sample_stopped(&mut r, &mut list);
     sample_rules(&mut r, &mut list);
     sample_biased(&mut r, &mut list);
+    sample_plain(&mut r, &mut list);
     let mut out = std::io::stdout().lock();
     list.iter().try_for_each(|a| writeln!(out, "{}", a.answered()))
 }

@@ -50,7 +50,7 @@ fn plain(s: Settings, c: &Call, scratch: &mut [f32], out: &mut [f32]) -> Report 
 }
 
 /// 1, 6, 7, 22, 9, 10, 5, 11, in that order; 0 where none applies.
-fn refusal(c: &Call) -> u32 {
+pub fn refusal(c: &Call) -> u32 {
     let n = lengths(&c.s, c.grid);
     if n.number != 0 {
         return n.number;

@@ -6,8 +6,8 @@
 mod sample;
 
 use kyzgultam::{
-    bf16, bf16_pack, bf16_widen, exp, forward, half_to_f32, pixtral_preprocess, preprocess_tile, restore, restore_tile,
-    root, salvage, tanh, BadSample, EncoderSettings, PictureSettings, Refusal, Tile,
+    bf16, bf16_pack, bf16_widen, exp, forward, forward_plain, half_to_f32, pixtral_preprocess, preprocess_tile,
+    restore, restore_tile, root, salvage, tanh, BadSample, EncoderSettings, PictureSettings, Refusal, Tile,
 };
 use sample::{damage, hash, marks, states, MARKS};
 
@@ -171,8 +171,9 @@ fn salvaged() {
 fn token_vectors() {
     const STARTS: [usize; 4] = [0, 1024, 7168, 7680];
     let unit = |x: u32| ((x >> 8) as f32 / 8_388_608.0 - 1.0).to_bits();
-    let mut seen = [0; 13];
-    let mut biased = [0; 13];
+    let mut seen = [0; 23];
+    let mut biased = [0; 23];
+    let mut plain = [0; 23];
     for v in records(include_str!("../../crates/encoder_replay/stdin")) {
         // The crate's projector_bias is a bool; what is none is refused with 1, where it can be asked.
         if v[26] > 1 {
@@ -194,12 +195,15 @@ fn token_vectors() {
         let part = |k: usize| &cells[STARTS[k]..STARTS[k] + v[12 + k]];
         let (mut scratch, mut out) = (marked(v[16]), marked(v[17]));
         let (cos, sin) = (part(2), part(3));
-        let found = forward(&settings, part(0), v[10], v[11], part(1), cos, sin, &mut scratch, &mut out);
+        let by = if v[27] == 1 { forward_plain } else { forward };
+        let found = by(&settings, part(0), v[10], v[11], part(1), cos, sin, &mut scratch, &mut out);
         let answer = [number(&found), found.unwrap_or(0), hash_floats(&out), hash_floats(&scratch)];
         assert_eq!(answer[..], v[21..25]);
         seen[number(&found)] += 1;
         biased[number(&found)] += v[26];
+        plain[number(&found)] += v[27];
     }
     assert!([0, 1, 5, 6, 7, 9, 10, 11, 12].iter().all(|n| seen[*n] > 0), "{seen:?}");
     assert!([0, 9, 12].iter().all(|n| biased[*n] > 0), "{biased:?}");
+    assert!([0, 1, 6, 7, 11, 12, 22].iter().all(|n| plain[*n] > 0), "{plain:?}");
 }

@@ -10,7 +10,7 @@ use Rattle.replay.specs.Counts.{bump}
 
 -- a call that answers as the record says is counted at its number; what differs, past these
 abbrev pub differs : ℕ
-differs = 13
+differs = 23
 
 unfoldable pub countedAt : Answer → List ℕ → ℕ
 countedAt a v =
@@ -27,7 +27,7 @@ unfoldable pub placeFrom : Read → ℕ
 placeFrom r = cond (r .whole && smallOf (r .list)) (countedAt (runOf (r .list)) (r .list)) differs
 
 abbrev pub placeOf : List ℕ → ℕ
-placeOf line = placeFrom (readOf 27 line)
+placeOf line = placeFrom (readOf 28 line)
 
 -- the counts after each of the lines
 unfoldable pub tally : List ℕ → List (List ℕ) → List ℕ

@@ -9,16 +9,16 @@ use libc::STDOUT_FILENO;
 use replay::line::read_line;
 
 // Where a record's call is counted: by its number, and past these where it differs.
-fn place_of(a: Answer, v: &[usize; 27]) -> usize
-    ensures { λ r. ⌜ (r ≡ countedAt a (now (v .entry))) × (r < 14) ⌝ }
+fn place_of(a: Answer, v: &[usize; 28]) -> usize
+    ensures { λ r. ⌜ (r ≡ countedAt a (now (v .entry))) × (r < 24) ⌝ }
 {
     let same = (a.number == v[21]) & (a.tokens == v[22]) & (a.out == v[23]) & (a.scratch == v[24]);
     if same {
-        if a.number < 13 {
+        if a.number < 23 {
             return a.number;
         }
     }
-    13
+    23
 }
 
 fn put(x: usize) {
@@ -28,7 +28,7 @@ fn put(x: usize) {
 
 // Writes what ours is where it differs from the line's.
 fn report(i: usize, a: Answer, line: &[u8]) {
-    if i == 13 {
+    if i == 23 {
         io::write_all(STDOUT_FILENO, b"ours ");
         put(a.number);
         put(a.tokens);
@@ -44,11 +44,11 @@ fn bad(line: &[u8]) -> usize
 {
     io::write_all(STDOUT_FILENO, b"no record: ");
     io::write_all(STDOUT_FILENO, line);
-    13
+    23
 }
 
 // Whether the lengths of a record fit the buffers.
-fn small(v: &[usize; 27]) -> bool
+fn small(v: &[usize; 28]) -> bool
     ensures { λ r. ⌜ r ≡ smallOf (now (v .entry)) ⌝ }
 {
     (v[12] <= 1024)
@@ -60,9 +60,9 @@ fn small(v: &[usize; 27]) -> bool
 }
 
 pub(crate) fn judge(line: &[u8]) -> usize
-    ensures { λ r. ⌜ (r ≡ placeOf (now (line .entry))) × (r < 14) ⌝ }
+    ensures { λ r. ⌜ (r ≡ placeOf (now (line .entry))) × (r < 24) ⌝ }
 {
-    let mut v = [0usize; 27];
+    let mut v = [0usize; 28];
     if !read_line(line, &mut v) {
         return bad(line);
     }

@@ -1,7 +1,7 @@
-// A record's call. v holds its 27 numbers, in the order that main.rt lists.
+// A record's call. v holds its 28 numbers, in the order that main.rt lists.
 ghost use mathlib.Core.Path.{_≡_};
 ghost use lib.ListN.{length};
-ghost use Rattle.encoder_replay.specs.Run.{answerOf, settingsOf, inputsFrom, callOf, runOf};
+ghost use Rattle.encoder_replay.specs.Run.{encodedAs, outAs, scratchAs, answerOf, settingsOf, inputsFrom, callOf, runOf};
 ghost use Rattle.encoder_replay.specs.inner.Room.{Small, Room};
 use encoder::Encoded;
 use encoder_settings::EncoderSettings;
@@ -27,7 +27,31 @@ pub struct Answer {
     pub scratch: usize,
 }
 
+// Forward, or, where plain is 1, forward with plain attention.
+fn forward_as(
+    plain: usize,
+    s: EncoderSettings,
+    patches: &[f32],
+    gh: usize,
+    gw: usize,
+    weights: &[f32],
+    cos: &[f32],
+    sin: &[f32],
+    scratch: &mut [f32],
+    out: &mut [f32],
+) -> Encoded
+    ensures { λ r. ⌜ r ≡ encodedAs plain s gh gw (now (weights .entry)) (now (cos .entry)) (now (sin .entry)) (now (patches .entry)) (length (now (out .entry))) (length (now (scratch .entry))) ⌝ }
+    ensures { λ _. ⌜ now (out .exit) ≡ outAs plain s gh gw (now (weights .entry)) (now (cos .entry)) (now (sin .entry)) (now (patches .entry)) (length (now (scratch .entry))) (now (out .entry)) ⌝ }
+    ensures { λ _. ⌜ now (scratch .exit) ≡ scratchAs plain s gh gw (now (weights .entry)) (now (cos .entry)) (now (sin .entry)) (now (patches .entry)) (length (now (out .entry))) (now (scratch .entry)) ⌝ }
+{
+    if plain == 1 {
+        return encoder::forward::forward_plain(s, patches, gh, gw, weights, cos, sin, scratch, out);
+    }
+    encoder::forward::forward(s, patches, gh, gw, weights, cos, sin, scratch, out)
+}
+
 fn encode(
+    plain: usize,
     s: EncoderSettings,
     patches: &[f32],
     gh: usize,
@@ -38,9 +62,9 @@ fn encode(
     scratch: &mut [f32],
     out: &mut [f32],
 ) -> Answer
-    ensures { λ r. ⌜ r ≡ answerOf s gh gw (now (weights .entry)) (now (cos .entry)) (now (sin .entry)) (now (patches .entry)) (now (scratch .entry)) (now (out .entry)) ⌝ }
+    ensures { λ r. ⌜ r ≡ answerOf plain s gh gw (now (weights .entry)) (now (cos .entry)) (now (sin .entry)) (now (patches .entry)) (now (scratch .entry)) (now (out .entry)) ⌝ }
 {
-    let found = encoder::forward::forward(s, patches, gh, gw, weights, cos, sin, scratch, out);
+    let found = forward_as(plain, s, patches, gh, gw, weights, cos, sin, scratch, out);
     let left = hash_floats(out) as usize;
     let work = hash_floats(scratch) as usize;
     match found {
@@ -60,7 +84,7 @@ fn encode(
 }
 
 // Means and deviations of 0, which preprocess refuses and forward never reads.
-fn settings(v: &[usize; 27]) -> EncoderSettings
+fn settings(v: &[usize; 28]) -> EncoderSettings
     ensures { λ r. ⌜ r ≡ settingsOf (now (v .entry)) ⌝ }
 {
     let p = PictureSettings {
@@ -85,7 +109,7 @@ fn settings(v: &[usize; 27]) -> EncoderSettings
 }
 
 // The inputs of a record's seed, once they are damaged.
-fn inputs(v: &[usize; 27], cells: &mut [f32])
+fn inputs(v: &[usize; 28], cells: &mut [f32])
     ensures { λ _. ⌜ now (cells .exit) ≡ inputsFrom (now (v .entry)) (length (now (cells .entry))) ⌝ }
 {
     fill_units(v[18], cells);
@@ -93,7 +117,7 @@ fn inputs(v: &[usize; 27], cells: &mut [f32])
 }
 
 // The call over the front of each buffer.
-fn call(v: &[usize; 27], cells: &[f32], scratch: &mut [f32], out: &mut [f32]) -> Answer
+fn call(v: &[usize; 28], cells: &[f32], scratch: &mut [f32], out: &mut [f32]) -> Answer
     requires { ⌜ Small (now v) ⌝ }
     requires { ⌜ Room (length (now cells)) (length (now scratch)) (length (now out)) ⌝ }
     ensures { λ r. ⌜ r ≡ callOf (now (v .entry)) (now (cells .entry)) (now (scratch .entry)) (now (out .entry)) ⌝ }
@@ -105,6 +129,7 @@ fn call(v: &[usize; 27], cells: &[f32], scratch: &mut [f32], out: &mut [f32]) ->
     let m = v[16];
     let n = v[17];
     encode(
+        v[27],
         settings(v),
         &cells[..p],
         v[10],
@@ -117,7 +142,7 @@ fn call(v: &[usize; 27], cells: &[f32], scratch: &mut [f32], out: &mut [f32]) ->
     )
 }
 
-pub(crate) fn run(v: &[usize; 27]) -> Answer
+pub(crate) fn run(v: &[usize; 28]) -> Answer
     requires { ⌜ Small (now v) ⌝ }
     ensures { λ r. ⌜ r ≡ runOf (now (v .entry)) ⌝ }
 {

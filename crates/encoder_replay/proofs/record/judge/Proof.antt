@@ -20,19 +20,19 @@ use Rattle.encoder_replay.proofs.record.judge.Statement.{statement}
 use Rattle.encoder_replay.proofs.record.judge.Tie as tie
 
 -- a line that was not read
-unread : (line : List ℕ) (t : Bool) → t ≡ readOf 27 line .whole → t ≡ false → differs ≡ placeOf line
+unread : (line : List ℕ) (t : Bool) → t ≡ readOf 28 line .whole → t ≡ false → differs ≡ placeOf line
 unfolding placeFrom
 unread line t e f = rw (← e, f)
 
 -- a line that was, by whether its lengths fit
-module _ (line v : List ℕ) (t : Bool) (e : t ≡ readOf 27 line .whole) (o : v ≡ over (readOf 27 line .list) (replicate 27 0)) (f : t ≡ true) where
+module _ (line v : List ℕ) (t : Bool) (e : t ≡ readOf 28 line .whole) (o : v ≡ over (readOf 28 line .list) (replicate 28 0)) (f : t ≡ true) where
   large : smallOf v ≡ false → differs ≡ placeOf line
   unfolding placeFrom
-  large s = rw (read-whole 27 line (replicate 27 0) v t refl e o f, s)
+  large s = rw (read-whole 28 line (replicate 28 0) v t refl e o f, s)
 
   fitting : smallOf v ≡ true → countedAt (runOf v) v ≡ placeOf line
   unfolding placeFrom
-  fitting s = rw (read-whole 27 line (replicate 27 0) v t refl e o f, s)
+  fitting s = rw (read-whole 28 line (replicate 28 0) v t refl e o f, s)
 
 fit : (v : List ℕ) → smallOf v ≡ true → Small v
 fit v e =

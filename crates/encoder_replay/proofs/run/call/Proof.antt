@@ -37,20 +37,23 @@ element-copy-out-m c = search needs
 element-copy-out-n : tie.Need-element-copy-out-n
 element-copy-out-n c = search needs
 
+element-copy-out-encode : tie.Need-element-copy-out-encode
+element-copy-out-encode c = search needs
+
 settings-requires : tie.Need-settings-requires
 settings-requires c κs = search needs
 
 slice-aggregate-encode : tie.Need-slice-aggregate-encode
 slice-aggregate-encode c =
-    let d = c .before .before .before .before .before .before .before .before .before .before .before in
+    let d = c .before .before .before .before .before .before .before .before .before .before .before .before in
     let h : at (d .args .v .now) 12 ≤ length (d .args .cells .now) = omega (arith, d .pre .0 .patches, d .pre .1 .cells-all) in
     sym (length-take-le _ (d .args .cells .now) h)
 
-element-copy-out-encode : tie.Need-element-copy-out-encode
-element-copy-out-encode c = search needs
-
 element-copy-out-encode-2 : tie.Need-element-copy-out-encode-2
 element-copy-out-encode-2 c = search needs
+
+element-copy-out-encode-3 : tie.Need-element-copy-out-encode-3
+element-copy-out-encode-3 c = search needs
 
 sub-encode : tie.Need-sub-encode
 sub-encode c = search needs
@@ -84,7 +87,7 @@ slice-relend-prefix-encode c = search needs
 
 slice-aggregate-encode-2 : tie.Need-slice-aggregate-encode-2
 slice-aggregate-encode-2 c =
-    let d = c .before .before .before .before .before .before .before .before .before .before .before .before .before .before .before .before .before in
+    let d = c .before .before .before .before .before .before .before .before .before .before .before .before .before .before .before .before .before .before in
     let h : at (d .args .v .now) 16 ≤ length (d .args .scratch .now) = omega (arith, d .pre .0 .scratch, d .pre .1 .scratch-all) in
     sym (length-take-le _ (d .args .scratch .now) h)
 
@@ -93,7 +96,7 @@ slice-relend-prefix-encode-2 c = search needs
 
 slice-aggregate-encode-3 : tie.Need-slice-aggregate-encode-3
 slice-aggregate-encode-3 c =
-    let d = c .before .before .before .before .before .before .before .before .before .before .before .before .before .before .before .before .before .before in
+    let d = c .before .before .before .before .before .before .before .before .before .before .before .before .before .before .before .before .before .before .before in
     let h : at (d .args .v .now) 17 ≤ length (d .args .out .now) = omega (arith, d .pre .0 .out, d .pre .1 .out-all) in
     sym (length-take-le _ (d .args .out .now) h)
 
@@ -111,7 +114,7 @@ unfolding callOf
 returns c =
     let e = c .before .before .before .before in
     let s = e .before .before .before .before .before .before .before .before .before in
-    let v = s .before .before .before .before .before .before .before .before .before .before .args .v .now in
+    let v = s .before .before .before .before .before .before .before .before .before .before .before .args .v .now in
     rw (s .settings .ensures, add-sub-cancel-left 1024 (at v 13), add-sub-cancel-left 7168 (at v 14), add-sub-cancel-left 7680 (at v 15)) at (e .encode .ensures)
 
 pub call-spec : {M : Type 1} → statement M
@@ -127,10 +130,11 @@ call-spec =
     add-d
     element-copy-out-m
     element-copy-out-n
+    element-copy-out-encode
     settings-requires
     slice-aggregate-encode
-    element-copy-out-encode
     element-copy-out-encode-2
+    element-copy-out-encode-3
     sub-encode
     part-encode-start
     part-encode-end

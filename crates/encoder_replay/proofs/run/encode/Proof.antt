@@ -7,36 +7,35 @@ use lib.Ieee.{Float}
 use lib.ListN.{length}
 use Rattle.encoder_settings.specs.declared.EncoderSettings.{EncoderSettings}
 use Rattle.encoder.specs.declared.Encoded.{Encoded}
-use Rattle.encoder.specs.Forward.{encodedOf, outOf, scratchOf}
 use Rattle.replay.specs.Hash.{floatHash}
-use Rattle.encoder_replay.specs.Run.{answerFrom, answerOf}
+use Rattle.encoder_replay.specs.Run.{encodedAs, outAs, scratchAs, answerFrom, answerOf}
 use Rattle.encoder_replay.proofs.run.encode.Statement.{statement}
 use Rattle.encoder_replay.proofs.run.encode.Tie as tie
 
 -- an answer a, an output t with its hash h, and a scratch u with its hash k
-module _ (s : EncoderSettings) (gh gw : ℕ) (w cos sin x scratch out : List Float) where
+module _ (p : ℕ) (s : EncoderSettings) (gh gw : ℕ) (w cos sin x scratch out : List Float) where
   answered : (t u : List Float) (a : Encoded) (h k : ℕ)
-      → a ≡ encodedOf s gh gw w cos sin x (length out) (length scratch)
-      → t ≡ outOf s gh gw w cos sin x (length scratch) out
-      → u ≡ scratchOf s gh gw w cos sin x (length out) scratch
+      → a ≡ encodedAs p s gh gw w cos sin x (length out) (length scratch)
+      → t ≡ outAs p s gh gw w cos sin x (length scratch) out
+      → u ≡ scratchAs p s gh gw w cos sin x (length out) scratch
       → h ≡ floatHash t
       → k ≡ floatHash u
-      → answerFrom a h k ≡ answerOf s gh gw w cos sin x scratch out
+      → answerFrom a h k ≡ answerOf p s gh gw w cos sin x scratch out
   unfolding answerOf
   answered t u a h k e f g i j = rw (i, j, f, g, e)
 
 whole : (c : tie.After-hash-floats2) → let d = c .before .before in let f = d .before .before .before .before .before .before in let a = f .before .before .before .before .before .before .before .before .before .args in
-    answerFrom (f .forward .result) (d .hash-floats .result) (c .hash-floats2 .result)
-    ≡ answerOf (a .s) (a .gh) (a .gw) (a .weights .now) (a .cos .now) (a .sin .now) (a .patches .now) (a .scratch .now) (a .out .now)
+    answerFrom (f .forward-as .result) (d .hash-floats .result) (c .hash-floats2 .result)
+    ≡ answerOf (a .plain) (a .s) (a .gh) (a .gw) (a .weights .now) (a .cos .now) (a .sin .now) (a .patches .now) (a .scratch .now) (a .out .now)
 whole c =
     let d = c .before .before in
     let f = d .before .before .before .before .before .before in
     let a = f .before .before .before .before .before .before .before .before .before .args in
-    let e = f .forward .ensures in
-    answered (a .s) (a .gh) (a .gw) (a .weights .now) (a .cos .now) (a .sin .now) (a .patches .now) (a .scratch .now) (a .out .now) _ _ (f .forward .result) (d .hash-floats .result) (c .hash-floats2 .result) (e .0) (e .1 .0) (e .1 .1 .0) (d .hash-floats .ensures) (c .hash-floats2 .ensures)
+    let e = f .forward-as .ensures in
+    answered (a .plain) (a .s) (a .gh) (a .gw) (a .weights .now) (a .cos .now) (a .sin .now) (a .patches .now) (a .scratch .now) (a .out .now) _ _ (f .forward-as .result) (d .hash-floats .result) (c .hash-floats2 .result) (e .0) (e .1 .0) (e .1 .1) (d .hash-floats .ensures) (c .hash-floats2 .ensures)
 
-forward-requires : tie.Need-forward-requires
-forward-requires c κs = search needs
+forward-as-requires : tie.Need-forward-as-requires
+forward-as-requires c κs = search needs
 
 hash-floats-requires : tie.Need-hash-floats-requires
 hash-floats-requires c κs = search needs
@@ -53,8 +52,8 @@ enum-known-found-2 c = search needs
 number-requires : tie.Need-number-requires
 number-requires c κs = search needs
 
-cast-t26 : tie.Need-cast-t26
-cast-t26 c = search needs
+cast-t27 : tie.Need-cast-t27
+cast-t27 c = search needs
 
 same-length : tie.Need-same-length
 same-length c = search needs
@@ -84,13 +83,13 @@ pub encode-spec : {M : Type 1} → statement M
 encode-spec =
     tie.close
     (tie.spec
-    forward-requires
+    forward-as-requires
     hash-floats-requires
     hash-floats-requires-2
     enum-known-found
     enum-known-found-2
     number-requires
-    cast-t26
+    cast-t27
     same-length
     same-length-2
     returns

@@ -15,7 +15,7 @@ use Rattle.encoder_replay.proofs.text.replay.Statement.{statement}
 use Rattle.encoder_replay.proofs.text.replay.Tie as tie
 
 abbrev Inv-loop : tie.InvT-loop
-Inv-loop text counts₀ at₀ counts at = (at ≤ length text) × (tally counts (pieces 10 (drop at text)) ≡ tally (replicate 14 0) (pieces 10 text)) × ((k : ℕ) → getD counts k 0 ≤ at)
+Inv-loop text counts₀ at₀ counts at = (at ≤ length text) × (tally counts (pieces 10 (drop at text)) ≡ tally (replicate 24 0) (pieces 10 text)) × ((k : ℕ) → getD counts k 0 ≤ at)
 
 abbrev μ-loop : tie.MeasureT-loop
 μ-loop text counts₀ at₀ counts at = length text - at
@@ -29,7 +29,7 @@ unfolding tally
 turn s c at r k first judged = rw (first, judged)
 
 loop-holds : tie.Need-loop-holds Inv-loop μ-loop
-loop-holds c = (search needs, search needs, zeros 14)
+loop-holds c = (search needs, search needs, zeros 24)
 
 sub-piece-len : tie.Need-sub-piece-len Inv-loop μ-loop
 sub-piece-len c = search needs
