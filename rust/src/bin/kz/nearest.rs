@@ -22,7 +22,7 @@ pub fn run(given: &Given) -> Result<(), Fail> {
         return Err(Fail::usage("compare --tokens takes two files or more, as kz encode writes them"));
     }
     // The shapes are read before the first float is: the pool is as long as it will have to be.
-    let found: Vec<Tokens> = given.files.iter().map(|file| Tokens::open(file)).collect::<Result<_, _>>()?;
+    let found: Vec<Tokens> = given.files.iter().map(Tokens::open).collect::<Result<_, _>>()?;
     let lens: Vec<usize> = found.iter().map(|tokens| tokens.len()).collect();
     let most = lens.windows(KEPT.min(lens.len())).map(|some| some.iter().sum()).max().unwrap_or(0);
     let advised = |file: &Path, words| Fail::file(file, words);
