@@ -9,7 +9,7 @@ ghost use Rattle.buffers.specs.Rows.{tab};
 ghost use Rattle.encoder_elements.specs.Element.{gated};
 ghost use Rattle.encoder_elements.specs.inner.Fits.{PairFits};
 use crate::element::silu;
-use number_exp_tanh::lanes::exp_sixteen;
+use number_exp_lanes::lanes::exp_sixteen;
 
 fn sixteen_negated(s: &[f32], y: usize) -> [f32; 16]
     requires { ⌜ y + 16 ≤ length (now s) ⌝ }

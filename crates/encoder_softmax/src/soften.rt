@@ -6,8 +6,8 @@ ghost use lib.Ieee.{nan, binary32, sub};
 ghost use Rattle.buffers.specs.Region.{region, put};
 ghost use Rattle.buffers.specs.Rows.{tab};
 ghost use Rattle.encoder_softmax.specs.Softmax.{expLess};
+use number_exp_lanes::lanes::exp_sixteen;
 use number_exp_tanh::exp::exp_f32;
-use number_exp_tanh::lanes::exp_sixteen;
 
 // Sixteen values from y on, each less m.
 fn sixteen_less(s: &[f32], y: usize, m: f32) -> [f32; 16]

@@ -1,11 +1,8 @@
 -- Any two results that satisfy the contract of a public function are equal. Assumes nothing.
 use mathlib.Core.Path.{_≡_}
-use mathlib.Core.List.{List}
 use Prim.Native.Nat.{ℕ}
-use lib.ListN.{getD}
-use lib.Ieee.{Float, nan}
+use lib.Ieee.{Float}
 use Rattle.number_exp_tanh.specs.Exp.{E, expBits}
-use Rattle.buffers.specs.Rows.{tab}
 use Rattle.number_exp_tanh.specs.Tanh as Tanh
 use Rattle.number_exp_tanh.specs.Tanh.{tanhBits}
 use Rattle.number_floats.proofs.Unique.{one}
@@ -15,9 +12,6 @@ exp-f32-unique x r r′ = one _
 
 pub exp-unique : (x : ℕ) (r r′ : ℕ) → r ≡ expBits x → r′ ≡ expBits x → r ≡ r′
 exp-unique x r r′ = one _
-
-pub exp-sixteen-unique : (x : List Float) (r r′ : List Float) → r ≡ tab 16 (λ l. E (getD x l nan)) → r′ ≡ tab 16 (λ l. E (getD x l nan)) → r ≡ r′
-exp-sixteen-unique x r r′ = one _
 
 pub tanh-f32-unique : (y : Float) (r r′ : Float) → r ≡ Tanh.T y → r′ ≡ Tanh.T y → r ≡ r′
 tanh-f32-unique y r r′ = one _

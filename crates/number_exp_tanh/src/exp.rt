@@ -5,7 +5,7 @@ ghost use Rattle.number_exp_tanh.specs.Exp.{series, twoTo, kOf, rWith, F
 ghost use Rattle.number_floats.specs.Constants.{one64};
 
 // 2^k for a whole number k.
-pub(crate) fn two_to(k: f64) -> f64
+fn two_to(k: f64) -> f64
     requires { ⌜ AtMost 1000 k ⌝ }
     ensures { λ r. ⌜ r ≡ twoTo k ⌝ }
 {
@@ -29,7 +29,7 @@ fn series_of(r: f64) -> f64
 }
 
 // k of the rule, for x in f64.
-pub(crate) fn k_of(x: f64) -> f64
+pub fn k_of(x: f64) -> f64
     ensures { λ k. ⌜ k ≡ kOf x ⌝ }
 {
     let l = f64::from_bits(0x3FE6_2E42_FEFA_39EF);
@@ -37,7 +37,7 @@ pub(crate) fn k_of(x: f64) -> f64
 }
 
 // r of the rule, where k is x's.
-pub(crate) fn r_of(x: f64, k: f64) -> f64
+pub fn r_of(x: f64, k: f64) -> f64
     ensures { λ r. ⌜ r ≡ rWith x k ⌝ }
 {
     x - k * f64::from_bits(0x3FE6_2E42_FEFA_39EF)

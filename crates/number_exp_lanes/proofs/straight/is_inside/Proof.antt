@@ -1,0 +1,10 @@
+-- `straight::is_inside` meets its contract. Assumes nothing.
+use mathlib.Core.Path.{refl}
+use Rattle.number_exp_lanes.proofs.straight.is_inside.Statement.{statement}
+use Rattle.number_exp_lanes.proofs.straight.is_inside.Tie as tie
+
+returns : tie.Need-returns
+returns c = refl
+
+pub is-inside-spec : {M : Type 1} → statement M
+is-inside-spec = tie.close (tie.spec returns)
