@@ -8,7 +8,7 @@ use Rattle.picture.specs.Preprocess.{preprocessed, patchesOut}
 use Rattle.picture_restore.specs.Restore.{restored, bytesOut}
 use Rattle.picture_tiles.specs.Answer as Tile
 use Rattle.picture_salvage.specs.Salvage.{salvaged, savedOut, listOut}
-use Rattle.pool.specs.declared.Pool.{Pool}
+use Rattle.pool_books.specs.declared.Pool.{Pool}
 use Rattle.pool.specs.Pool as Pl
 use Rattle.kyzgultam.specs.declared.pools.PoolReport.{PoolReport}
 use Rattle.kyzgultam.specs.declared.pools.PoolPlace.{PoolPlace}

@@ -29,8 +29,9 @@ use Rattle.picture_tiles.specs.declared.Tiled.{Tiled}
 use Rattle.picture_salvage.specs.declared.Salvaged.{Salvaged}
 use Rattle.picture_salvage.specs.Salvage as Sal
 use Rattle.pool.specs.declared.Pooled.{Pooled}
-use Rattle.pool.specs.declared.Found.{Found}
+use Rattle.pool_books.specs.declared.Found.{Found}
 use Rattle.pool.specs.Pool as Pl
+use Rattle.pool_books.specs.Lookup.{foundNumber, foundStart, foundLen}
 use Rattle.picture_limits.specs.Refusal as R
 use Rattle.kyzgultam.specs.declared.salvage.SalvageReport.{SalvageReport}
 use Rattle.kyzgultam.specs.declared.pools.PoolReport.{PoolReport}
@@ -89,7 +90,7 @@ abbrev pub poolReport : Pooled → PoolReport
 poolReport a = record { number = Pl.number (a .outcome); pool = a .pool }
 
 abbrev pub poolPlace : Found → PoolPlace
-poolPlace a = record { number = Pl.foundNumber a; start = Pl.foundStart a; len = Pl.foundLen a }
+poolPlace a = record { number = foundNumber a; start = foundStart a; len = foundLen a }
 
 abbrev pub forwardReport : Encoded → ForwardReport
 forwardReport a = record { number = Fwd.number a; tokens = Fwd.tokens a }

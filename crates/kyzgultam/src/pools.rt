@@ -1,7 +1,7 @@
 // A pool of token vectors in one lent slice. Its bookkeeping goes in and comes back as it is, so it has no struct of its own here.
-use pool::Found;
 use pool::Outcome;
-use pool::Pool;
+use pool_books::Found;
+use pool_books::Pool;
 ghost use mathlib.Core.Path.{_≡_};
 ghost use lib.ListN.{length};
 ghost use Rattle.pool.specs.Pool as P;

@@ -12,12 +12,12 @@ use lib.Ieee.{Float}
 use Rattle.buffers.specs.Region.{put}
 use Rattle.buffers.proofs.Regions.{put-append, put-put}
 use Rattle.picture_limits.specs.declared.Refusal as F
-use Rattle.pool.specs.declared.Held.{Held}
-use Rattle.pool.specs.declared.Pool.{Pool}
+use Rattle.pool_books.specs.declared.Held.{Held}
+use Rattle.pool_books.specs.declared.Pool.{Pool}
 use Rattle.pool.specs.declared.Pooled.{Pooled}
-use Rattle.pool.specs.Book.{held, entries, with, floats, endOf, wellMade, laid, joined, has, keyOf}
+use Rattle.pool_books.specs.Book.{held, entries, with, floats, endOf, wellMade, laid, joined, has, keyOf}
 use Rattle.pool.specs.Pool.{refused, done, roomBehind, ready, behind, addAnswer, addSlice}
-use Rattle.pool.proofs.Orders.{end-laid, with-entries, length-laid}
+use Rattle.pool_books.proofs.Orders.{end-laid, with-entries, length-laid}
 
 module _ (p : Pool) (s : List Float) (k : ℕ) (vs : List Float) where
   pub add-refused : (r : F.Refusal) (x : Pooled) → x ≡ refused p r → addAnswer p s k vs ≡ refused p r → (x ≡ addAnswer p s k vs) × (s ≡ addSlice p s k vs)

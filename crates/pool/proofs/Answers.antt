@@ -5,13 +5,14 @@ use Prim.Native.Nat.{ℕ, _≤_, _<_}
 use native.Mathlib.Omega.{arith}
 use lib.ListN.{length}
 use Rattle.picture_limits.specs.declared.Refusal as F
-use Rattle.pool.specs.declared.Pool.{Pool}
-use Rattle.pool.specs.declared.Found.{Found}
-use Rattle.pool.specs.declared.Books.{Books}
-use Rattle.pool.specs.Book.{entries, with, floats, endOf, wellMade, has, keyOf}
-use Rattle.pool.specs.Pool.{refused, done, lookup, findAnswer, dropAnswer, foundStart, foundLen}
-use Rattle.pool.specs.inner.Place.{placeIn, leftOut, booksOf}
-use Rattle.pool.proofs.Orders.{length-entries}
+use Rattle.pool_books.specs.declared.Pool.{Pool}
+use Rattle.pool_books.specs.declared.Found.{Found}
+use Rattle.pool_books.specs.declared.Books.{Books}
+use Rattle.pool_books.specs.Book.{entries, with, floats, endOf, wellMade, has, keyOf}
+use Rattle.pool.specs.Pool.{refused, done, findAnswer, dropAnswer}
+use Rattle.pool_books.specs.Lookup.{lookup, foundStart, foundLen}
+use Rattle.pool_books.specs.inner.Place.{placeIn, leftOut, booksOf}
+use Rattle.pool_books.proofs.Orders.{length-entries}
 use Rattle.pool.proofs.Lookups.{place-held, place-none, held-at, none-lookup, place-without}
 
 pub record Told (p : Pool) (n k sum end place start len : ℕ) : Type 0 where

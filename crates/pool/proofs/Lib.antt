@@ -1,7 +1,4 @@
-pub mod Orders
-pub mod Parts
 pub mod Lookups
-pub mod Scans
 pub mod Answers
 pub mod Adds
 pub mod Results

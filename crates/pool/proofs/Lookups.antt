@@ -7,12 +7,12 @@ use native.Mathlib.Omega.{arith}
 use lib.Dec.{eqb}
 use lib.ListN.{length}
 use Rattle.picture_limits.specs.declared.Refusal as F
-use Rattle.pool.specs.declared.Held.{Held}
-use Rattle.pool.specs.declared.Found.{Found}
-use Rattle.pool.specs.Book.{floats, inOrder, has, without, keyOf}
-use Rattle.pool.specs.Pool.{lookup, foundStart, foundLen}
-use Rattle.pool.specs.inner.Place.{placeIn, leftOut}
-use Rattle.pool.proofs.Orders.{order-low, order-rest, order-cons, order-down, order-at}
+use Rattle.pool_books.specs.declared.Held.{Held}
+use Rattle.pool_books.specs.declared.Found.{Found}
+use Rattle.pool_books.specs.Book.{floats, inOrder, has, without, keyOf}
+use Rattle.pool_books.specs.Lookup.{lookup, foundStart, foundLen}
+use Rattle.pool_books.specs.inner.Place.{placeIn, leftOut}
+use Rattle.pool_books.proofs.Orders.{order-low, order-rest, order-cons, order-down, order-at}
 
 -- ---- where a key stands, as the loop finds it
 

@@ -12,12 +12,12 @@ use lib.Ieee.{Float}
 use Rattle.buffers.specs.Region.{region, put}
 use Rattle.buffers.specs.inner.Apart.{before}
 use Rattle.buffers.proofs.Regions.{region-put, region-region, length-region}
-use Rattle.pool.specs.declared.Held.{Held}
-use Rattle.pool.specs.declared.Found.{Found}
-use Rattle.pool.specs.Book.{floats, endOf, inOrder, laid, joined, has, without, keyOf}
-use Rattle.pool.specs.Pool.{lookup, foundStart, foundLen}
+use Rattle.pool_books.specs.declared.Held.{Held}
+use Rattle.pool_books.specs.declared.Found.{Found}
+use Rattle.pool_books.specs.Book.{floats, endOf, inOrder, laid, joined, has, without, keyOf}
+use Rattle.pool_books.specs.Lookup.{lookup, foundStart, foundLen}
 use Rattle.pool.specs.Map.{Result, result, keyIn, results, size, vectorsIn}
-use Rattle.pool.proofs.Orders.{order-rest, order-at, order-floats}
+use Rattle.pool_books.proofs.Orders.{order-rest, order-at, order-floats}
 
 pub length-results : (s : List Float) (es : List Held) → length (results s es) ≡ length es
 unfolding results

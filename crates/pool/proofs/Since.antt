@@ -13,17 +13,18 @@ use Rattle.buffers.specs.Region.{region}
 use Rattle.buffers.proofs.Lists.{and-left, and-right}
 use Rattle.buffers.proofs.Regions.{length-region}
 use Rattle.picture_limits.specs.declared.Refusal as F
-use Rattle.pool.specs.declared.Held.{Held}
-use Rattle.pool.specs.declared.Pool.{Pool}
+use Rattle.pool_books.specs.declared.Held.{Held}
+use Rattle.pool_books.specs.declared.Pool.{Pool}
 use Rattle.pool.specs.declared.Outcome.{Outcome}
 use Rattle.pool.specs.declared.Pooled.{Pooled}
-use Rattle.pool.specs.declared.Found.{Found}
-use Rattle.pool.specs.Book.{held, entries, with, floats, inOrder, wellMade, laid, has, without, keyOf}
-use Rattle.pool.specs.Pool.{newPool, refused, done, roomBehind, ready, behind, addAnswer, addSlice, lookup, findAnswer, dropAnswer, number, foundStart, foundLen}
+use Rattle.pool_books.specs.declared.Found.{Found}
+use Rattle.pool_books.specs.Book.{held, entries, with, floats, inOrder, wellMade, laid, has, without, keyOf}
+use Rattle.pool.specs.Pool.{newPool, refused, done, roomBehind, ready, behind, addAnswer, addSlice, findAnswer, dropAnswer, number}
+use Rattle.pool_books.specs.Lookup.{lookup, foundStart, foundLen}
 use Rattle.pool.specs.Map.{Adds, addNumber, Result, result, keyIn, mapOf, vectorsIn, Whole}
 use Rattle.pool.specs.Calls as C
 use Rattle.pool.specs.Calls.{Since, ifDone, differ, Sound, Balance, Full, Gone, AddMoves, DropMoves, Lent, Kept, Keeps}
-use Rattle.pool.proofs.Orders.{made-says, made-is, length-entries, with-entries, floats-append}
+use Rattle.pool_books.proofs.Orders.{made-says, made-is, length-entries, with-entries, floats-append}
 use Rattle.pool.proofs.Lookups.{held-at, none-lookup, floats-without, order-without}
 use Rattle.pool.proofs.Adds.{add-unmade, add-held, add-none, add-full, add-done}
 use Rattle.pool.proofs.Answers.{drop-unmade}

@@ -14,13 +14,14 @@ use Rattle.buffers.proofs.Regions.{length-put, region-put-same}
 use Rattle.picture_limits.specs.declared.Refusal as F
 use Rattle.picture_limits.specs.Refusal as R
 use Rattle.picture_limits.specs.Refusal.{unless}
-use Rattle.pool.specs.declared.Held.{Held}
-use Rattle.pool.specs.declared.Pool.{Pool}
-use Rattle.pool.specs.declared.Found.{Found}
-use Rattle.pool.specs.Book.{held, entries, with, floats, endOf, inOrder, wellMade, joined, has, without, keyOf}
-use Rattle.pool.specs.Pool.{refused, done, roomBehind, ready, readySlice, behind, addAnswer, lookup, findAnswer, dropAnswer, foundNumber}
+use Rattle.pool_books.specs.declared.Held.{Held}
+use Rattle.pool_books.specs.declared.Pool.{Pool}
+use Rattle.pool_books.specs.declared.Found.{Found}
+use Rattle.pool_books.specs.Book.{held, entries, with, floats, endOf, inOrder, wellMade, joined, has, without, keyOf}
+use Rattle.pool.specs.Pool.{refused, done, roomBehind, ready, readySlice, behind, addAnswer, findAnswer, dropAnswer}
+use Rattle.pool_books.specs.Lookup.{lookup, foundNumber}
 use Rattle.pool.specs.Map.{Result, result, keyIn, results, mapOf, addNumber, Whole, Adds, AddSteps, Drops, DropSteps, FindSteps}
-use Rattle.pool.proofs.Orders.{made-says, made-is, length-entries, with-entries, order-more, order-laid, end-laid, length-laid, floats-laid}
+use Rattle.pool_books.proofs.Orders.{made-says, made-is, length-entries, with-entries, order-more, order-laid, end-laid, length-laid, floats-laid}
 use Rattle.pool.proofs.Lookups.{lookup-inside, without-none, length-without, order-without}
 use Rattle.pool.proofs.Adds.{add-held, add-none, add-full, add-done}
 use Rattle.pool.proofs.Results.{length-results, has-results, without-results, results-append, size-results, vectors-found, results-put, length-joined, results-laid, has-laid}

@@ -5,9 +5,9 @@ use Prim.Native.Nat.{ℕ}
 use lib.ListN.{length}
 use lib.Ieee.{Float}
 use Rattle.number_floats.proofs.Unique.{one}
-use Rattle.pool.specs.declared.Pool.{Pool}
+use Rattle.pool_books.specs.declared.Pool.{Pool}
 use Rattle.pool.specs.declared.Pooled.{Pooled}
-use Rattle.pool.specs.declared.Found.{Found}
+use Rattle.pool_books.specs.declared.Found.{Found}
 use Rattle.pool.specs.Pool.{newPool, addAnswer, addSlice, findAnswer, dropAnswer}
 
 pub new-unique : (n : ℕ) (a b : Pool) → a ≡ newPool n → b ≡ newPool n → a ≡ b

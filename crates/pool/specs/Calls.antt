@@ -8,12 +8,13 @@ use lib.ListN.{length}
 use lib.Ieee.{Float}
 use Rattle.buffers.specs.Region.{region}
 use Rattle.picture_limits.specs.declared.Refusal as F
-use Rattle.pool.specs.declared.Held.{Held}
-use Rattle.pool.specs.declared.Pool.{Pool}
+use Rattle.pool_books.specs.declared.Held.{Held}
+use Rattle.pool_books.specs.declared.Pool.{Pool}
 use Rattle.pool.specs.declared.Outcome.{Outcome}
-use Rattle.pool.specs.declared.Found.{Found}
-use Rattle.pool.specs.Book.{entries, floats, wellMade, has, keyOf}
-use Rattle.pool.specs.Pool.{newPool, addAnswer, addSlice, findAnswer, dropAnswer, foundLen}
+use Rattle.pool_books.specs.declared.Found.{Found}
+use Rattle.pool_books.specs.Book.{entries, floats, wellMade, has, keyOf}
+use Rattle.pool.specs.Pool.{newPool, addAnswer, addSlice, findAnswer, dropAnswer}
+use Rattle.pool_books.specs.Lookup.{foundLen}
 use Rattle.pool.specs.Map.{Whole}
 
 -- ---- a pool since it was made for a slice of n floats, whatever slices the calls were lent; find leaves it as it was

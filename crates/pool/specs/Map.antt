@@ -9,10 +9,11 @@ use lib.ListN.{length}
 use lib.Ieee.{Float}
 use Rattle.buffers.specs.Region.{region}
 use Rattle.picture_limits.specs.Refusal.{unless}
-use Rattle.pool.specs.declared.Held.{Held}
-use Rattle.pool.specs.declared.Pool.{Pool}
-use Rattle.pool.specs.Book.{entries, wellMade, has, without}
-use Rattle.pool.specs.Pool.{addAnswer, addSlice, findAnswer, dropAnswer, number, foundNumber, foundStart, foundLen}
+use Rattle.pool_books.specs.declared.Held.{Held}
+use Rattle.pool_books.specs.declared.Pool.{Pool}
+use Rattle.pool_books.specs.Book.{entries, wellMade, has, without}
+use Rattle.pool.specs.Pool.{addAnswer, addSlice, findAnswer, dropAnswer, number}
+use Rattle.pool_books.specs.Lookup.{foundNumber, foundStart, foundLen}
 
 -- the number of a sweep, and its token vectors
 pub record Result : Type 0 where

@@ -9,12 +9,13 @@ use Rattle.buffers.specs.Region.{put}
 use Rattle.picture_limits.specs.declared.Refusal as F
 use Rattle.picture_limits.specs.Refusal as R
 use Rattle.picture_limits.specs.Refusal.{unless}
-use Rattle.pool.specs.declared.Held.{Held}
-use Rattle.pool.specs.declared.Pool.{Pool}
+use Rattle.pool_books.specs.declared.Held.{Held}
+use Rattle.pool_books.specs.declared.Pool.{Pool}
 use Rattle.pool.specs.declared.Outcome.{Outcome}
 use Rattle.pool.specs.declared.Pooled.{Pooled}
-use Rattle.pool.specs.declared.Found.{Found}
-use Rattle.pool.specs.Book.{held, entries, with, floats, endOf, wellMade, laid, joined, has, without, keyOf}
+use Rattle.pool_books.specs.declared.Found.{Found}
+use Rattle.pool_books.specs.Lookup.{lookup}
+use Rattle.pool_books.specs.Book.{held, entries, with, floats, endOf, wellMade, laid, joined, has, without, keyOf}
 
 -- ---- new: for a slice of n floats, nothing held
 
@@ -64,10 +65,6 @@ addSlice p s k vs = leftOf (addAnswer p s k vs .outcome) (put (readySlice p s (l
 
 -- ---- find: where the vectors of the key stand
 
-unfoldable pub lookup : ℕ → List Held → Found
-lookup k [] = Found.Refused F.Refusal.KeyUnknown
-lookup k (h ∷ hs) = cond (eqb (h .key) k) (Found.At (h .start) (h .len)) (lookup k hs)
-
 unfoldable pub findAnswer : Pool → ℕ → ℕ → Found
 findAnswer p n k = unless (wellMade p n) (Found.Refused F.Refusal.PoolSlice) (lookup k (entries p))
 
@@ -79,20 +76,8 @@ dropAnswer p n k =
     (unless (has keyOf k (entries p)) (refused p F.Refusal.KeyUnknown)
     (done (with p (without keyOf k (entries p)))))
 
--- ---- the paper's number of an answer, and the place that find reports: 0 and 0 of a refusal
+-- ---- the paper's number of an answer
 
 abbrev pub number : Outcome → ℕ
 number Outcome.Done = 0
 number (Outcome.Refused r) = R.number r
-
-abbrev pub foundNumber : Found → ℕ
-foundNumber (Found.At at n) = 0
-foundNumber (Found.Refused r) = R.number r
-
-abbrev pub foundStart : Found → ℕ
-foundStart (Found.At at n) = at
-foundStart (Found.Refused r) = 0
-
-abbrev pub foundLen : Found → ℕ
-foundLen (Found.At at n) = n
-foundLen (Found.Refused r) = 0

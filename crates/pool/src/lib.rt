@@ -3,32 +3,20 @@ mod keys;
 mod slice;
 
 use crate::keys::leave_out;
-use crate::keys::scan;
 use crate::slice::slide;
 use crate::slice::store;
 use picture_limits::Refusal;
+use pool_books::Books;
+use pool_books::Found;
+use pool_books::Held;
+use pool_books::Pool;
+use pool_books::scan;
 ghost use mathlib.Core.Path.{_≡_};
 ghost use mathlib.Core.Bool.{true, false};
 ghost use lib.ListN.{length};
-ghost use Rattle.pool.specs.Book as B;
-ghost use Rattle.pool.specs.Book.{entries, wellMade, endOf, has, keyOf};
+ghost use Rattle.pool_books.specs.Book as B;
+ghost use Rattle.pool_books.specs.Book.{entries, wellMade, endOf, has, keyOf};
 ghost use Rattle.pool.specs.Pool.{newPool, refused, addAnswer, addSlice, findAnswer, dropAnswer};
-
-// A key, and the place of its vectors in the slice.
-#[repr(C)]
-pub struct Held {
-    pub key: u64,
-    pub start: usize,
-    pub len: usize,
-}
-
-// How long the slice is that the pool was made for, and what is held in it: the first `count`, in the order of adding.
-#[repr(C)]
-pub struct Pool {
-    pub len: usize,
-    pub count: usize,
-    pub held: [Held; 64],
-}
 
 pub enum Outcome {
     Done,
@@ -39,25 +27,6 @@ pub enum Outcome {
 pub struct Pooled {
     pub outcome: Outcome,
     pub pool: Pool,
-}
-
-// Where the vectors of a key stand in the slice.
-pub enum Found {
-    At { start: usize, len: usize },
-    Refused(Refusal),
-}
-
-// What a look at the bookkeeping finds: of a pool for this slice, the floats that it holds, where the last result ends, and
-// which of the results has the key, as many as there are where none has it, with its place in the slice.
-pub enum Books {
-    Made {
-        floats: usize,
-        end: usize,
-        place: usize,
-        start: usize,
-        len: usize,
-    },
-    Unmade,
 }
 
 // An empty pool for a slice of `len` floats.

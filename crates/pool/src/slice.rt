@@ -1,15 +1,15 @@
 // The floats: moved down, and written.
-use crate::Held;
-use crate::Pool;
 use buffers::copy;
+use pool_books::Held;
+use pool_books::Pool;
 ghost use mathlib.Core.Path.{_≡_};
 ghost use mathlib.Core.Bool.{true};
 ghost use mathlib.Core.List.{[], _∷_, _++_};
 ghost use Prim.Native.Nat.{_+_, _≤_, _<_};
 ghost use lib.ListN.{length};
 ghost use Rattle.buffers.specs.Region.{region, put};
-ghost use Rattle.pool.specs.Book as B;
-ghost use Rattle.pool.specs.Book.{entries, with, wellMade, laid, joined};
+ghost use Rattle.pool_books.specs.Book as B;
+ghost use Rattle.pool_books.specs.Book.{entries, with, wellMade, laid, joined};
 
 // The n floats at `from` to the lower place `to`, the lowest first: the two may overlap.
 fn move_down(s: &mut [f32], from: usize, to: usize, n: usize)

@@ -4,7 +4,7 @@ use mathlib.Core.Bool.{Bool, cond, _&&_}
 use mathlib.Core.List.{List, [], _∷_}
 use lib.Dec.{eqb, leb}
 use lib.Ieee.{Float}
-use Rattle.pool.specs.declared.Pool.{Pool}
+use Rattle.pool_books.specs.declared.Pool.{Pool}
 use Rattle.replay.specs.Line.{readOf}
 use Rattle.replay.specs.Hash.{floatHash}
 use Rattle.replay.specs.Counts.{bump}

@@ -5,11 +5,12 @@ use mathlib.Core.List.{List, _++_}
 use lib.Dec.{eqb, ltb}
 use lib.ListN.{length, getD, take, drop, set}
 use lib.Ieee.{Float}
-use Rattle.pool.specs.declared.Pool.{Pool}
+use Rattle.pool_books.specs.declared.Pool.{Pool}
 use Rattle.pool.specs.declared.Pooled.{Pooled}
-use Rattle.pool.specs.declared.Found.{Found}
-use Rattle.pool.specs.Book.{held}
-use Rattle.pool.specs.Pool.{newPool, addAnswer, addSlice, findAnswer, dropAnswer, number, foundNumber, foundStart, foundLen}
+use Rattle.pool_books.specs.declared.Found.{Found}
+use Rattle.pool_books.specs.Book.{held}
+use Rattle.pool.specs.Pool.{newPool, addAnswer, addSlice, findAnswer, dropAnswer, number}
+use Rattle.pool_books.specs.Lookup.{foundNumber, foundStart, foundLen}
 use Rattle.replay.specs.Marks.{seeded, floats}
 use Rattle.pool_replay.specs.declared.run.Ran.{Ran}
 

@@ -4,7 +4,7 @@ ghost use Prim.Native.Nat.{_<_};
 ghost use Rattle.pool_replay.specs.Record.{sameAs, placeOf, differs, toldOf, judgedIn, sliceIn};
 use crate::run::Ran;
 use libc::STDOUT_FILENO;
-use pool::Pool;
+use pool_books::Pool;
 use replay::hash::hash_floats;
 use replay::line::read_line;
 

@@ -5,10 +5,10 @@ ghost use Prim.Native.Nat.{_≤_};
 ghost use lib.ListN.{length, drop};
 ghost use Rattle.pool.specs.Pool as P;
 ghost use Rattle.pool_replay.specs.Run.{at, lentOf, partOf, vectorsOf, pooled, placed, plain, entered, ranOf, sliceOf};
-use pool::Found;
-use pool::Held;
 use pool::Outcome;
-use pool::Pool;
+use pool_books::Found;
+use pool_books::Held;
+use pool_books::Pool;
 use replay::marks::fill_floats;
 
 // The pool after a call, and what it answered.

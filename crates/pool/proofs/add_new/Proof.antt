@@ -4,10 +4,10 @@ use Prim.Native.Nat.{_+_, _≤_, _<_}
 use native.Mathlib.Omega.{arith}
 use lib.ListN.{length}
 use Rattle.picture_limits.specs.declared.Refusal as F
-use Rattle.pool.specs.declared.Pool.{Pool}
-use Rattle.pool.specs.Book.{entries}
-use Rattle.pool.proofs.Parts.{mapped-long}
-use Rattle.pool.proofs.Orders.{Made, made-says, order-end, order-floats, length-entries, length-laid}
+use Rattle.pool_books.specs.declared.Pool.{Pool}
+use Rattle.pool_books.specs.Book.{entries}
+use Rattle.pool_books.proofs.Parts.{mapped-long}
+use Rattle.pool_books.proofs.Orders.{Made, made-says, order-end, order-floats, length-entries, length-laid}
 use Rattle.pool.proofs.Adds.{add-refused, add-none, add-full, add-done, full-says, room-says, room-is, done-behind, done-slid}
 use borrow.Author.Needs.{needs}
 use Rattle.pool.proofs.add_new.Statement.{statement}

@@ -4,9 +4,9 @@ use mathlib.Core.Bool.{true}
 use Prim.Native.Nat.{_≤_}
 use native.Mathlib.Omega.{arith}
 use lib.ListN.{length}
-use Rattle.pool.specs.Book.{wellMade}
-use Rattle.pool.proofs.Parts.{mapped-long}
-use Rattle.pool.proofs.Orders.{made-says}
+use Rattle.pool_books.specs.Book.{wellMade}
+use Rattle.pool_books.proofs.Parts.{mapped-long}
+use Rattle.pool_books.proofs.Orders.{made-says}
 use Rattle.pool.specs.Pool.{done}
 use Rattle.pool.proofs.Answers.{told, untold, drop-unmade, drop-held, drop-unknown}
 use borrow.Author.Needs.{needs}

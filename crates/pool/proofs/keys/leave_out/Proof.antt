@@ -10,12 +10,12 @@ use lib.ListN.{length, take, drop, getD, set, length-set, length-append, length-
 use lib.Seq.{take-take, length-take-le, getD-set-other}
 use Rattle.buffers.specs.Region.{put}
 use Rattle.buffers.proofs.Regions.{put-append, put-nil}
-use Rattle.pool.specs.declared.Held.{Held}
-use Rattle.pool.specs.declared.Pool.{Pool}
-use Rattle.pool.specs.Book.{entries, with}
-use Rattle.pool.specs.inner.Place.{leftOut}
-use Rattle.pool.proofs.Parts.{mapped-long}
-use Rattle.pool.proofs.Orders.{length-entries, entry-at, entries-end, put-take}
+use Rattle.pool_books.specs.declared.Held.{Held}
+use Rattle.pool_books.specs.declared.Pool.{Pool}
+use Rattle.pool_books.specs.Book.{entries, with}
+use Rattle.pool_books.specs.inner.Place.{leftOut}
+use Rattle.pool_books.proofs.Parts.{mapped-long}
+use Rattle.pool_books.proofs.Orders.{length-entries, entry-at, entries-end, put-take}
 use Rattle.pool.proofs.keys.leave_out.Statement.{statement}
 use Rattle.pool.proofs.keys.leave_out.Tie as tie
 

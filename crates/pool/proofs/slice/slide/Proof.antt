@@ -12,11 +12,11 @@ use lib.Ieee.{Float}
 use Rattle.buffers.specs.Region.{region, put}
 use Rattle.buffers.specs.inner.Apart.{after}
 use Rattle.buffers.proofs.Regions.{put-append, put-nil, length-put, length-region, region-put}
-use Rattle.pool.specs.declared.Held.{Held}
-use Rattle.pool.specs.declared.Pool.{Pool}
-use Rattle.pool.specs.Book.{held, entries, with, inOrder, wellMade, laid, joined}
-use Rattle.pool.proofs.Parts.{mapped-long}
-use Rattle.pool.proofs.Orders.{made-says, length-entries, entry-at, entries-end, order-low, order-rest, order-at, order-down, length-laid}
+use Rattle.pool_books.specs.declared.Held.{Held}
+use Rattle.pool_books.specs.declared.Pool.{Pool}
+use Rattle.pool_books.specs.Book.{held, entries, with, inOrder, wellMade, laid, joined}
+use Rattle.pool_books.proofs.Parts.{mapped-long}
+use Rattle.pool_books.proofs.Orders.{made-says, length-entries, entry-at, entries-end, order-low, order-rest, order-at, order-down, length-laid}
 use Rattle.pool.proofs.slice.slide.Statement.{statement}
 use Rattle.pool.proofs.slice.slide.Tie as tie
 

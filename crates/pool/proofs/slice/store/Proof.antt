@@ -5,7 +5,7 @@ use native.Mathlib.Nat.{add-sub-cancel-left}
 use native.Mathlib.Omega.{arith}
 use borrow.Author.Needs.{needs}
 use lib.ListN.{length}
-use Rattle.pool.proofs.Parts.{mapped-long, part-copied, stored}
+use Rattle.pool_books.proofs.Parts.{mapped-long, part-copied, stored}
 use Rattle.pool.proofs.slice.store.Statement.{statement}
 use Rattle.pool.proofs.slice.store.Tie as tie
 

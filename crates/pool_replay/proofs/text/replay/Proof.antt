@@ -8,7 +8,7 @@ use mathlib.Core.List.{List}
 use lib.Ieee.{Float}
 use lib.ListN.{length, getD, take, drop, replicate, drop-of-length-le}
 use Rattle.number_floats.specs.Constants.{zero32}
-use Rattle.pool.specs.declared.Pool.{Pool}
+use Rattle.pool_books.specs.declared.Pool.{Pool}
 use Rattle.pool.specs.Pool.{newPool}
 use Rattle.replay.specs.Pieces.{pieces}
 use Rattle.replay.proofs.Counted.{zeros, bumped}

@@ -12,9 +12,9 @@ use lib.Seq.{length-take-le, drop-cons, getD-take, drop-length}
 use Rattle.buffers.specs.Region.{put}
 use Rattle.buffers.proofs.Regions.{put-over, region-put-same}
 use Rattle.buffers.proofs.Lists.{and-left, and-right}
-use Rattle.pool.specs.declared.Held.{Held}
-use Rattle.pool.specs.declared.Pool.{Pool}
-use Rattle.pool.specs.Book.{held, entries, with, floats, endOf, inOrder, wellMade, laid}
+use Rattle.pool_books.specs.declared.Held.{Held}
+use Rattle.pool_books.specs.declared.Pool.{Pool}
+use Rattle.pool_books.specs.Book.{held, entries, with, floats, endOf, inOrder, wellMade, laid}
 
 -- ---- a pool for a slice of n
 

@@ -1,19 +1,19 @@
--- `pool::keys::scan` meets its contract. Assumes nothing.
+-- `pool_books::scan` meets its contract. Assumes nothing.
 use mathlib.Core.Path.{_≡_, _∙_}
 use Prim.Native.Nat.{ℕ, _-_, _≤_}
 use native.Mathlib.Omega.{arith}
 use borrow.Author.Needs.{needs}
 use lib.ListN.{length, getD}
 use Rattle.picture_limits.specs.declared.Refusal as F
-use Rattle.pool.specs.declared.Found.{Found}
-use Rattle.pool.specs.declared.Books.{Books}
-use Rattle.pool.specs.Book.{held, entries}
-use Rattle.pool.specs.Pool.{lookup, foundStart, foundLen}
-use Rattle.pool.specs.inner.Place.{placeIn, booksOf}
-use Rattle.pool.proofs.Parts.{mapped-long}
-use Rattle.pool.proofs.Scans.{Judged, judged-none, judged-more, unordered, unending, unfitting, fitting, ends-so, sums-so, Sought, sought-none, sought-here, sought-more, sought-all, unmade, unmade-early, early, made-books}
-use Rattle.pool.proofs.keys.scan.Statement.{statement}
-use Rattle.pool.proofs.keys.scan.Tie as tie
+use Rattle.pool_books.specs.declared.Found.{Found}
+use Rattle.pool_books.specs.declared.Books.{Books}
+use Rattle.pool_books.specs.Book.{held, entries}
+use Rattle.pool_books.specs.Lookup.{lookup, foundStart, foundLen}
+use Rattle.pool_books.specs.inner.Place.{placeIn, booksOf}
+use Rattle.pool_books.proofs.Parts.{mapped-long}
+use Rattle.pool_books.proofs.Scans.{Judged, judged-none, judged-more, unordered, unending, unfitting, fitting, ends-so, sums-so, Sought, sought-none, sought-here, sought-more, sought-all, unmade, unmade-early, early, made-books}
+use Rattle.pool_books.proofs.scan.Statement.{statement}
+use Rattle.pool_books.proofs.scan.Tie as tie
 
 abbrev Inv-loop : tie.InvT-loop
 Inv-loop n key p count floats₀ end₀ i₀ floats end i = Judged p n floats end i

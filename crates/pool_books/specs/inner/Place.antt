@@ -4,11 +4,11 @@ use mathlib.Core.List.{List, [], _∷_, _++_}
 use Prim.Native.Nat.{ℕ, suc}
 use lib.Dec.{eqb}
 use lib.ListN.{take, drop}
-use Rattle.pool.specs.declared.Held.{Held}
-use Rattle.pool.specs.declared.Pool.{Pool}
-use Rattle.pool.specs.declared.Books.{Books}
-use Rattle.pool.specs.Book.{entries, floats, endOf, wellMade}
-use Rattle.pool.specs.Pool.{lookup, foundStart, foundLen}
+use Rattle.pool_books.specs.declared.Held.{Held}
+use Rattle.pool_books.specs.declared.Pool.{Pool}
+use Rattle.pool_books.specs.declared.Books.{Books}
+use Rattle.pool_books.specs.Book.{entries, floats, endOf, wellMade}
+use Rattle.pool_books.specs.Lookup.{lookup, foundStart, foundLen}
 
 -- at which place the first with the key stands; as many as there are where none has it
 unfoldable pub placeIn : ℕ → List Held → ℕ

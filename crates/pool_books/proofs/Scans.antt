@@ -9,15 +9,15 @@ use native.Mathlib.Omega.{arith}
 use borrow.Author.Tests.{le-leb, lt-leb, ltb-true, ltb-false, leb-true, eqb-true, eq-eqb, ne-eqb}
 use lib.Dec.{eqb, leb, ltb}
 use lib.ListN.{length, drop, getD}
-use Rattle.pool.specs.declared.Held.{Held}
-use Rattle.pool.specs.declared.Pool.{Pool}
-use Rattle.pool.specs.declared.Books.{Books}
-use Rattle.pool.specs.declared.Found.{Found}
+use Rattle.pool_books.specs.declared.Held.{Held}
+use Rattle.pool_books.specs.declared.Pool.{Pool}
+use Rattle.pool_books.specs.declared.Books.{Books}
+use Rattle.pool_books.specs.declared.Found.{Found}
 use Rattle.picture_limits.specs.declared.Refusal as F
-use Rattle.pool.specs.Book.{entries, floats, endOf, inOrder, wellMade}
-use Rattle.pool.specs.Pool.{lookup, foundStart, foundLen}
-use Rattle.pool.specs.inner.Place.{placeIn, booksOf}
-use Rattle.pool.proofs.Orders.{made-is, entry-at, entries-end, order-at}
+use Rattle.pool_books.specs.Book.{entries, floats, endOf, inOrder, wellMade}
+use Rattle.pool_books.specs.Lookup.{lookup, foundStart, foundLen}
+use Rattle.pool_books.specs.inner.Place.{placeIn, booksOf}
+use Rattle.pool_books.proofs.Orders.{made-is, entry-at, entries-end, order-at}
 
 -- ---- the order of the places
 

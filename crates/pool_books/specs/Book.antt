@@ -6,8 +6,8 @@ use lib.Dec.{eqb, leb}
 use lib.ListN.{length, take}
 use lib.Ieee.{Float}
 use Rattle.buffers.specs.Region.{region, put}
-use Rattle.pool.specs.declared.Held.{Held}
-use Rattle.pool.specs.declared.Pool.{Pool}
+use Rattle.pool_books.specs.declared.Held.{Held}
+use Rattle.pool_books.specs.declared.Pool.{Pool}
 
 -- the key, and the place of its vectors: the n floats from index at on
 abbrev pub held : ℕ → ℕ → ℕ → Held

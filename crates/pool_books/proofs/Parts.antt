@@ -9,10 +9,10 @@ use lib.Seq.{drop-drop}
 use lib.Ieee.{Float}
 use Rattle.buffers.specs.Region.{region, put, copied}
 use Rattle.buffers.proofs.Regions.{put-split, put-append, put-one, length-region}
-use Rattle.pool.specs.declared.Held.{Held}
-use Rattle.pool.specs.declared.Pool.{Pool}
-use Rattle.pool.specs.Book.{held, entries, with}
-use Rattle.pool.proofs.Orders.{length-entries, put-take}
+use Rattle.pool_books.specs.declared.Held.{Held}
+use Rattle.pool_books.specs.declared.Pool.{Pool}
+use Rattle.pool_books.specs.Book.{held, entries, with}
+use Rattle.pool_books.proofs.Orders.{length-entries, put-take}
 
 copied-whole : (ys old : List Float) → length ys ≡ length old → copied ys old ≡ ys
 unfolding copied
