@@ -1,11 +1,5 @@
-pub mod Merges
-pub mod Projects
-pub mod Embeds
-pub mod Runs
-pub mod Ready
 pub mod Unique
 pub mod Numbers
 pub mod Unread
-pub mod Expands
 pub mod Same
 pub mod PlainSame

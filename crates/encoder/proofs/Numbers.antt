@@ -18,9 +18,10 @@ use Rattle.encoder_settings.specs.declared.Checked.the-variants as C
 use Rattle.encoder_settings.specs.Settings.{allowed, mergeArea, weightFloats, scratchFloats, plainFloats, fullTables, lengths, onward, checkedOf, checkedPlain}
 use Rattle.encoder_settings.proofs.Bounds.{picture-allowed}
 use Rattle.encoder_steps.specs.Run.{Run, stopped, went, ran}
-use Rattle.encoder.specs.declared.Encoded.{Encoded}
-use Rattle.encoder.specs.Stages.{forwardRun}
-use Rattle.encoder.specs.Forward.{encodedBy, numberOf, Numbered}
+use Rattle.encoder_run.specs.declared.Encoded.{Encoded}
+use Rattle.encoder_run.specs.Stages.{forwardRun}
+use Rattle.encoder.specs.Forward.{numberOf, Numbered}
+use Rattle.encoder_run.specs.Answer.{encodedBy}
 use Rattle.encoder.specs.Plain.{encodedPlain, plainNumber}
 
 -- the ladder of answers and that of numbers, test by test: 9, 10, 5, 11, 12

@@ -19,8 +19,9 @@ use Rattle.encoder_settings.specs.declared.Checked.the-variants as C
 use Rattle.encoder_settings.specs.Settings as S
 use Rattle.encoder_settings.specs.Settings.{allowed, mergeArea, weightFloats, scratchFloats, plainFloats, fullTables, lengths, onward, checkedOf, checkedPlain}
 use Rattle.encoder_steps.specs.Run.{Run, stopped, went}
-use Rattle.encoder.specs.Stages.{forwardRun}
-use Rattle.encoder.specs.Forward.{encodedBy, outBy, scratchBy, number, encodedOf, outOf, scratchOf}
+use Rattle.encoder_run.specs.Stages.{forwardRun}
+use Rattle.encoder.specs.Forward.{number, encodedOf, outOf, scratchOf}
+use Rattle.encoder_run.specs.Answer.{encodedBy, outBy, scratchBy}
 use Rattle.encoder.specs.Plain.{encodedPlain, outPlain, scratchPlain, PlainAgrees}
 
 -- the number of what settings and lengths say shows in the answer

@@ -19,8 +19,9 @@ use Rattle.encoder_settings.proofs.Bounds.{allowed-says}
 use Rattle.encoder_rotation.specs.Axes.{expand, axis, precomputed}
 use Rattle.encoder_rotation.proofs.Expanded.{length-expand, precomputed-is}
 use Rattle.buffers.specs.Rows.{tab}
-use Rattle.encoder.specs.Stages.{forwardRun}
-use Rattle.encoder.specs.Forward.{encodedBy, outBy, scratchBy, encodedOf, outOf, scratchOf}
+use Rattle.encoder_run.specs.Stages.{forwardRun}
+use Rattle.encoder.specs.Forward.{encodedOf, outOf, scratchOf}
+use Rattle.encoder_run.specs.Answer.{encodedBy, outBy, scratchBy}
 use Rattle.encoder.specs.Axes.{fullOf, encodedAxes, outAxes, scratchAxes, Agrees, ExpandedAgrees, PrecomputedAgrees}
 
 -- a full table of two that have their length has its own

@@ -11,12 +11,13 @@ use Rattle.encoder_settings.specs.declared.EncoderSettings.{EncoderSettings}
 use Rattle.encoder_settings.specs.declared.Form.{Form}
 use Rattle.encoder_settings.specs.declared.Checked.{Checked}
 use Rattle.encoder_settings.specs.declared.Checked.the-variants as C
-use Rattle.encoder.specs.declared.Encoded.{Encoded}
-use Rattle.encoder.specs.declared.Encoded.the-variants.{Tokens}
+use Rattle.encoder_run.specs.declared.Encoded.{Encoded}
+use Rattle.encoder_run.specs.declared.Encoded.the-variants.{Tokens}
 use Rattle.encoder_settings.specs.Settings.{mergeArea, fullTables, axisTables, checkedOf, checkedPlain, checkedBy}
 use Rattle.encoder_steps.specs.Run.{Run, stopped, went}
-use Rattle.encoder.specs.Stages.{forwardRun}
-use Rattle.encoder.specs.Forward.{encodedBy, encodedOf, outOf, scratchOf}
+use Rattle.encoder_run.specs.Stages.{forwardRun}
+use Rattle.encoder.specs.Forward.{encodedOf, outOf, scratchOf}
+use Rattle.encoder_run.specs.Answer.{encodedBy}
 use Rattle.encoder.specs.Plain.{encodedPlain, outPlain, scratchPlain}
 use Rattle.encoder.specs.Axes.{axesRun, encodedAxes, outAxes, scratchAxes}
 use Rattle.encoder_settings.proofs.Accepted.{accepted-says}

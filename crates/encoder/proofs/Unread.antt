@@ -9,7 +9,7 @@ use Rattle.picture_limits.specs.Shape.{shaped}
 use Rattle.encoder_settings.specs.declared.EncoderSettings.{EncoderSettings}
 use Rattle.encoder_settings.specs.Settings.{scalingAllowed, allowed, lengths, checkedOf, checkedPlain}
 use Rattle.encoder_settings.specs.Lengths.{neededOf}
-use Rattle.encoder.specs.Stages.{runOf}
+use Rattle.encoder_run.specs.Stages.{runOf}
 use Rattle.encoder.specs.Forward.{encodedOf, outOf, scratchOf}
 use Rattle.encoder.specs.Axes.{encodedAxes, outAxes, scratchAxes}
 use Rattle.encoder.specs.Plain.{encodedPlain, outPlain, scratchPlain}

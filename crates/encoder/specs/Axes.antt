@@ -12,9 +12,10 @@ use Rattle.encoder_settings.specs.declared.Checked.{Checked}
 use Rattle.encoder_settings.specs.Settings.{axisTables, checkedOf}
 use Rattle.encoder_rotation.specs.Axes.{expand, axis, precomputed}
 use Rattle.encoder_steps.specs.Run.{Run}
-use Rattle.encoder.specs.declared.Encoded.{Encoded}
-use Rattle.encoder.specs.Stages.{forwardRun}
-use Rattle.encoder.specs.Forward.{encodedBy, outBy, scratchBy, encodedOf, outOf, scratchOf, numberOf}
+use Rattle.encoder_run.specs.declared.Encoded.{Encoded}
+use Rattle.encoder_run.specs.Stages.{forwardRun}
+use Rattle.encoder.specs.Forward.{encodedOf, outOf, scratchOf, numberOf}
+use Rattle.encoder_run.specs.Answer.{encodedBy, outBy, scratchBy}
 
 -- the full table of a table of rows and a table of columns
 abbrev pub fullOf : EncoderSettings → List Float → List Float → List Float

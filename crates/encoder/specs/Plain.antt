@@ -15,9 +15,10 @@ use Rattle.encoder_settings.specs.declared.EncoderSettings.{EncoderSettings}
 use Rattle.encoder_settings.specs.declared.Checked.{Checked}
 use Rattle.encoder_settings.specs.Settings.{allowed, mergeArea, weightFloats, plainFloats, fullTables, checkedPlain}
 use Rattle.encoder_steps.specs.Run.{ran}
-use Rattle.encoder.specs.declared.Encoded.{Encoded}
-use Rattle.encoder.specs.Stages.{forwardRun}
-use Rattle.encoder.specs.Forward.{encodedBy, outBy, scratchBy, number, encodedOf, outOf, scratchOf}
+use Rattle.encoder_run.specs.declared.Encoded.{Encoded}
+use Rattle.encoder_run.specs.Stages.{forwardRun}
+use Rattle.encoder.specs.Forward.{number, encodedOf, outOf, scratchOf}
+use Rattle.encoder_run.specs.Answer.{encodedBy, outBy, scratchBy}
 
 module _ (s : EncoderSettings) (gh gw : ℕ) (w cos sin x : List Float) where
   abbrev answerOf : ℕ → ℕ → Checked

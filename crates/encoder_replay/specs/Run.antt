@@ -8,8 +8,8 @@ use lib.Ieee.{Float, binary32, ofBits}
 use Rattle.buffers.specs.Region.{region}
 use Rattle.picture_limits.specs.Refusal as R
 use Rattle.encoder_settings.specs.declared.EncoderSettings.{EncoderSettings}
-use Rattle.encoder.specs.declared.Encoded.{Encoded}
-use Rattle.encoder.specs.declared.Encoded.the-variants.{Tokens, Refused}
+use Rattle.encoder_run.specs.declared.Encoded.{Encoded}
+use Rattle.encoder_run.specs.declared.Encoded.the-variants.{Tokens, Refused}
 use Rattle.encoder.specs.Forward.{encodedOf, outOf, scratchOf}
 use Rattle.encoder.specs.Plain.{encodedPlain, outPlain, scratchPlain}
 use Rattle.encoder_replay.specs.declared.run.Answer.{Answer}

@@ -3,7 +3,7 @@ ghost use mathlib.Core.Path.{_≡_};
 ghost use lib.ListN.{length};
 ghost use Rattle.encoder_replay.specs.Run.{encodedAs, outAs, scratchAs, answerOf, settingsOf, inputsFrom, callOf, runOf};
 ghost use Rattle.encoder_replay.specs.inner.Room.{Small, Room};
-use encoder::Encoded;
+use encoder_run::Encoded;
 use encoder_settings::EncoderSettings;
 use picture_limits::PictureSettings;
 use replay::damage::damage;

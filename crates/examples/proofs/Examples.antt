@@ -26,7 +26,7 @@ use Rattle.picture_tiles.specs.declared.Cutting.{Cutting}
 use Rattle.picture_tiles.specs.declared.Tiled.{Tiled}
 use Rattle.picture_tiles.specs.Tile.{tileBytes}
 use Rattle.picture_tiles.specs.Answer.{cutOf, tiled}
-use Rattle.encoder.specs.Stages.{mergeOf}
+use Rattle.encoder_run.specs.Stages.{mergeOf}
 
 -- ---- bf16, half, E, T, root
 

@@ -14,7 +14,7 @@ use Rattle.picture_restore.specs.Restore as Res
 use Rattle.encoder_settings.specs.declared.EncoderSettings as E
 use Rattle.encoder_settings.specs.declared.Needed.{Needed}
 use Rattle.encoder_settings.specs.Lengths as Len
-use Rattle.encoder.specs.declared.Encoded.{Encoded}
+use Rattle.encoder_run.specs.declared.Encoded.{Encoded}
 use Rattle.encoder.specs.Forward as Fwd
 use Rattle.config.specs.Config as Conf
 use Rattle.config.specs.Config.{Config}

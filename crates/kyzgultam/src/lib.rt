@@ -7,7 +7,7 @@ pub mod pools;
 pub mod salvage;
 pub mod tiles;
 
-use encoder::Encoded;
+use encoder_run::Encoded;
 use encoder_settings::Needed;
 use picture::Preprocessed;
 use picture_restore::Restored;

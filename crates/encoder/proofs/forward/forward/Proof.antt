@@ -2,7 +2,7 @@
 use borrow.Author.Needs.{needs}
 use lib.ListN.{length}
 use Rattle.encoder_settings.specs.Settings.{fullTables, checkedOf, checkedBy}
-use Rattle.encoder.specs.Stages.{forwardRun}
+use Rattle.encoder_run.specs.Stages.{forwardRun}
 use Rattle.encoder.specs.Forward.{encodedOf, outOf, scratchOf}
 use Rattle.encoder.proofs.Numbers.{numbered}
 use Rattle.encoder.proofs.forward.forward.Statement.{statement}

@@ -6,7 +6,7 @@ use mathlib.Core.List.{List}
 use lib.Ieee.{Float}
 use lib.ListN.{length}
 use Rattle.encoder_settings.specs.declared.EncoderSettings.{EncoderSettings}
-use Rattle.encoder.specs.declared.Encoded.{Encoded}
+use Rattle.encoder_run.specs.declared.Encoded.{Encoded}
 use Rattle.replay.specs.Hash.{floatHash}
 use Rattle.encoder_replay.specs.Run.{encodedAs, outAs, scratchAs, answerFrom, answerOf}
 use Rattle.encoder_replay.proofs.run.encode.Statement.{statement}
