@@ -4,10 +4,12 @@ use Prim.Native.Nat.{ℕ}
 use Rattle.picture.specs.declared.Preprocessed.{Preprocessed}
 use Rattle.picture.specs.Preprocess as Pre
 use Rattle.picture_tiles.specs.Answer.{tiled}
-use Rattle.kyzgultam.specs.declared.PreprocessReport.{PreprocessReport}
-use Rattle.kyzgultam.specs.declared.tiles.CutReport.{CutReport}
-use Rattle.kyzgultam.specs.declared.tiles.TileReport.{TileReport}
-use Rattle.kyzgultam.specs.Face.{inner, preprocessReport, tileReport}
+use Rattle.face_picture.specs.declared.PreprocessReport.{PreprocessReport}
+use Rattle.face_tiles.specs.declared.CutReport.{CutReport}
+use Rattle.face_tiles.specs.declared.TileReport.{TileReport}
+use Rattle.face_picture.specs.Reports.{preprocessReport}
+use Rattle.face_settings.specs.Settings.{inner}
+use Rattle.face_tiles.specs.Reports.{tileReport}
 use Rattle.kyzgultam.specs.Log.{PreprocessUnseen, AnswerUnseen, TileUnseen, TileAnswerUnseen, CutUnseen}
 
 -- what depends on two lengths alone is the same where these are

@@ -10,8 +10,8 @@ use Rattle.buffers.specs.Region.{region}
 use Rattle.picture_limits.specs.Settings.{within}
 use Rattle.picture_limits.specs.Places.{patchFloats}
 use Rattle.picture.specs.Part.{patchPart}
-use Rattle.kyzgultam.specs.declared.PatchPlace.{PatchPlace}
-use Rattle.kyzgultam.specs.Face.{placeOf}
+use Rattle.face_picture.specs.declared.PatchPlace.{PatchPlace}
+use Rattle.face_picture.specs.Reports.{placeOf}
 
 pub place-is-patch : (l : List Float) (p i : ℕ) → region l (placeOf (length l) p i .start) (placeOf (length l) p i .len) ≡ patchPart l p i
 unfolding placeOf patchPart

@@ -12,23 +12,27 @@ use Rattle.pool_books.specs.declared.Pool.{Pool}
 use Rattle.pool.specs.Pool as Pl
 use Rattle.kyzgultam.specs.declared.pools.PoolReport.{PoolReport}
 use Rattle.kyzgultam.specs.declared.pools.PoolPlace.{PoolPlace}
-use Rattle.kyzgultam.specs.Face.{poolReport, poolPlace, inner, innerEncoder, preprocessReport, restoreReport, salvageReport, cutReport, tileReport, forwardReport, lengthsReport, placeOf, configReport, ConfigReports}
+use Rattle.face_encoder.specs.Reports.{forwardReport, lengthsReport}
+use Rattle.face_picture.specs.Reports.{preprocessReport, restoreReport, salvageReport, placeOf}
+use Rattle.face_settings.specs.Settings.{inner, innerEncoder}
+use Rattle.face_tiles.specs.Reports.{cutReport, tileReport}
+use Rattle.kyzgultam.specs.Face.{poolReport, poolPlace, configReport, ConfigReports}
 use Rattle.encoder_settings.specs.Lengths.{neededOf}
 use Rattle.encoder.specs.Forward.{encodedOf, outOf, scratchOf}
 use Rattle.encoder.specs.Axes.{encodedAxes, outAxes, scratchAxes}
 use Rattle.encoder.specs.Plain.{encodedPlain, outPlain, scratchPlain}
 use Rattle.config.proofs.Unique.{config-unique}
 use Rattle.kyzgultam.specs.declared.config_file.ConfigReport.{ConfigReport}
-use Rattle.kyzgultam.specs.declared.EncoderSettings.{EncoderSettings}
-use Rattle.kyzgultam.specs.declared.ForwardReport.{ForwardReport}
-use Rattle.kyzgultam.specs.declared.LengthsReport.{LengthsReport}
-use Rattle.kyzgultam.specs.declared.PatchPlace.{PatchPlace}
-use Rattle.kyzgultam.specs.declared.PictureSettings.{PictureSettings}
-use Rattle.kyzgultam.specs.declared.PreprocessReport.{PreprocessReport}
-use Rattle.kyzgultam.specs.declared.RestoreReport.{RestoreReport}
-use Rattle.kyzgultam.specs.declared.salvage.SalvageReport.{SalvageReport}
-use Rattle.kyzgultam.specs.declared.tiles.CutReport.{CutReport}
-use Rattle.kyzgultam.specs.declared.tiles.TileReport.{TileReport}
+use Rattle.face_settings.specs.declared.EncoderSettings.{EncoderSettings}
+use Rattle.face_encoder.specs.declared.ForwardReport.{ForwardReport}
+use Rattle.face_encoder.specs.declared.LengthsReport.{LengthsReport}
+use Rattle.face_picture.specs.declared.PatchPlace.{PatchPlace}
+use Rattle.face_settings.specs.declared.PictureSettings.{PictureSettings}
+use Rattle.face_picture.specs.declared.PreprocessReport.{PreprocessReport}
+use Rattle.face_picture.specs.declared.RestoreReport.{RestoreReport}
+use Rattle.face_picture.specs.declared.salvage.SalvageReport.{SalvageReport}
+use Rattle.face_tiles.specs.declared.CutReport.{CutReport}
+use Rattle.face_tiles.specs.declared.TileReport.{TileReport}
 use Rattle.number_floats.proofs.Unique.{one}
 
 abbrev pub Preprocesses : PictureSettings → List ℕ → ℕ → ℕ → List Float → PreprocessReport → List Float → Type 0

@@ -12,11 +12,13 @@ use Rattle.picture.specs.declared.Preprocessed.{Preprocessed}
 use Rattle.picture.specs.Preprocess as Pre
 use Rattle.picture_tiles.specs.declared.Tiled.{Tiled}
 use Rattle.picture_tiles.specs.Answer.{cutOf, tiled}
-use Rattle.kyzgultam.specs.declared.PictureSettings.{PictureSettings}
-use Rattle.kyzgultam.specs.declared.PreprocessReport.{PreprocessReport}
-use Rattle.kyzgultam.specs.declared.tiles.CutReport.{CutReport}
-use Rattle.kyzgultam.specs.declared.tiles.TileReport.{TileReport}
-use Rattle.kyzgultam.specs.Face.{inner, preprocessReport, cutReport, tileReport}
+use Rattle.face_settings.specs.declared.PictureSettings.{PictureSettings}
+use Rattle.face_picture.specs.declared.PreprocessReport.{PreprocessReport}
+use Rattle.face_tiles.specs.declared.CutReport.{CutReport}
+use Rattle.face_tiles.specs.declared.TileReport.{TileReport}
+use Rattle.face_picture.specs.Reports.{preprocessReport}
+use Rattle.face_settings.specs.Settings.{inner}
+use Rattle.face_tiles.specs.Reports.{cutReport, tileReport}
 
 -- two pictures and two outputs that may differ in all that they hold
 pub record Alike (rgb rgb′ : List ℕ) (out out′ : List Float) : Type 0 where

@@ -1,13 +1,11 @@
 // Forward by tables of rows and of columns.
-use crate::EncoderSettings;
-use crate::ForwardReport;
-use crate::encoder_settings;
-use crate::forward_report;
-use encoder::forward::forward_axes;
+use face_encoder::ForwardReport;
+use face_settings::EncoderSettings;
 ghost use mathlib.Core.Path.{_≡_};
 ghost use lib.ListN.{length};
 ghost use Rattle.encoder.specs.Axes.{encodedAxes, outAxes, scratchAxes};
-ghost use Rattle.kyzgultam.specs.Face.{innerEncoder, forwardReport};
+ghost use Rattle.face_settings.specs.Settings.{innerEncoder};
+ghost use Rattle.face_encoder.specs.Reports.{forwardReport};
 
 #[no_mangle]
 pub extern "C" fn kz_forward_axes(
@@ -27,8 +25,8 @@ pub extern "C" fn kz_forward_axes(
     ensures output { λ _. ⌜ now (out .exit) ≡ outAxes (innerEncoder s) «grid_h» «grid_w» (now (weights .entry)) (now («row_cos» .entry)) (now («row_sin» .entry)) (now («column_cos» .entry)) (now («column_sin» .entry)) (now (patches .entry)) (length (now (scratch .entry))) (now (out .entry)) ⌝ }
     ensures work { λ _. ⌜ now (scratch .exit) ≡ scratchAxes (innerEncoder s) «grid_h» «grid_w» (now (weights .entry)) (now («row_cos» .entry)) (now («row_sin» .entry)) (now («column_cos» .entry)) (now («column_sin» .entry)) (now (patches .entry)) (length (now (out .entry))) (now (scratch .entry)) ⌝ }
 {
-    let found = forward_axes(
-        encoder_settings(s),
+    face_encoder::axes::forward_axes(
+        s,
         patches,
         grid_h,
         grid_w,
@@ -39,6 +37,5 @@ pub extern "C" fn kz_forward_axes(
         column_sin,
         scratch,
         out,
-    );
-    forward_report(found)
+    )
 }

@@ -1,13 +1,11 @@
 // Forward with plain attention.
-use crate::EncoderSettings;
-use crate::ForwardReport;
-use crate::encoder_settings;
-use crate::forward_report;
-use encoder::forward::forward_plain;
+use face_encoder::ForwardReport;
+use face_settings::EncoderSettings;
 ghost use mathlib.Core.Path.{_≡_};
 ghost use lib.ListN.{length};
 ghost use Rattle.encoder.specs.Plain.{encodedPlain, outPlain, scratchPlain};
-ghost use Rattle.kyzgultam.specs.Face.{innerEncoder, forwardReport};
+ghost use Rattle.face_settings.specs.Settings.{innerEncoder};
+ghost use Rattle.face_encoder.specs.Reports.{forwardReport};
 
 #[no_mangle]
 pub extern "C" fn kz_forward_plain(
@@ -25,8 +23,8 @@ pub extern "C" fn kz_forward_plain(
     ensures output { λ _. ⌜ now (out .exit) ≡ outPlain (innerEncoder s) «grid_h» «grid_w» (now (weights .entry)) (now («rope_cos» .entry)) (now («rope_sin» .entry)) (now (patches .entry)) (length (now (scratch .entry))) (now (out .entry)) ⌝ }
     ensures work { λ _. ⌜ now (scratch .exit) ≡ scratchPlain (innerEncoder s) «grid_h» «grid_w» (now (weights .entry)) (now («rope_cos» .entry)) (now («rope_sin» .entry)) (now (patches .entry)) (length (now (out .entry))) (now (scratch .entry)) ⌝ }
 {
-    let found = forward_plain(
-        encoder_settings(s),
+    face_encoder::plain::forward_plain(
+        s,
         patches,
         grid_h,
         grid_w,
@@ -35,6 +33,5 @@ pub extern "C" fn kz_forward_plain(
         rope_sin,
         scratch,
         out,
-    );
-    forward_report(found)
+    )
 }

@@ -1,21 +1,11 @@
 // Patterns of damaged patches back to the picture.
-use crate::PictureSettings;
-use crate::settings;
-use picture_salvage::Salvaged;
-use picture_salvage::salvage;
+use face_picture::salvage::SalvageReport;
+use face_settings::PictureSettings;
 ghost use mathlib.Core.Path.{_≡_};
 ghost use lib.ListN.{length};
 ghost use Rattle.picture_salvage.specs.Salvage.{salvaged, savedOut, listOut};
-ghost use Rattle.kyzgultam.specs.Face.{inner, salvageReport};
-
-// The picture's sides, and how many samples were bad.
-#[repr(C)]
-pub struct SalvageReport {
-    pub number: u32,
-    pub height: usize,
-    pub width: usize,
-    pub bad: usize,
-}
+ghost use Rattle.face_settings.specs.Settings.{inner};
+ghost use Rattle.face_picture.specs.Reports.{salvageReport};
 
 #[no_mangle]
 pub extern "C" fn kz_salvage(
@@ -30,19 +20,5 @@ pub extern "C" fn kz_salvage(
     ensures output { λ _. ⌜ now (out .exit) ≡ savedOut (inner s) (now (patches .entry)) «grid_h» «grid_w» (length (now (list .entry))) (now (out .entry)) ⌝ }
     ensures entries { λ _. ⌜ now (list .exit) ≡ listOut (inner s) (now (patches .entry)) «grid_h» «grid_w» (length (now (out .entry))) (now (list .entry)) ⌝ }
 {
-    let found = salvage(settings(s), patches, grid_h, grid_w, out, list);
-    match found {
-        Salvaged::Picture { height, width, bad } => SalvageReport {
-            number: 0,
-            height,
-            width,
-            bad,
-        },
-        Salvaged::Refused(r) => SalvageReport {
-            number: picture_limits::settings::number(r),
-            height: 0,
-            width: 0,
-            bad: 0,
-        },
-    }
+    face_picture::salvage::salvage(s, patches, grid_h, grid_w, out, list)
 }
