@@ -2,7 +2,7 @@
 use mathlib.Core.Bool.{Bool, true, false}
 use Prim.Native.Nat.{ℕ, zero, suc}
 use Rattle.picture_limits.specs.declared.Refusal as D
-use Rattle.picture_limits.specs.declared.Refusal.the-variants.{Setting, Side, RgbLength, ImageSize, Output, Grid, PatchesLength, Sample, WeightsLength, TableLength, Scratch, NotFinite, ConfigText, ConfigDepth, ConfigVision, Channel, Tile, List, Tokens, KeyHeld, NoVectors, PoolFull, KeyUnknown, PoolSlice}
+use Rattle.picture_limits.specs.declared.Refusal.the-variants.{Setting, Side, RgbLength, ImageSize, Output, Grid, PatchesLength, Sample, WeightsLength, TableLength, Scratch, NotFinite, ConfigText, ConfigDepth, ConfigVision, Header, Tensor, Offsets, Channel, Tile, List, Tokens, KeyHeld, NoVectors, PoolFull, KeyUnknown, PoolSlice}
 
 abbrev pub number : D.Refusal → ℕ
 number Setting = 1
@@ -20,6 +20,9 @@ number NotFinite = 12
 number ConfigText = 13
 number ConfigDepth = 14
 number ConfigVision = 15
+number Header = 16
+number Tensor = 17
+number Offsets = 18
 number Channel = 19
 number Tile = 20
 number List = 21

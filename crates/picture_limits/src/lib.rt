@@ -10,7 +10,7 @@ pub struct PictureSettings {
     pub deviation: [f32; 3],
 }
 
-// Why a call is refused, in the order of the papers' numbers: 1 to 15, and 19 to 27.
+// Why a call is refused, in the order of the papers' numbers: 1 to 27.
 pub enum Refusal {
     Setting,
     Side,
@@ -27,6 +27,9 @@ pub enum Refusal {
     ConfigText,
     ConfigDepth,
     ConfigVision,
+    Header,
+    Tensor,
+    Offsets,
     Channel,
     Tile,
     List,

@@ -12,7 +12,7 @@ use lib.Dec.{eqb, ltb, leb}
 use lib.ListN.{length, getD}
 use Rattle.picture_limits.specs.declared.PictureSettings.{PictureSettings}
 use Rattle.picture_limits.specs.declared.Refusal.{Refusal}
-use Rattle.picture_limits.specs.declared.Refusal.the-variants.{Setting, Side, RgbLength, ImageSize, Output, Grid, PatchesLength, Sample, WeightsLength, TableLength, Scratch, NotFinite, ConfigText, ConfigDepth, ConfigVision, Channel, Tile, KeyHeld, NoVectors, PoolFull, KeyUnknown, PoolSlice}
+use Rattle.picture_limits.specs.declared.Refusal.the-variants.{Setting, Side, RgbLength, ImageSize, Output, Grid, PatchesLength, Sample, WeightsLength, TableLength, Scratch, NotFinite, ConfigText, ConfigDepth, ConfigVision, Header, Tensor, Offsets, Channel, Tile, KeyHeld, NoVectors, PoolFull, KeyUnknown, PoolSlice}
 use Rattle.picture.specs.declared.Preprocessed.{Preprocessed}
 use Rattle.picture.specs.declared.Preprocessed.the-variants as P
 use Rattle.picture_restore.specs.declared.Restored.{Restored}
@@ -71,6 +71,9 @@ refused-differs NotFinite = digit-there 12 49 refl (omega arith)
 refused-differs ConfigText = digit-there 13 49 refl (omega arith)
 refused-differs ConfigDepth = digit-there 14 49 refl (omega arith)
 refused-differs ConfigVision = digit-there 15 49 refl (omega arith)
+refused-differs Header = digit-there 16 49 refl (omega arith)
+refused-differs Tensor = digit-there 17 49 refl (omega arith)
+refused-differs Offsets = digit-there 18 49 refl (omega arith)
 refused-differs Channel = digit-there 19 49 refl (omega arith)
 refused-differs Tile = digit-there 20 50 refl (omega arith)
 refused-differs Refusal.List = digit-there 21 50 refl (omega arith)

@@ -9,7 +9,7 @@ use lib.ListN.{length, drop, length-append, length-take}
 use Rattle.buffers.specs.Rows.{rows}
 use Rattle.buffers.specs.Region.{region}
 use Rattle.picture_limits.specs.declared.Refusal.{Refusal}
-use Rattle.picture_limits.specs.declared.Refusal.the-variants.{Setting, Side, RgbLength, ImageSize, Output, Grid, PatchesLength, Sample, WeightsLength, TableLength, Scratch, NotFinite, ConfigText, ConfigDepth, ConfigVision, Channel, Tile, KeyHeld, NoVectors, PoolFull, KeyUnknown, PoolSlice}
+use Rattle.picture_limits.specs.declared.Refusal.the-variants.{Setting, Side, RgbLength, ImageSize, Output, Grid, PatchesLength, Sample, WeightsLength, TableLength, Scratch, NotFinite, ConfigText, ConfigDepth, ConfigVision, Header, Tensor, Offsets, Channel, Tile, KeyHeld, NoVectors, PoolFull, KeyUnknown, PoolSlice}
 use Rattle.picture_limits.specs.Refusal.{number}
 use Rattle.picture_limits.proofs.Places.{times}
 use Rattle.unpatch_text.specs.Print.{decimalText, refusedLine, gridLine, rowLine, rowLines}
@@ -40,6 +40,9 @@ number-le NotFinite = omega arith
 number-le ConfigText = omega arith
 number-le ConfigDepth = omega arith
 number-le ConfigVision = omega arith
+number-le Header = omega arith
+number-le Tensor = omega arith
+number-le Offsets = omega arith
 number-le Channel = omega arith
 number-le Tile = omega arith
 number-le Refusal.List = omega arith

@@ -77,6 +77,15 @@ enum-told-23 c = search needs
 enum-told-24 : tie.Need-enum-told-24
 enum-told-24 c = search needs
 
+enum-told-25 : tie.Need-enum-told-25
+enum-told-25 c = search needs
+
+enum-told-26 : tie.Need-enum-told-26
+enum-told-26 c = search needs
+
+enum-told-27 : tie.Need-enum-told-27
+enum-told-27 c = search needs
+
 returns : tie.Need-returns
 returns c = sym (ap number (c .enum-told .given .1))
 
@@ -149,6 +158,15 @@ returns-23 c = sym (ap number (c .enum-told23 .given .1))
 returns-24 : tie.Need-returns-24
 returns-24 c = sym (ap number (c .enum-told24 .given .1))
 
+returns-25 : tie.Need-returns-25
+returns-25 c = sym (ap number (c .enum-told25 .given .1))
+
+returns-26 : tie.Need-returns-26
+returns-26 c = sym (ap number (c .enum-told26 .given .1))
+
+returns-27 : tie.Need-returns-27
+returns-27 c = sym (ap number (c .enum-told27 .given .1))
+
 pub number-spec : {M : Type 1} → statement M
 number-spec =
     tie.close
@@ -177,6 +195,9 @@ number-spec =
     enum-told-22
     enum-told-23
     enum-told-24
+    enum-told-25
+    enum-told-26
+    enum-told-27
     returns
     returns-2
     returns-3
@@ -200,4 +221,7 @@ number-spec =
     returns-21
     returns-22
     returns-23
-    returns-24)
+    returns-24
+    returns-25
+    returns-26
+    returns-27)
