@@ -1,18 +1,20 @@
 -- Names read off the bytes are what the grammar says. Assumes nothing.
 use mathlib.Core.Path.{_≡_, refl, sym, ap, _∙_}
-use mathlib.Core.Bool.{Bool, false, cond, _&&_}
-use mathlib.Core.List.{List, [], _∷_}
+use mathlib.Core.Bool.{Bool, true, false, cond, _&&_}
+use mathlib.Core.List.{List, [], _∷_, _++_, append-nil}
+use mathlib.Core.Option.{none, some}
 use Prim.Native.Nat.{ℕ, zero, suc, _+_, _-_, _*_, _≤_, _<_}
+use native.Mathlib.Decide.{decLt}
 use native.Mathlib.Numerals.{add-one}
 use native.Mathlib.Omega.{arith}
-use lib.Dec.{eqb}
+use lib.Dec.{eqb, ltb}
 use lib.ListN.{length, getD, drop, drop-of-length-le, length-drop}
 use lib.Seq.{drop-cons, drop-drop}
 use borrow.Author.Tests.{lt-ltb, le-ltb, ne-eqb}
 use Rattle.json_grammar.specs.Grammar as G
 use Rattle.json_grammar.specs.Grammar.{Chars}
 use Rattle.json_members.specs.Names.{hexSays, escapeSays, charSays, charsSay, same}
-use Rattle.json_members.specs.inner.Bytes.{hexValue, simpleOf, fourOf, escapeOf, codeOf, escapeWidth, widthOf, nameIs}
+use Rattle.json_members.specs.inner.Bytes.{hexValue, simpleOf, fourOf, escapeOf, codeOf, escapeWidth, widthOf, nameIs, behindAt, followed}
 
 -- ---- at a place
 
@@ -67,27 +69,60 @@ name-step : (x : ℕ) (w m : List ℕ) (b : ℕ) (l : List ℕ) → m ≡ b ∷ 
 unfolding nameIs
 name-step x w m b l e = rw e
 
-module _ (w : List ℕ) (j : ℕ) (s : List ℕ) (i : ℕ) where
-  pub name-short : j < length w → length s ≤ i → nameIs (drop j w) (drop i s) ≡ false
-  unfolding nameIs
-  name-short h k = rw (drop-cons w j 0 h, drop-of-length-le s k)
-
-  pub name-at : j < length w → i < length s → nameIs (drop j w) (drop i s) ≡ cond (eqb (getD s i 0) 0x22) false (eqb (codeOf (drop i s)) (getD w j 0) && nameIs (drop (j + 1) w) (drop (i + widthOf (getD s i 0) (drop (i + 1) s)) s))
-  name-at h k =
-      let x = getD w j 0 in
+module _ (s : List ℕ) (i : ℕ) where
+  -- a character of w more
+  name-next : (x : ℕ) (w : List ℕ) → i < length s → nameIs (x ∷ w) (drop i s) ≡ cond (eqb (getD s i 0) 0x22) false (eqb (codeOf (drop i s)) x && nameIs w (drop (i + widthOf (getD s i 0) (drop (i + 1) s)) s))
+  name-next x w k =
       let b = getD s i 0 in
-      let e : drop j w ≡ x ∷ drop (j + 1) w = rw (add-one j) (drop-cons w j 0 h) in
       let f : drop i s ≡ b ∷ drop (i + 1) s = rw (add-one i) (drop-cons s i 0 k) in
-      ap (λ (v : List ℕ). nameIs v (drop i s)) e ∙ name-step x (drop (j + 1) w) (drop i s) b (drop (i + 1) s) f
-      ∙ ap (λ (m : List ℕ). cond (eqb b 0x22) false (eqb (codeOf (drop i s)) x && nameIs (drop (j + 1) w) m)) (drop-drop (widthOf b (drop (i + 1) s)) i s)
+      name-step x w (drop i s) b (drop (i + 1) s) f
+      ∙ ap (λ (m : List ℕ). cond (eqb b 0x22) false (eqb (codeOf (drop i s)) x && nameIs w m)) (drop-drop (widthOf b (drop (i + 1) s)) i s)
 
-  pub name-done : length w ≤ j → length s ≤ i → nameIs (drop j w) (drop i s) ≡ false
+  name-out : (x : ℕ) (w : List ℕ) → length s ≤ i → nameIs (x ∷ w) (drop i s) ≡ false
   unfolding nameIs
-  name-done h k = rw (drop-of-length-le w h, drop-of-length-le s k)
+  name-out x w k = rw (drop-of-length-le s k)
 
-  pub name-quote : length w ≤ j → i < length s → nameIs (drop j w) (drop i s) ≡ eqb (getD s i 0) 0x22
+  pub name-end : length s ≤ i → nameIs [] (drop i s) ≡ false
   unfolding nameIs
-  name-quote h k = rw (drop-of-length-le w h, drop-cons s i 0 k)
+  name-end k = rw (drop-of-length-le s k)
+
+  pub name-quote : i < length s → nameIs [] (drop i s) ≡ eqb (getD s i 0) 0x22
+  unfolding nameIs
+  name-quote k = rw (drop-cons s i 0 k)
+
+module _ (w : List ℕ) (j : ℕ) (s : List ℕ) (i : ℕ) where
+  pub behind-out : j < length w → length s ≤ i → behindAt s i (drop j w) ≡ none
+  unfolding behindAt
+  behind-out h k = rw (drop-cons w j 0 h, le-ltb i (length s) k)
+
+  pub behind-at : j < length w → i < length s → behindAt s i (drop j w) ≡ cond (eqb (getD s i 0) 0x22) none (cond (eqb (codeOf (drop i s)) (getD w j 0)) (behindAt s (i + widthOf (getD s i 0) (drop (i + 1) s)) (drop (j + 1) w)) none)
+  unfolding behindAt
+  behind-at h k = rw (add-one j, drop-cons w j 0 h, lt-ltb i (length s) k)
+
+  pub behind-done : length w ≤ j → behindAt s i (drop j w) ≡ some i
+  unfolding behindAt
+  behind-done h = rw (drop-of-length-le w h)
+
+-- a name in two parts: the second stands behind the first
+pub name-parts : (s : List ℕ) (i : ℕ) (a b : List ℕ) → nameIs (a ++ b) (drop i s) ≡ followed (behindAt s i a) (λ k. nameIs b (drop k s))
+unfolding behindAt
+name-parts s i [] b = refl
+name-parts s i (x ∷ a) b = of (name-parts s (i + widthOf (getD s i 0) (drop (i + 1) s)) a b) (decLt i (length s))
+  where
+    wide : ℕ
+    wide = widthOf (getD s i 0) (drop (i + 1) s)
+
+    by : nameIs (a ++ b) (drop (i + wide) s) ≡ followed (behindAt s (i + wide) a) (λ k. nameIs b (drop k s)) → (t u : Bool) → cond t false (u && nameIs (a ++ b) (drop (i + wide) s)) ≡ followed (cond t none (cond u (behindAt s (i + wide) a) none)) (λ k. nameIs b (drop k s))
+    by z true u = refl
+    by z false true = z
+    by z false false = refl
+
+    of : nameIs (a ++ b) (drop (i + wide) s) ≡ followed (behindAt s (i + wide) a) (λ k. nameIs b (drop k s)) → Dec (i < length s) → nameIs (x ∷ (a ++ b)) (drop i s) ≡ followed (cond (ltb i (length s)) (cond (eqb (getD s i 0) 0x22) none (cond (eqb (codeOf (drop i s)) x) (behindAt s (i + wide) a) none)) none) (λ k. nameIs b (drop k s))
+    of z (yes h) = name-next s i x (a ++ b) h ∙ rw (lt-ltb i (length s) h) (by z (eqb (getD s i 0) 0x22) (eqb (codeOf (drop i s)) x))
+    of z (no h) = name-out s i x (a ++ b) (omega arith) ∙ rw (le-ltb i (length s) (omega arith)) refl
+
+pub name-whole : (s : List ℕ) (i : ℕ) (w : List ℕ) → nameIs w (drop i s) ≡ followed (behindAt s i w) (λ k. nameIs [] (drop k s))
+name-whole s i w = ap (λ (v : List ℕ). nameIs v (drop i s)) (sym (append-nil w)) ∙ name-parts s i w []
 
 -- ---- by the grammar
 

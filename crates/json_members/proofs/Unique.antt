@@ -2,6 +2,7 @@
 -- to, and the others are here. Assumes nothing.
 use mathlib.Core.Path.{_≡_, refl, sym, ap, subst, _∙_}
 use mathlib.Core.List.{List, [], _∷_}
+use mathlib.Core.Option.{Option}
 use Prim.Native.Nat.{ℕ}
 use native.Mathlib.Omega.{arith}
 use Rattle.json_grammar.specs.declared.scan.Read.{Read}
@@ -12,9 +13,11 @@ use Rattle.json_grammar.proofs.Unique.{skips-unique, lexes-unique, reads-unique
 use Rattle.json_read.specs.inner.Steps.{partPlace, Parts}
 use Rattle.json_read.specs.declared.value.Next.{Next}
 use Rattle.json_read.proofs.Unique.{part-unique}
-use Rattle.json_members.specs.inner.Bytes.{sized, sizeAt}
+use Rattle.json_members.specs.inner.Bytes.{placed, sized, sizeAt}
 use Rattle.json_members.specs.inner.Turns.{Turn, Turns, nameless, valueless, unparted, last, more}
 use Rattle.json_members.specs.declared.member.Member.{Member}
+use Rattle.json_members.specs.declared.name.Rest.{Rest}
+use Rattle.json_members.specs.declared.name.Rest.the-variants as B
 use Rattle.json_members.specs.declared.size.Size.{Size}
 use Rattle.json_members.specs.declared.size.Size.the-variants as S
 
@@ -27,6 +30,16 @@ size-unique l r q x y = of r q (x ∙ sym y)
     of (S.Is n) S.Absent e = let z : _≡_ {A = ℕ} 0 1 = cc in absurd (omega arith)
     of S.Absent (S.Is m) e = let z : _≡_ {A = ℕ} 0 1 = cc in absurd (omega arith)
     of S.Absent S.Absent e = refl
+
+-- of `behind`
+pub rest-unique : (o : Option ℕ) (r q : Rest) → placed r ≡ o → placed q ≡ o → r ≡ q
+rest-unique o r q x y = of r q (x ∙ sym y)
+  where
+    of : (r q : Rest) → placed r ≡ placed q → r ≡ q
+    of (B.From n) (B.From m) e = let h : n ≡ m = cc in ap B.From h
+    of (B.From n) B.Not e = let z : _≡_ {A = ℕ} 0 1 = cc in absurd (omega arith)
+    of B.Not (B.From m) e = let z : _≡_ {A = ℕ} 0 1 = cc in absurd (omega arith)
+    of B.Not B.Not e = refl
 
 -- ---- of `read_member`
 

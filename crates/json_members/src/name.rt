@@ -3,7 +3,7 @@ ghost use mathlib.Core.Path.{_≡_};
 ghost use Prim.Native.Nat.{_+_, _≤_, _<_};
 ghost use lib.ListN.{length, getD, drop};
 ghost use Rattle.json_members.specs.inner.Bytes as Bytes;
-ghost use Rattle.json_members.specs.inner.Bytes.{fourOf, codeOf, nameIs};
+ghost use Rattle.json_members.specs.inner.Bytes.{fourOf, codeOf, nameIs, behindAt, placed};
 
 fn hex_value(b: u8) -> usize
     ensures { λ r. ⌜ (r ≡ Bytes.hexValue b) × (r ≤ 255) ⌝ }
@@ -110,28 +110,46 @@ fn width(s: &[u8], at: usize) -> usize
     4
 }
 
-// Whether the name behind a quotation mark is w.
-pub fn name_is(s: &[u8], at: usize, w: &[u8]) -> bool
-    ensures { λ r. ⌜ r ≡ nameIs (now (w .entry)) (drop at (now (s .entry))) ⌝ }
+// Where a name goes on behind w, if it has it.
+pub enum Rest {
+    From(usize),
+    Not,
+}
+
+// The place behind w, where a name has it from `at` on.
+pub fn behind(s: &[u8], at: usize, w: &[u8]) -> Rest
+    ensures { λ r. ⌜ placed r ≡ behindAt (now (s .entry)) at (now (w .entry)) ⌝ }
 {
     let mut i = at;
     let mut j = 0usize;
     while j < w.len() {
         if s.len() <= i {
-            return false;
+            return Rest::Not;
         }
         if s[i] == b'"' {
-            return false;
+            return Rest::Not;
         }
         let x = w[j] as usize;
         if code(s, i) != x {
-            return false;
+            return Rest::Not;
         }
         i += width(s, i);
         j += 1;
     }
-    if s.len() <= i {
-        return false;
+    Rest::From(i)
+}
+
+// Whether the name behind a quotation mark is w.
+pub fn name_is(s: &[u8], at: usize, w: &[u8]) -> bool
+    ensures { λ r. ⌜ r ≡ nameIs (now (w .entry)) (drop at (now (s .entry))) ⌝ }
+{
+    match behind(s, at, w) {
+        Rest::From(i) => {
+            if s.len() <= i {
+                return false;
+            }
+            s[i] == b'"'
+        }
+        Rest::Not => false,
     }
-    s[i] == b'"'
 }

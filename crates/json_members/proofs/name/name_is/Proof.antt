@@ -1,88 +1,39 @@
 -- `name::name_is` meets its contract. Assumes nothing.
+use mathlib.Core.Path.{sym, _∙_, refl}
+use Rattle.json_members.proofs.Named.{name-whole, name-end, name-quote}
 use borrow.Author.Needs.{needs}
-use mathlib.Core.Path.{_≡_, refl, sym, _∙_}
-use Prim.Native.Nat.{_-_, _≤_}
-use native.Mathlib.Omega.{arith}
-use lib.ListN.{length, getD, drop}
-use borrow.Author.Tests.{eq-eqb, ne-eqb}
-use Rattle.json_members.specs.inner.Bytes.{nameIs}
-use Rattle.json_members.proofs.Named.{name-short, name-at, name-done, name-quote}
 use Rattle.json_members.proofs.name.name_is.Statement.{statement}
 use Rattle.json_members.proofs.name.name_is.Tie as tie
 
-abbrev Inv-loop : tie.InvT-loop
-Inv-loop s at w i₀ j₀ i j = (j ≤ length w) × (nameIs w (drop at s) ≡ nameIs (drop j w) (drop i s))
+behind-requires : tie.Need-behind-requires
+behind-requires c κs = search needs
 
-abbrev μ-loop : tie.MeasureT-loop
-μ-loop s at w i₀ j₀ i j = length w - j
+enum-known-i : tie.Need-enum-known-i
+enum-known-i c = search needs
 
-loop-holds : tie.Need-loop-holds Inv-loop μ-loop
-loop-holds c = (omega arith, refl)
+returns : tie.Need-returns
+returns c = let a = c .before .before .before .before .before .before .before .args in sym (name-whole (a .s .now) (a .at) (a .w .now) ∙ rw (← (c .before .before .before .before .behind .ensures), c .before .before .i .given .1) (name-end (a .s .now) _ (c .if1 .taken)))
 
-returns : tie.Need-returns Inv-loop μ-loop
-returns c = let l = c .before .before .loop in let s = c .before .before .before .before .before .args .s .now in let w = c .before .before .before .before .before .args .w .now in sym (l .inv .1 ∙ name-short w (l .j) s (l .i) (c .before .loop-test .taken) (c .if1 .taken))
-
-shared-slice-read-if2 : tie.Need-shared-slice-read-if2 Inv-loop μ-loop
-shared-slice-read-if2 c = search needs
-
-returns-2 : tie.Need-returns-2 Inv-loop μ-loop
-returns-2 c = let l = c .before .before .before .before .loop in let s = c .before .before .before .before .before .before .before .args .s .now in let w = c .before .before .before .before .before .before .before .args .w .now in sym (l .inv .1 ∙ name-at w (l .j) s (l .i) (c .before .before .before .loop-test .taken) (c .before .before .if1 .left) ∙ rw (eq-eqb (getD s (l .i) 0) 0x22 (c .if2 .taken)) refl)
-
-shared-slice-read-x : tie.Need-shared-slice-read-x Inv-loop μ-loop
-shared-slice-read-x c = search needs
-
-cast-x : tie.Need-cast-x Inv-loop μ-loop
-cast-x c = omega (arith, c .shared-slice-known4 .given (c .before .before .before .before .before .loop .j))
-
-code-requires : tie.Need-code-requires Inv-loop μ-loop
-code-requires c κs = search needs
-
-returns-3 : tie.Need-returns-3 Inv-loop μ-loop
-returns-3 c = let l = c .before .before .before .before .before .before .before .loop in let s = c .before .before .before .before .before .before .before .before .before .before .args .s .now in let w = c .before .before .before .before .before .before .before .before .before .before .args .w .now in sym (l .inv .1 ∙ name-at w (l .j) s (l .i) (c .before .before .before .before .before .before .loop-test .taken) (c .before .before .before .before .before .if1 .left) ∙ rw (ne-eqb (getD s (l .i) 0) 0x22 (c .before .before .before .if2 .left), ← c .before .code .ensures, ne-eqb (c .before .code .result) (getD w (l .j) 0) (c .if3 .taken)) refl)
-
-width-requires : tie.Need-width-requires Inv-loop μ-loop
-width-requires c κs = omega arith
-
-add-i : tie.Need-add-i Inv-loop μ-loop
-add-i c = omega arith
-
-add-j : tie.Need-add-j Inv-loop μ-loop
-add-j c = omega arith
-
-loop-less : tie.Need-loop-less Inv-loop μ-loop
-loop-less c = omega arith
-
-loop-again : tie.Need-loop-again Inv-loop μ-loop
-loop-again c = let l = c .before .before .before .before .before .before .before .before .loop in let s = c .before .before .before .before .before .before .before .before .before .before .before .args .s .now in let w = c .before .before .before .before .before .before .before .before .before .before .before .args .w .now in (omega arith, l .inv .1 ∙ name-at w (l .j) s (l .i) (c .before .before .before .before .before .before .before .loop-test .taken) (c .before .before .before .before .before .before .if1 .left) ∙ rw (ne-eqb (getD s (l .i) 0) 0x22 (c .before .before .before .before .if2 .left), ← c .before .before .code .ensures, eq-eqb (c .before .before .code .result) (getD w (l .j) 0) (c .before .if3 .left), c .width .ensures .0) refl)
-
-returns-4 : tie.Need-returns-4 Inv-loop μ-loop
-returns-4 c = let l = c .before .before .loop in let s = c .before .before .before .before .before .args .s .now in let w = c .before .before .before .before .before .args .w .now in sym (l .inv .1 ∙ name-done w (l .j) s (l .i) (c .before .loop-test .left) (c .if4 .taken))
-
-shared-slice-read-result : tie.Need-shared-slice-read-result Inv-loop μ-loop
+shared-slice-read-result : tie.Need-shared-slice-read-result
 shared-slice-read-result c = search needs
 
-returns-5 : tie.Need-returns-5 Inv-loop μ-loop
-returns-5 c = let l = c .before .before .before .loop in let s = c .before .before .before .before .before .before .args .s .now in let w = c .before .before .before .before .before .before .args .w .now in sym (l .inv .1 ∙ name-quote w (l .j) s (l .i) (c .before .before .loop-test .left) (c .before .if4 .left))
+enum-told : tie.Need-enum-told
+enum-told c = search needs
+
+returns-2 : tie.Need-returns-2
+returns-2 c = let a = c .before .before .before .before .before .before .before .before .args in sym (name-whole (a .s .now) (a .at) (a .w .now) ∙ rw (← (c .before .before .before .before .before .behind .ensures), c .before .before .before .i .given .1) (name-quote (a .s .now) _ (c .before .if1 .left)))
+
+returns-3 : tie.Need-returns-3
+returns-3 c = let a = c .before .before .before .before .before .args in sym (name-whole (a .s .now) (a .at) (a .w .now) ∙ rw (← (c .before .before .behind .ensures), c .enum-told .given .1) refl)
 
 pub name-is-spec : {M : Type 1} → statement M
 name-is-spec =
     tie.close
     (tie.spec
-    Inv-loop
-    μ-loop
-    loop-holds
+    behind-requires
+    enum-known-i
     returns
-    shared-slice-read-if2
-    returns-2
-    shared-slice-read-x
-    cast-x
-    code-requires
-    returns-3
-    width-requires
-    add-i
-    add-j
-    loop-less
-    loop-again
-    returns-4
     shared-slice-read-result
-    returns-5)
+    enum-told
+    returns-2
+    returns-3)
