@@ -9,3 +9,4 @@ pub mod Verdict
 pub mod Steps
 pub mod Lexing
 pub mod Unique
+pub mod Answers

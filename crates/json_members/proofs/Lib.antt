@@ -3,3 +3,4 @@ pub mod Named
 pub mod Finding
 pub mod Sizing
 pub mod Unique
+pub mod Plain

@@ -1,0 +1,5 @@
+pub mod Listed
+pub mod Ascii
+pub mod Walking
+pub mod Told
+pub mod Heads
