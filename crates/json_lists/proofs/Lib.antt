@@ -1,0 +1,4 @@
+pub mod Counted
+pub mod Listing
+pub mod Turns
+pub mod Unique
