@@ -1,0 +1,4 @@
+pub mod Turns
+pub mod Laws
+pub mod Examples
+pub mod Unique
