@@ -16,7 +16,7 @@ use Rattle.json_members.specs.Names.{word}
 use Rattle.json_members.specs.inner.Bytes.{codeOf, widthOf, behindAt, followed}
 use Rattle.json_members.proofs.Named.{name-parts}
 use Rattle.tensor_header.specs.Tensors.{Tensor, lastDigits, decimal, inLayer, tensorsOf, embeddingTensors, layerTensors, projectorTensors, tensors}
-use Rattle.tensor_header.specs.Header.{little, headerLength}
+use Rattle.tensor_header.specs.Header.{headerLength}
 use Rattle.tensor_header.specs.inner.Named.{names, namedAt, embeddingNames, partNames, projectorNames, restIs}
 
 -- ---- layers have at most two digits
@@ -161,7 +161,6 @@ module _ (s : EncoderSettings) where
 pub eight-bytes :
     (l : List ℕ) → 8 ≤ length l →
     headerLength l ≡ getD l 0 0 + 256 * (getD l 1 0 + 256 * (getD l 2 0 + 256 * getD l 3 0)) + 4294967296 * (getD l 4 0 + 256 * (getD l 5 0 + 256 * (getD l 6 0 + 256 * getD l 7 0)))
-unfolding little
 eight-bytes (a ∷ (b ∷ (c ∷ (d ∷ (e ∷ (f ∷ (g ∷ (h ∷ l)))))))) k = omega arith
 eight-bytes [] k = absurd (omega arith)
 eight-bytes (a ∷ []) k = absurd (omega arith)

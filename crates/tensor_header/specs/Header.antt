@@ -2,13 +2,14 @@
 -- it is opened, and where the header has the tensors that are asked for. Assumes nothing.
 use mathlib.Core.Path.{_≡_}
 use mathlib.Core.Bool.{Bool, true, false, cond, _&&_}
-use mathlib.Core.List.{List, [], _∷_}
+use mathlib.Core.List.{List}
 use mathlib.Core.Option.{Option, none, some}
-use Prim.Native.Nat.{ℕ, _+_, _-_, _*_}
+use Prim.Native.Nat.{ℕ, _+_, _-_}
 use lib.Dec.{leb}
 use lib.ListN.{length, take, drop}
 use Rattle.buffers.specs.Rows.{tab}
 use Rattle.buffers.specs.Region.{region}
+use Rattle.tensor_values.specs.Values.{little}
 use Rattle.json_grammar.specs.Grammar as G
 use Rattle.json_grammar.specs.Grammar.{Value, Text, text}
 use Rattle.json_grammar.specs.Judge.{Stopped, Deepened}
@@ -22,11 +23,6 @@ use Rattle.tensor_header.specs.declared.Opened.{Opened}
 use Rattle.tensor_header.specs.declared.Opened.the-variants.{Open, Refused}
 
 -- ---- the file's parts
-
--- bytes as a number, the lowest first
-unfoldable pub little : List ℕ → ℕ
-little [] = 0
-little (b ∷ l) = b + 256 * little l
 
 abbrev pub headerLength : List ℕ → ℕ
 headerLength file = little (take 8 file)

@@ -77,3 +77,9 @@ unfoldable pub entryAt : List Tensor → List Entry → ℕ → Option Entry
 entryAt [] es i = none
 entryAt (t ∷ ts) es zero = lookup (t .name) es
 entryAt (t ∷ ts) es (suc i) = entryAt ts es i
+
+-- how many floats tensor i has
+unfoldable pub countAt : List Tensor → ℕ → ℕ
+countAt [] i = 0
+countAt (t ∷ ts) zero = t .count
+countAt (t ∷ ts) (suc i) = countAt ts i
