@@ -1,4 +1,7 @@
 // Weights from a safetensors file, in the order of the weights' table.
+mod entry;
+mod test;
+
 use picture_limits::Refusal;
 
 // How many floats were read; or why the file is refused, at which tensor, of which the first is 1 and 0 is none, and at which
