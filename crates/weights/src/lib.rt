@@ -1,4 +1,5 @@
 // Weights from a safetensors file, in the order of the weights' table.
+mod counts;
 mod entry;
 mod test;
 
