@@ -1,2 +1,4 @@
 pub mod Entries
 pub mod Sums
+pub mod Tried
+pub mod Answers

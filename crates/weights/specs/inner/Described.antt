@@ -3,7 +3,7 @@ use mathlib.Core.Path.{_≡_}
 use mathlib.Core.Bool.{Bool, true, false, cond, not, _&&_}
 use mathlib.Core.List.{List}
 use mathlib.Core.Option.{Option, none, some}
-use Prim.Native.Nat.{ℕ, _-_, _*_, _≤_, _<_}
+use Prim.Native.Nat.{ℕ, suc, _+_, _-_, _*_, _≤_, _<_}
 use lib.Dec.{eqb, leb}
 use lib.ListN.{length, getD}
 use Rattle.buffers.specs.Rows.{first}
@@ -17,7 +17,9 @@ use Rattle.tensor_values.specs.declared.Kind.{Kind}
 use Rattle.tensor_values.specs.Values.{sizeOf}
 use Rattle.tensor_header.specs.Tensors.{tensors, entryAt, countAt}
 use Rattle.weights.specs.File.{stringIn, sizesIn, Found, missing, damaged, described, foundIn, kindOf, isDamaged, isOther, isMisplaced, judged}
+use Rattle.picture_limits.specs.declared.Refusal.{Refusal}
 use Rattle.weights.specs.declared.Weighed.{Weighed}
+use Rattle.weights.specs.declared.Weighed.the-variants as W
 use Rattle.weights.specs.declared.test.Test.{Test}
 use Rattle.weights.specs.declared.test.Test.the-variants as T
 use Rattle.weights.specs.declared.entry.Dtype.{Dtype}
@@ -112,3 +114,7 @@ pub record Firsts (s : EncoderSettings) (h places : List ℕ) (test : Test) (byt
 -- the answer for a header
 pub record Judges (s : EncoderSettings) (h places : List ℕ) (bytes room : ℕ) (r : Weighed) : Type 0 where
   pub is : (es : List Entry) → Holds s h places es → r ≡ judged s h es bytes room
+
+-- a refusal at tensor i, whose entry's value stands at a place of the header; 0 is none
+abbrev pub refusedAt : Refusal → ℕ → ℕ → Weighed
+refusedAt why n i = W.Refused why (suc i) (cond (eqb n 0) 0 (8 + n))
