@@ -2,3 +2,4 @@ pub mod Entries
 pub mod Sums
 pub mod Tried
 pub mod Answers
+pub mod Filling

@@ -1,2 +1,3 @@
 pub mod Described
 pub mod Sums
+pub mod Filled

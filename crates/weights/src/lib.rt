@@ -1,6 +1,7 @@
 // Weights from a safetensors file, in the order of the weights' table.
 mod counts;
 mod entry;
+mod fill;
 mod judge;
 mod test;
 
