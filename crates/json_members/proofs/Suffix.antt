@@ -39,7 +39,7 @@ drop-suffix {r = r} (step {b = b} {l = l} s) = rw (suc-of s) (drop-suffix s)
 range-s : {a b : ℕ} {l r : List ℕ} → Range a b l r → Suffix l r
 range-s (G.byte h k) = step all
 
-ws-s : {l r : List ℕ} → Ws l r → Suffix l r
+pub ws-s : {l r : List ℕ} → Ws l r → Suffix l r
 ws-s G.unspaced = all
 ws-s (G.space w) = step (ws-s w)
 ws-s (G.tab w) = step (ws-s w)

@@ -3,3 +3,4 @@ pub mod Ascii
 pub mod Walking
 pub mod Told
 pub mod Heads
+pub mod Unique

@@ -29,7 +29,7 @@ use Rattle.tensor_header.proofs.Ascii.{names-ascii}
 
 -- ---- entries
 
-entry-is : (ts : List Tensor) (es : List Entry) (i : ℕ) → i < length (names ts) → entryAt ts es i ≡ lookup (nameAt (names ts) i) es
+pub entry-is : (ts : List Tensor) (es : List Entry) (i : ℕ) → i < length (names ts) → entryAt ts es i ≡ lookup (nameAt (names ts) i) es
 unfolding entryAt
 entry-is [] es i h = absurd (omega arith)
 entry-is (t ∷ ts) es zero h = refl
@@ -40,6 +40,10 @@ unfolding entryAt
 entry-none [] es i h = refl
 entry-none (t ∷ ts) es zero h = absurd (omega arith)
 entry-none (t ∷ ts) es (suc i) h = entry-none ts es i (omega arith)
+
+pub names-long : (ts : List Tensor) → length (names ts) ≡ length ts
+names-long [] = refl
+names-long (t ∷ ts) = ap suc (names-long ts)
 
 pub place-is : (h : List ℕ) (o : Option Entry) → placeOf h o ≡ placeIn h o
 unfolding placeOf placeIn

@@ -1,13 +1,13 @@
 -- The answer by the first tensors at which a test passes. Assumes nothing.
 use mathlib.Core.Path.{_≡_, refl, sym, ap, _∙_}
-use mathlib.Core.Bool.{Bool, cond}
+use mathlib.Core.Bool.{Bool, true, false, cond}
 use mathlib.Core.List.{List}
 use mathlib.Core.Option.{Option, none, some}
-use Prim.Native.Nat.{ℕ, suc, _+_, _-_, _≤_, _<_}
+use Prim.Native.Nat.{ℕ, zero, suc, _+_, _-_, _≤_, _<_}
 use native.Mathlib.Omega.{arith}
 use lib.Dec.{eqb, ltb}
 use lib.ListN.{length, getD}
-use borrow.Author.Tests.{lt-ltb, le-ltb, ne-eqb}
+use borrow.Author.Tests.{lt-ltb, le-ltb, ltb-false, ne-eqb}
 use Rattle.buffers.specs.Rows.{first}
 use Rattle.json_members.specs.Names.{Entry}
 use Rattle.json_members.specs.inner.Turns as J
@@ -21,6 +21,7 @@ use Rattle.tensor_header.specs.Header.{placeIn}
 use Rattle.tensor_header.proofs.Told.{place-is}
 use Rattle.weights.specs.File.{foundIn, firstly, placeOf, at, judged}
 use Rattle.weights.specs.inner.Described.{failing, refusedAt, Holds}
+use Rattle.weights.specs.inner.Filled.{AllGood}
 use Rattle.weights.specs.declared.Weighed.{Weighed}
 use Rattle.weights.specs.declared.Weighed.the-variants.{Floats, Refused}
 use Rattle.weights.specs.declared.test.Test.{Test}
@@ -34,6 +35,27 @@ module _ (n : ℕ) (f : ℕ → Bool) (g : ℕ → Weighed) (rest : Weighed) (i 
 
   firstly-past : n ≤ i → rest ≡ firstly n f g rest
   firstly-past h = rw (← e, le-ltb i n h)
+
+-- where the answer is no refusal, no test passes
+first-fails : (n : ℕ) (f : ℕ → Bool) → n ≤ first n f → (j : ℕ) → j < n → f j ≡ false
+unfolding first
+first-fails zero f h j x = absurd (omega arith)
+first-fails (suc n) f h j x = of (f zero) refl h j x (λ k i y. first-fails n (λ i. f (suc i)) k i y)
+  where
+    of : (t : Bool) → f zero ≡ t → suc n ≤ cond t zero (suc (first n (λ i. f (suc i)))) → (j : ℕ) → j < suc n → (n ≤ first n (λ i. f (suc i)) → (i : ℕ) → i < n → f (suc i) ≡ false) → f j ≡ false
+    of true e k i y g = absurd (omega arith)
+    of false e k zero y g = e
+    of false e k (suc i) y g = g (omega arith) i (omega arith)
+
+no-floats : (why : Refusal) (i p m : ℕ) → Refused why i p ≡ Floats m → ⊥
+no-floats why i p m e = let z : _≡_ {A = ℕ} 0 1 = cc in omega arith
+
+firstly-floats : (n : ℕ) (f : ℕ → Bool) (why : Refusal) (h : List ℕ) (entry : ℕ → Option Entry) (rest : Weighed) (m : ℕ) → firstly n f (at why h entry) rest ≡ Floats m → ((j : ℕ) → j < n → f j ≡ false) × (rest ≡ Floats m)
+firstly-floats n f why h entry rest m e = of (ltb (first n f) n) refl e
+  where
+    of : (t : Bool) → ltb (first n f) n ≡ t → cond t (at why h entry (first n f)) rest ≡ Floats m → ((j : ℕ) → j < n → f j ≡ false) × (rest ≡ Floats m)
+    of true k x = absurd (no-floats why _ _ m x)
+    of false k x = (first-fails n f (ltb-false (first n f) n k), x)
 
 -- ---- places
 
@@ -100,3 +122,16 @@ module _ (s : EncoderSettings) (h places : List ℕ) (es : List Entry) (o : Hold
 
         pub is-0 : weightFloats s ≤ room → Floats (weightFloats s) ≡ judged s h es bytes room
         is-0 x = rw (← from-last, le-ltb room (weightFloats s) x) refl
+
+  -- every tensor passes, and there is room
+  pub all-good : (m : ℕ) → judged s h es bytes room ≡ Floats m → AllGood s es bytes × (weightFloats s ≤ room)
+  all-good m e =
+      let n = length (tensors s) in
+      let a = firstly-floats n (passes T.Damaged) Header h (entryAt (tensors s) es) second m (all-is ∙ e) in
+      let b = firstly-floats n (passes T.Other) Tensor h (entryAt (tensors s) es) third m (a .1) in
+      let c = firstly-floats n (passes T.Misplaced) Offsets h (entryAt (tensors s) es) last m (b .1) in
+      (λ i x. record { damaged = a .0 i x; other = b .0 i x; misplaced = c .0 i x }, roomy (ltb room (weightFloats s)) refl (c .1))
+    where
+      roomy : (t : Bool) → ltb room (weightFloats s) ≡ t → cond t (Refused Output 0 0) (Floats (weightFloats s)) ≡ Floats m → weightFloats s ≤ room
+      roomy true k x = absurd (no-floats Output 0 0 m x)
+      roomy false k x = ltb-false room (weightFloats s) k

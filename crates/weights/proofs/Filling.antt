@@ -28,6 +28,7 @@ use Rattle.weights.specs.File.{Found, missing, damaged, described, found
 use Rattle.weights.specs.inner.Described.{summaryBy, summary}
 use Rattle.weights.specs.inner.Sums.{sumTo}
 use Rattle.weights.specs.inner.Filled.{PutsOne, Good, Fills, AllGood}
+use Rattle.weights.proofs.Sums.{sum-is}
 use Rattle.weights.specs.declared.entry.Described.{Described}
 use Rattle.weights.specs.declared.entry.Described.the-variants as D
 
@@ -134,3 +135,7 @@ module _ (s : EncoderSettings) (es : List Entry) (bytes : List ℕ) (g : AllGood
   unfolding rows
   one-more out now after n at h e q r =
       r ∙ ap (λ (l : List ℕ). put l at (floatsAt n)) q ∙ put-append out 0 (rows n floatsAt) (floatsAt n) at (e ∙ sym (rows-long n (omega arith)) ∙ sym (zero-add (length (rows n floatsAt)))) ∙ ap (λ (k : ℕ). put out 0 (rows k floatsAt)) (sym (add-one n))
+
+  pub weights-over : allowed s ≡ true → (out : List ℕ) → weightFloats s ≤ length out → put out 0 (weightsIn s es bytes) ≡ over (weightsIn s es bytes) out
+  unfolding weightsIn
+  weights-over a out h = put-over out (rows (length (tensors s)) floatsAt) (rw (rows-long (length (tensors s)) (omega arith), sum-is s a) h)

@@ -3,3 +3,4 @@ pub mod Sums
 pub mod Tried
 pub mod Answers
 pub mod Filling
+pub mod Weighs

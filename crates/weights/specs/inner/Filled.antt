@@ -12,8 +12,9 @@ use Rattle.encoder_settings.specs.Settings.{weightFloats}
 use Rattle.tensor_values.specs.declared.Kind.{Kind}
 use Rattle.tensor_values.specs.Values.{valuesOf}
 use Rattle.tensor_header.specs.Tensors.{tensors, entryAt, countAt}
-use Rattle.weights.specs.File.{Found, foundIn, isDamaged, isOther, isMisplaced, floatsIn, weightsIn}
+use Rattle.weights.specs.File.{Found, foundIn, isDamaged, isOther, isMisplaced, floatsIn, weightsIn, judged, leftBy}
 use Rattle.weights.specs.inner.Described.{summary, Holds}
+use Rattle.weights.specs.declared.Weighed.{Weighed}
 use Rattle.weights.specs.declared.entry.Described.{Described}
 
 pub record PutsOne (k : Kind) (bytes : List ℕ) (at count : ℕ) (before after : List ℕ) : Type 0 where
@@ -34,3 +35,7 @@ AllGood s es bytes = (i : ℕ) → i < length (tensors s) → Good bytes (countA
 
 pub record FillsAll (s : EncoderSettings) (h bytes places before after : List ℕ) : Type 0 where
   pub is : (es : List Entry) → Holds s h places es → AllGood s es (length bytes) → weightFloats s ≤ length before → after ≡ put before 0 (weightsIn s es bytes)
+
+-- by a header h, whose entries es stand at the places, and the data behind it
+pub record Reads (s : EncoderSettings) (h bytes places before after : List ℕ) (r : Weighed) : Type 0 where
+  pub is : (es : List Entry) → Holds s h places es → (r ≡ judged s h es (length bytes) (length before)) × (after ≡ leftBy (judged s h es (length bytes) (length before)) (weightsIn s es bytes) before)
