@@ -1,0 +1,11 @@
+pub mod Texts
+pub mod Entries
+pub mod Found
+pub mod Tiles
+pub mod Answers
+pub mod Frames
+pub mod Names
+pub mod Sums
+pub mod Lengths
+pub mod Back
+pub mod Examples

@@ -1,0 +1,2 @@
+pub mod Plainest
+pub mod Back
