@@ -16,13 +16,15 @@ use Rattle.face_encoder.specs.Reports.{forwardReport, lengthsReport}
 use Rattle.face_picture.specs.Reports.{preprocessReport, restoreReport, salvageReport, placeOf}
 use Rattle.face_settings.specs.Settings.{inner, innerEncoder}
 use Rattle.face_tiles.specs.Reports.{cutReport, tileReport}
-use Rattle.kyzgultam.specs.Face.{poolReport, poolPlace, configReport, ConfigReports}
+use Rattle.kyzgultam.specs.Face.{poolReport, poolPlace, configReport, ConfigReports, weightsReport, WeightsReports}
 use Rattle.encoder_settings.specs.Lengths.{neededOf}
 use Rattle.encoder.specs.Forward.{encodedOf, outOf, scratchOf}
 use Rattle.encoder.specs.Axes.{encodedAxes, outAxes, scratchAxes}
 use Rattle.encoder.specs.Plain.{encodedPlain, outPlain, scratchPlain}
 use Rattle.config.proofs.Unique.{config-unique}
+use Rattle.weights.proofs.Unique.{weights-unique}
 use Rattle.kyzgultam.specs.declared.config_file.ConfigReport.{ConfigReport}
+use Rattle.kyzgultam.specs.declared.weights_file.WeightsReport.{WeightsReport}
 use Rattle.face_settings.specs.declared.EncoderSettings.{EncoderSettings}
 use Rattle.face_encoder.specs.declared.ForwardReport.{ForwardReport}
 use Rattle.face_encoder.specs.declared.LengthsReport.{LengthsReport}
@@ -65,6 +67,9 @@ kz-salvage-unique s patches gh gw out list r r′ out′ out″ list′ list″ 
 
 pub kz-config-unique : (lent : EncoderSettings) (s : List ℕ) (r r′ : ConfigReport) → ConfigReports (innerEncoder lent) s r → ConfigReports (innerEncoder lent) s r′ → r ≡ r′
 kz-config-unique lent s r r′ a b = a .2 ∙ ap configReport (config-unique (innerEncoder lent) s (a .0) (b .0) (a .1) (b .1)) ∙ sym (b .2)
+
+pub kz-weights-unique : (s : EncoderSettings) (file out after also : List ℕ) (r r′ : WeightsReport) → WeightsReports (innerEncoder s) file out after r → WeightsReports (innerEncoder s) file out also r′ → (r ≡ r′) × (after ≡ also)
+kz-weights-unique s file out after also r r′ a b = let e = weights-unique (innerEncoder s) file out after also (a .0) (b .0) (a .1) (b .1) in (a .2 ∙ ap weightsReport (e .0) ∙ sym (b .2), e .1)
 
 pub kz-cut-unique : (s : PictureSettings) (height width : ℕ) (r r′ : CutReport) → r ≡ cutReport (Tile.cutOf (inner s) height width) → r′ ≡ cutReport (Tile.cutOf (inner s) height width) → r ≡ r′
 kz-cut-unique s height width r r′ = one _

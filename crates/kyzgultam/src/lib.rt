@@ -1,11 +1,12 @@
 // The C face: each call under its name in C. Those on pictures, tiles and patches are handed on to `face_picture`, `face_tiles`
-// and `face_encoder`, which turn settings and answers; those on pools and on config.json are turned here.
+// and `face_encoder`, which turn settings and answers; those on pools, on config.json and on safetensors files are turned here.
 pub mod axes;
 pub mod config_file;
 pub mod plain;
 pub mod pools;
 pub mod salvage;
 pub mod tiles;
+pub mod weights_file;
 
 use face_encoder::ForwardReport;
 use face_encoder::LengthsReport;

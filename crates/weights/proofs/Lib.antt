@@ -4,3 +4,4 @@ pub mod Tried
 pub mod Answers
 pub mod Filling
 pub mod Weighs
+pub mod Unique

@@ -171,3 +171,17 @@ pub record Weighing (s : EncoderSettings) (file out after : List ℕ) (r : Weigh
 abbrev pub numberOf : Weighed → ℕ
 numberOf (Floats n) = 0
 numberOf (Refused why i n) = R.number why
+
+-- how many floats: 0 of a refusal
+abbrev pub floatsOf : Weighed → ℕ
+floatsOf (Floats n) = n
+floatsOf (Refused why i n) = 0
+
+-- the tensor and the byte of a refusal
+abbrev pub tensorOf : Weighed → ℕ
+tensorOf (Floats n) = 0
+tensorOf (Refused why i n) = i
+
+abbrev pub placeAt : Weighed → ℕ
+placeAt (Floats n) = 0
+placeAt (Refused why i n) = n
