@@ -43,6 +43,9 @@ enum kz_number {
     KZ_CONFIG_TEXT = 13,   /* the text is above 64 KiB, or no RFC 8259 text agrees with a byte of it, or with its end */
     KZ_CONFIG_DEPTH = 14,  /* a bracket of the text opens level 33 */
     KZ_CONFIG_VISION = 15, /* the text has no vision_config, or zero heads in it */
+    KZ_HEADER = 16,        /* a safetensors file's header is damaged: what is stands with kz_weights */
+    KZ_TENSOR = 17,        /* a tensor is missing, or of another dtype or count */
+    KZ_OFFSETS = 18,       /* a tensor's offsets fall, pass the end of the data, or are of another length */
     KZ_CHANNEL = 19,       /* a channel's mean and deviation are not allowed: what is stands with the fields */
     KZ_TILE = 20,          /* a tile's index is outside the cut */
     KZ_LIST = 21,          /* there are more bad samples than the list has entries */
@@ -273,6 +276,40 @@ struct kz_config_report {
  * Settings that are given pass as settings of kz_forward: 1 is examined here. Refused with 13, 14, 15, 1.
  */
 struct kz_config_report kz_config(struct kz_encoder_settings lent, const uint8_t *text, size_t text_len);
+
+struct kz_weights_report {
+    uint32_t number;
+    size_t floats; /* written to the weights */
+    size_t tensor; /* the one that is at fault, counted from 1 in the order of the weights, or 0 */
+    size_t place;  /* the byte of the file that is at fault, counted from 0, or 0 where there is none */
+};
+
+/*
+ * The weights of kz_forward out of a safetensors file, whose bytes are lent as they are: eight bytes that say, little-
+ * endian, how long the header is, the header, the data. The tensors asked for, in the order of the weights:
+ *     vision_tower.patch_conv.weight, vision_tower.ln_pre.weight; for each layer N, from 0 on, with
+ *     vision_tower.transformer.layers.N. before it: attention_norm.weight, attention.q_proj.weight,
+ *     attention.k_proj.weight, attention.v_proj.weight, attention.o_proj.weight, ffn_norm.weight,
+ *     feed_forward.gate_proj.weight, feed_forward.up_proj.weight, feed_forward.down_proj.weight; then, with
+ *     multi_modal_projector. before it: norm.weight, patch_merger.merging_layer.weight, linear_1.weight,
+ *     linear_1.bias, linear_2.weight, linear_2.bias; the two biases only with a projector_bias of 1.
+ * Each is of dtype F32, BF16 or F16, and is widened to floats: F32 as its bits, BF16 as the upper half of them, F16 as
+ * by kz_half. A NaN keeps its bits, and kz_forward then refuses it with 12. Every other entry of the header is skipped,
+ * whatever it holds; tensors may overlap, and lie in any order with anything between them and behind them. Names, keys
+ * and dtypes are compared after their escapes are read, and of two alike the last counts, in an entry too.
+ * Refused with 1, 16, 17, 18, 5, each over all tensors before the next:
+ * 16 where the file is below 8 bytes or the header passes its end (place 0); where the header, whatever stands before
+ *    and behind it but blanks too, is no RFC 8259 text of at most 32 levels (the place at which kz_config would refuse
+ *    it, counted from the file's start) or no object (the place of its value); and where an entry asked for is no
+ *    object, its dtype no string, its shape no list of plain digits, or its data_offsets no list of just two, each of
+ *    at most 2^64 - 1 (the place of the entry's value, as with 17 and 18);
+ * 17 where a tensor is missing (place 0), its dtype another, or the product of its shape, 1 for [], not its count;
+ * 18 where its first offset is above the second, the second above the length of the data, or the two are not as far
+ *    apart as its bytes are many; offsets are counted from the data's start;
+ *  5 where the weights have fewer floats than the settings ask for (kz_lengths).
+ */
+struct kz_weights_report kz_weights(struct kz_encoder_settings settings, const uint8_t *file, size_t file_len,
+                                    float *weights, size_t weights_len);
 
 /* A key that a pool holds, and where its vectors stand in the slice. */
 struct kz_held {

@@ -121,6 +121,14 @@ pub struct ConfigReport {
 }
 
 #[repr(C)]
+pub struct WeightsReport {
+    pub number: u32,
+    pub floats: usize,
+    pub tensor: usize,
+    pub place: usize,
+}
+
+#[repr(C)]
 #[derive(Clone, Copy)]
 pub struct Held {
     pub key: u64,
@@ -269,6 +277,14 @@ extern "C" {
     pub fn kz_lengths(settings: EncoderSettings, grid_h: usize, grid_w: usize) -> LengthsReport;
 
     pub fn kz_config(lent: EncoderSettings, text: *const u8, text_len: usize) -> ConfigReport;
+
+    pub fn kz_weights(
+        settings: EncoderSettings,
+        file: *const u8,
+        file_len: usize,
+        weights: *mut f32,
+        weights_len: usize,
+    ) -> WeightsReport;
 
     pub fn kz_pool_new(len: usize) -> Pool;
 

@@ -11,7 +11,7 @@
 //! [`preprocess_tile`] and [`restore_tile`]. Patches that [`restore`] refuses for damaged samples, [`salvage`] brings
 //! back without these, and lists them. [`forward`] takes the Rust's rotary tables, [`forward_axes`] small ones;
 //! [`forward_plain`] is [`forward`] with attention in the source's form, for up to 64 tokens. [`config`] reads settings
-//! from a config.json. A [`Pool`] keeps the token vectors of up to 64 sweeps, to compare a new one with.
+//! from a config.json, [`weights`] the weights from a safetensors file. A [`Pool`] keeps the token vectors of up to 64 sweeps, to compare a new one with.
 //!
 //! ```
 //! use kyzgultam::{forward_axes, pixtral_preprocess, restore, rope_axes, EncoderSettings, PictureSettings};
@@ -64,6 +64,7 @@ mod rope;
 mod salvage;
 mod settings;
 mod tiles;
+mod weights;
 
 pub use calls::{forward, forward_axes, forward_plain, patch, pixtral_preprocess, restore};
 pub use calls::{Patches, Picture, PixtralEncoder};
@@ -76,6 +77,7 @@ pub use rope::{rope_axes, RopeAxes};
 pub use salvage::{salvage, BadSample, Salvaged};
 pub use settings::{EncoderSettings, Lengths, PictureSettings};
 pub use tiles::{cut, preprocess_tile, restore_tile, Cut, Tile};
+pub use weights::{tensor_names, weights, WeightsRefusal};
 
 /// `KZ_VERSION` of the header: where two differ in the first or the second number, an answer may have other bits.
 pub const VERSION: &str = env!("CARGO_PKG_VERSION");

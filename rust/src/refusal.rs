@@ -47,6 +47,13 @@ pub enum Refusal {
     ConfigDepth = 14,
     /// 15: a config.json has no vision_config, or zero heads in it.
     ConfigVision = 15,
+    /// 16: a safetensors file is below 8 bytes or shorter than its header, its header no object of RFC 8259 with at most 32
+    /// levels, or an entry asked for has no dtype, shape and two offsets.
+    Header = 16,
+    /// 17: a tensor is missing, of a dtype that is none of F32, BF16 and F16, or of another count.
+    Tensor = 17,
+    /// 18: a tensor's offsets fall, pass the end of the data, or are of another length.
+    Offsets = 18,
     /// 19: by its mean and deviation a channel's 256 samples are not all finite, or neither strictly rise nor strictly
     /// fall.
     Channel = 19,
@@ -70,7 +77,7 @@ pub enum Refusal {
 
 impl Refusal {
     /// Every refusal, by number.
-    pub const ALL: [Refusal; 24] = [
+    pub const ALL: [Refusal; 27] = [
         Refusal::Setting,
         Refusal::Side,
         Refusal::RgbLength,
@@ -86,6 +93,9 @@ impl Refusal {
         Refusal::ConfigText,
         Refusal::ConfigDepth,
         Refusal::ConfigVision,
+        Refusal::Header,
+        Refusal::Tensor,
+        Refusal::Offsets,
         Refusal::Channel,
         Refusal::Tile,
         Refusal::List,
@@ -97,7 +107,7 @@ impl Refusal {
         Refusal::PoolSlice,
     ];
 
-    /// The number, the same as in C and in the documents: 1 to 15, and 19 to 27.
+    /// The number, the same as in C and in the documents: 1 to 27.
     pub fn number(self) -> u32 {
         self as u32
     }
@@ -135,6 +145,11 @@ impl fmt::Display for Refusal {
             Refusal::ConfigText => "the config is above 64 KiB, or it is no JSON text",
             Refusal::ConfigDepth => "more than 32 brackets of the config are open within one another",
             Refusal::ConfigVision => "the config has no vision_config, or zero heads in it",
+            Refusal::Header => {
+                "the file is no safetensors file, or an entry of its header that is asked for is damaged"
+            }
+            Refusal::Tensor => "a tensor is missing, or has another dtype or another count of values",
+            Refusal::Offsets => "a tensor's offsets fall, pass the end of the data, or do not fit its count of values",
             Refusal::Channel => "a channel's samples are not all finite, or neither strictly rise nor strictly fall",
             Refusal::Tile => "the tile's index is outside the cut of the sweep",
             Refusal::List => "there are more bad samples than the list has entries",
@@ -163,8 +178,8 @@ mod tests {
     }
 
     #[test]
-    #[should_panic(expected = "the archives answer 16: they are of another version")]
-    fn a_number_between_two_is_none() {
-        let _ = Refusal::check(16);
+    #[should_panic(expected = "the archives answer 28: they are of another version")]
+    fn a_number_behind_the_last_is_none() {
+        let _ = Refusal::check(28);
     }
 }

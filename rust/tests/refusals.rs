@@ -44,10 +44,7 @@ fn each<C: Clone>(good: &C, spoils: Spoils<C>, run: fn(&C) -> Result<(), Refusal
 
 #[test]
 fn numbers_and_sentences() {
-    assert_eq!(
-        Refusal::ALL.map(Refusal::number),
-        [1, 2, 3, 4, 5, 6, 7, 8, 9, 10, 11, 12, 13, 14, 15, 19, 20, 21, 22, 23, 24, 25, 26, 27]
-    );
+    assert_eq!(Refusal::ALL.map(Refusal::number), std::array::from_fn(|i| i as u32 + 1));
     for (i, refusal) in Refusal::ALL.iter().enumerate() {
         let sentence = refusal.to_string();
         assert!(sentence.len() > 20 && !sentence.ends_with('.'), "{sentence}");

@@ -1139,6 +1139,120 @@ static void config(void) {
     }
 }
 
+/* The tensors of a model of hidden 4, one layer, intermediate 1 and text 2 with bias; patch, merge 1. */
+static const struct kz_encoder_settings small_model = {KZ_PICTURE_SETTINGS(1, 1, 8), 4, 1, 4, 1, 1, 2, 1, 0.5f};
+
+static const struct {
+    const char *name;
+    size_t count;
+} asked[] = {
+    {"vision_tower.patch_conv.weight", 12},
+    {"vision_tower.ln_pre.weight", 4},
+    {"vision_tower.transformer.layers.0.attention_norm.weight", 4},
+    {"vision_tower.transformer.layers.0.attention.q_proj.weight", 16},
+    {"vision_tower.transformer.layers.0.attention.k_proj.weight", 16},
+    {"vision_tower.transformer.layers.0.attention.v_proj.weight", 16},
+    {"vision_tower.transformer.layers.0.attention.o_proj.weight", 16},
+    {"vision_tower.transformer.layers.0.ffn_norm.weight", 4},
+    {"vision_tower.transformer.layers.0.feed_forward.gate_proj.weight", 4},
+    {"vision_tower.transformer.layers.0.feed_forward.up_proj.weight", 4},
+    {"vision_tower.transformer.layers.0.feed_forward.down_proj.weight", 4},
+    {"multi_modal_projector.norm.weight", 4},
+    {"multi_modal_projector.patch_merger.merging_layer.weight", 16},
+    {"multi_modal_projector.linear_1.weight", 8},
+    {"multi_modal_projector.linear_1.bias", 2},
+    {"multi_modal_projector.linear_2.weight", 4},
+    {"multi_modal_projector.linear_2.bias", 2},
+};
+enum { ASKED = sizeof asked / sizeof *asked, READ = 136, IMAGE = 4096 };
+
+static uint8_t image[IMAGE];
+static float read_weights[READ + TAIL];
+static uint32_t right_bits[READ];
+static size_t places[ASKED]; /* of the entries' values, in the image */
+
+/* A file with the tensors last to first, each of another dtype than the one before; its length. One entry is as given. */
+static size_t image_of(size_t odd, const char *entry) {
+    static const char *const dtypes[] = {"F32", "BF16", "F16"};
+    char *header = (char *)image + 8;
+    size_t len = 1, data = 0, bits = READ;
+    *header = '{';
+    for (size_t k = ASKED; k-- > 0;) {
+        size_t size = k % 3 ? 2 : 4, end = data + asked[k].count * size;
+        len += (size_t)sprintf(header + len, "\"%s\":", asked[k].name);
+        places[k] = 8 + len;
+        if (k == odd)
+            len += (size_t)sprintf(header + len, "%s", entry);
+        else
+            len += (size_t)sprintf(header + len, "{\"dtype\":\"%s\",\"shape\":[%zu,1],\"data_offsets\":[%zu,%zu]}",
+                                   dtypes[k % 3], asked[k].count, data, end);
+        header[len++] = k ? ',' : '}';
+        data = end;
+    }
+    for (size_t i = 0; i < 8; i++) image[i] = (uint8_t)(i < 2 ? len >> 8 * i : 0);
+    len += 8;
+    for (size_t k = ASKED; k-- > 0;) {
+        bits -= asked[k].count;
+        for (size_t i = 0; i < asked[k].count; i++) {
+            uint32_t x = (uint32_t)(k * 1000 + i) * 2654435761u, low = x & 0xFFFF;
+            right_bits[bits + i] = k % 3 == 0 ? x : k % 3 == 1 ? low << 16 : kz_half((uint16_t)low);
+            for (size_t b = 0; b < (k % 3 ? 2 : 4); b++) image[len++] = (uint8_t)(x >> 8 * b);
+        }
+    }
+    return len;
+}
+
+static struct kz_weights_report weights_of(struct kz_encoder_settings s, size_t len, size_t lent) {
+    mark_all(read_weights, READ + TAIL);
+    return kz_weights(s, len ? image : NULL, len, lent ? read_weights : NULL, lent);
+}
+
+static int refused_weights(struct kz_weights_report r, uint32_t number, size_t tensor, size_t place) {
+    return r.number == number && r.floats == 0 && r.tensor == tensor && r.place == place &&
+           marked(read_weights, 0, READ + TAIL);
+}
+
+static void weights(void) {
+    static const struct {
+        const char *entry;
+        uint32_t number;
+    } entries[] = {
+        {"null", KZ_HEADER},
+        {"{\"dtype\":16,\"shape\":[4],\"data_offsets\":[0,8]}", KZ_HEADER},
+        {"{\"dtype\":\"F16\",\"shape\":[4.0],\"data_offsets\":[0,8]}", KZ_HEADER},
+        {"{\"dtype\":\"F16\",\"shape\":[4],\"data_offsets\":[0]}", KZ_HEADER},
+        {"{\"dtype\":\"F64\",\"shape\":[4],\"data_offsets\":[0,32]}", KZ_TENSOR},
+        {"{\"dtype\":\"F16\",\"shape\":[4,18446744073709551615,18446744073709551615],\"data_offsets\":[0,8]}", KZ_TENSOR},
+        {"{\"dtype\":\"F16\",\"shape\":[4],\"data_offsets\":[8,0]}", KZ_OFFSETS},
+        {"{\"dtype\":\"F16\",\"shape\":[4],\"data_offsets\":[18446744073709551607,18446744073709551615]}", KZ_OFFSETS},
+        {"{\"dtype\":\"F16\",\"shape\":[4],\"data_offsets\":[0,16]}", KZ_OFFSETS},
+    };
+    struct kz_encoder_settings s = small_model;
+    size_t len = image_of(ASKED, "");
+    struct kz_weights_report r = weights_of(s, len, READ + TAIL);
+    EXPECT(kz_lengths(s, 1, 1).weights == READ);
+    EXPECT(r.number == KZ_ACCEPTED && r.floats == READ && r.tensor == 0 && r.place == 0);
+    EXPECT(memcmp(read_weights, right_bits, sizeof right_bits) == 0 && marked(read_weights, READ, READ + TAIL));
+    EXPECT(refused_weights(weights_of(s, len, READ - 1), KZ_OUTPUT, 0, 0));
+    EXPECT(refused_weights(weights_of(s, len, 0), KZ_OUTPUT, 0, 0));
+    EXPECT(refused_weights(weights_of(s, len - 1, READ), KZ_OFFSETS, 1, places[0]));
+    EXPECT(refused_weights(weights_of(s, 500, READ), KZ_HEADER, 0, 0));
+    EXPECT(refused_weights(weights_of(s, 7, READ), KZ_HEADER, 0, 0) && refused_weights(weights_of(s, 0, 0), KZ_HEADER, 0, 0));
+    s.num_layers = 2;
+    EXPECT(refused_weights(weights_of(s, len, READ), KZ_TENSOR, 12, 0));
+    s.num_layers = 49;
+    EXPECT(refused_weights(weights_of(s, len, READ), KZ_SETTING, 0, 0));
+    s = small_model;
+    for (size_t i = 0; i < sizeof entries / sizeof *entries; i++) {
+        len = image_of(7, entries[i].entry);
+        EXPECT(refused_weights(weights_of(s, len, 0), entries[i].number, 8, places[7]));
+    }
+    image[7] = 1;
+    EXPECT(refused_weights(weights_of(s, len, READ), KZ_HEADER, 0, 0));
+    image[7] = 0, image[20] = '\n';
+    EXPECT(refused_weights(weights_of(s, len, READ), KZ_HEADER, 0, 20));
+}
+
 enum { POOL = 100 };
 
 /* The slice is marked with NaNs of their own bits, and so are the vectors: what is moved keeps its bits. */
@@ -1332,6 +1446,7 @@ int main(void) {
     projector_bias();
     lengths();
     config();
+    weights();
     pool();
     number();
     packed();
