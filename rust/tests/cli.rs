@@ -2,7 +2,7 @@
 
 mod common;
 
-use common::tool::{npy, p6, plain, sweep, Folder, LIST, TABLE, TINY, WEIGHTS};
+use common::tool::{npy, p6, plain, sweep, Folder, CONFIG, LIST, TABLE, TINY, WEIGHTS};
 use common::{alike, expand, Random};
 use kyzgultam::{pixtral_preprocess, restore, rope_axes, PictureSettings};
 use std::fs;
@@ -11,9 +11,15 @@ use std::path::Path;
 #[test]
 fn help_fits_a_screen() {
     let folder = Folder::new("help");
-    for words in ["--help", "-h", "help", "demo --help", "encode -h", "patches --help", "restore --help"]
-        .into_iter()
-        .chain(["salvage --help", "compare --help", "config --help", "bench --help", "encode x.ppm --help"])
+    for words in
+        ["--help", "-h", "help", "demo --help", "encode -h", "patches --help", "restore --help"].into_iter().chain([
+            "salvage --help",
+            "compare --help",
+            "config --help",
+            "weights --help",
+            "bench --help",
+            "encode x.ppm --help",
+        ])
     {
         let text = folder.done(words);
         assert!(text.starts_with("kz"), "{words}");
@@ -794,10 +800,6 @@ fn demo() {
     folder.done(&format!("restore --tiles {} -o d/joined.ppm --settings image=170", files.join(" ")));
     assert_eq!(folder.get("d/joined.ppm"), folder.get("d/oversize.ppm"));
 }
-
-/// A config.json of the settings of `LIST`, but for the lent ones.
-const CONFIG: &str = r#"{"vision_config": {"patch_size": 2, "spatial_merge_size": 2, "image_size": 16, "hidden_size": 8,
-    "num_attention_heads": 2, "num_hidden_layers": 1, "intermediate_size": 5}, "text_config": {"hidden_size": 3}}"#;
 
 #[test]
 fn a_config_is_shown_and_encoded_with() {

@@ -122,3 +122,6 @@ pub const LIST: &str = "--settings patch=2,merge=2,image=16,hidden=8,heads=2,lay
 pub const TINY: PictureSettings = PictureSettings::new(2, 2, 16);
 pub const WEIGHTS: usize = 8 * 12 + 8 + (2 * 8 + 4 * 64 + 3 * 8 * 5) + 8 + 8 * 32 + 3 * 8 + 9;
 pub const TABLE: usize = 8 * 8 * 4;
+/// A config.json of the settings of `LIST`, but for the lent ones.
+pub const CONFIG: &str = r#"{"vision_config": {"patch_size": 2, "spatial_merge_size": 2, "image_size": 16, "hidden_size": 8,
+    "num_attention_heads": 2, "num_hidden_layers": 1, "intermediate_size": 5}, "text_config": {"hidden_size": 3}}"#;

@@ -2,7 +2,7 @@
 
 use crate::fail::Fail;
 use crate::given::{Given, SMALL};
-use crate::model::{refused_settings, Lent, Model, Random, Tables};
+use crate::model::{refused_settings, Lent, Model, Origin, Random, Tables};
 use crate::{room, say};
 use kyzgultam::{BadSample, EncoderSettings, PictureSettings, Pool, Refusal};
 use std::fs;
@@ -242,7 +242,7 @@ fn tables() -> Result<(), Fail> {
     let wide = EncoderSettings { num_layers: 1, text_hidden_size: 1024, ..EncoderSettings::default() };
     say(format_args!("{:<24}{:>10}{:>10}", "forward by tables, ms", "small", "full"));
     for (settings, side) in [(SMALL, 20), (wide, 8)] {
-        let model = Model::of(settings, [None, None])?;
+        let model = Model::of(settings, Origin::Seed, None)?;
         let full = Tables::full(&settings)?;
         let pixels = settings.picture.patch_size * side;
         let Buffers { rgb, mut patches, .. } = Buffers::new(&settings.picture, pixels, pixels)?;

@@ -3,11 +3,9 @@
 use crate::answer;
 use crate::fail::{numbered, Fail};
 use crate::given::Given;
-use crate::shown::shown;
 use crate::source::{unread, Source};
+use crate::spot::{followers, Spot};
 use kyzgultam::{config, ConfigRefusal, EncoderSettings, Refusal};
-use std::ffi::OsStr;
-use std::os::unix::ffi::OsStrExt;
 use std::path::Path;
 
 pub const HELP: &str = "\
@@ -79,94 +77,16 @@ fn explained(lent: &EncoderSettings, text: &[u8], refused: ConfigRefusal) -> Str
     };
     let spot = Spot::of(text, place);
     let advice = format!("line {}, column {}, byte {place}", spot.line, spot.column);
-    format!("{}\n  {}\n  {}^ {what}", numbered(refusal, advice), spot.shown, " ".repeat(spot.caret))
+    numbered(refusal, advice) + &spot.pointed(&what)
 }
 
-/// Where a byte stands, for people: its line and column, counted from 1, the line, and how far along a caret goes.
-struct Spot {
-    line: usize,
-    column: usize,
-    shown: String,
-    caret: usize,
-}
-
-/// The most characters of a line that are shown before the byte, and behind it.
-const AROUND: usize = 50;
-
-impl Spot {
-    fn of(text: &[u8], place: usize) -> Spot {
-        let start = text[..place].iter().rposition(|b| *b == b'\n').map_or(0, |i| i + 1);
-        let end = text[place..].iter().position(|b| *b == b'\n').map_or(text.len(), |i| place + i);
-        let characters = |bytes: &[u8]| String::from_utf8_lossy(bytes).chars().collect::<Vec<_>>();
-        let (before, behind) = (characters(&text[start..place]), characters(&text[place..end]));
-        let cut = before.len().saturating_sub(AROUND);
-        let words = |characters: &[char]| {
-            let text: String = characters.iter().collect();
-            // No text is printed as no text, where a name would be ''.
-            if text.is_empty() {
-                text
-            } else {
-                shown(OsStr::from_bytes(text.as_bytes())).to_string()
-            }
-        };
-        let front = format!("{}{}", if cut > 0 { "…" } else { "" }, words(&before[cut..]));
-        let back = words(&behind[..behind.len().min(AROUND)]);
-        Spot {
-            line: 1 + text[..start].iter().filter(|b| **b == b'\n').count(),
-            column: 1 + before.len(),
-            caret: front.chars().count(),
-            shown: front + &back + if behind.len() > AROUND { "…" } else { "" },
-        }
-    }
-}
-
-/// What may stand behind the front of a text. The reader itself is asked: a byte is expected where it does not stop.
+/// What may stand behind the front of a text.
 fn expected(lent: &EncoderSettings, front: &[u8]) -> String {
-    let stops =
-        |text: &[u8]| config(lent, text) == Err(ConfigRefusal { refusal: Refusal::ConfigText, place: front.len() });
     if front.len() == MOST {
         return "more is expected, and there is no room for it".into();
     }
-    let mut text = front.to_vec();
-    let mut may = [false; 256];
-    for byte in 0..=255 {
-        text.push(byte);
-        may[usize::from(byte)] = !stops(&text);
-        text.pop();
-    }
-    listed_bytes(&may, !stops(front))
-}
-
-/// A set of bytes, and the end, in words.
-fn listed_bytes(may: &[bool; 256], end: bool) -> String {
-    let mut rest = *may;
-    let mut words: Vec<String> = vec![];
-    let mut take = |bytes: &[u8], word: &str| {
-        if bytes.iter().all(|b| rest[usize::from(*b)]) {
-            words.push(word.into());
-            bytes.iter().for_each(|b| rest[usize::from(*b)] = false);
-        }
-    };
-    if may[usize::from(b'~')] {
-        return "a character of the string is expected".into();
-    }
-    if may[0x80..0xC0].contains(&true) {
-        return "the next byte of a character in UTF-8 is expected".into();
-    }
-    take(b"\"[{-0123456789tfn", "a value");
-    take(b"0123456789abcdefABCDEF", "a hex digit");
-    take(b"0123456789", "a digit");
-    // Blanks are expected nearly everywhere, and nobody waits for them.
-    b" \t\n\r".iter().for_each(|b| rest[usize::from(*b)] = false);
-    words.extend((0..=255u8).filter(|b| rest[usize::from(*b)]).map(|b| format!("'{}'", char::from(b))));
-    if end {
-        words.push("the end".into());
-    }
-    match words.split_last() {
-        None => "nothing is expected".into(),
-        Some((last, [])) => format!("{last} is expected"),
-        Some((last, others)) => format!("{} or {last} is expected", others.join(", ")),
-    }
+    let stopped = Err(ConfigRefusal { refusal: Refusal::ConfigText, place: front.len() });
+    followers(front, |text| config(lent, text) == stopped).to_string()
 }
 
 #[cfg(test)]

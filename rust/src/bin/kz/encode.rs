@@ -17,18 +17,19 @@ use std::fs;
 use std::path::{Path, PathBuf};
 
 pub const ENCODE: &str = "\
-kz encode SWEEP.ppm .. -o DIR [--tiles] [--weights FILE] [--tables FILE]
-          [--config FILE] [--settings LIST] [--bf16] [--log FILE]
-          [--force | --skip-existing]
-Writes the token vectors of each SWEEP (P5 or P6) to DIR/SWEEP.tokens.npy,
-an array of NumPy: rows x columns x text; with --tiles those of each tile, not
+kz encode SWEEP.ppm .. -o DIR [--tiles] [--model DIR] [--weights FILE]
+          [--tables FILE] [--config FILE] [--settings LIST] [--bf16]
+          [--log FILE] [--force | --skip-existing]
+Writes the token vectors of each SWEEP (P5 or P6) to DIR/SWEEP.tokens.npy, an
+array of NumPy: rows x columns x text; with --tiles those of each tile, not
 resized (this and --log: `kz patches --help`); with --bf16 rounded to bf16, as
-'<u2', in half the room. Weights and tables are plain floats: f32, little-
-endian, in the order of include/kyzgultam.h; full tables: all cosines, then all
-sines. Without --weights they come from a seed, without --tables they are small
-ones for theta 10000. --skip-existing goes on with a list that was cut off.
-With --config sizes are a config.json's (`kz config --help`), and --settings
-names none. It is a list as patch=14,image=560; what it leaves out is built in:
+'<u2', in half the room. --skip-existing goes on with a list that was cut off.
+--model is a folder with config.json and model.safetensors (`kz weights
+--help`). Else weights are those of --weights or from a seed; tables those of
+--tables or small ones for theta 10000. Both are plain f32, little-endian, in
+the order of include/kyzgultam.h; full tables: all cosines, then all sines.
+With --model or --config sizes are a config.json's (`kz config --help`), and
+--settings names none. It is a list as patch=14,image=560; built in are:
   patch 14 (1..32)   hidden 64 (4..2048)  layers 2 (0..48)
   merge 2 (1..4)     heads 4 (1..64)      intermediate 128 (1..8192)
   image 1540         head: hidden / heads text 64 (1..8192)

@@ -123,18 +123,25 @@ impl Given {
         sides.map(Some).ok_or_else(|| Fail::usage(format!("{name} takes HEIGHTxWIDTH, as 36x48")))
     }
 
-    /// The settings of `--config`, or the built-in model's, with those of `--settings` over them. Whether they are allowed
-    /// the calls decide.
+    /// The settings of `--config` or `--model`, or the built-in model's, with those of `--settings` over them. Whether they
+    /// are allowed the calls decide.
     pub fn settings(&self) -> Result<EncoderSettings, Fail> {
-        match self.path("--config") {
-            Some(file) => self.configured(&file),
-            None => Ok(self.listed()?.settings),
+        match (self.path("--config"), self.path("--model")) {
+            (Some(_), Some(_)) => Err(Fail::usage("--model has a config.json; leave out --config")),
+            (Some(file), None) => self.configured(&file),
+            (None, Some(folder)) => self.configured(&folder.join("config.json")),
+            (None, None) => Ok(self.listed()?.settings),
         }
+    }
+
+    /// Whether the projector has a bias, where `--settings` says it.
+    pub fn bias(&self) -> Result<Option<bool>, Fail> {
+        Ok(self.listed()?.bias)
     }
 
     /// The settings that a config.json says, with those of `--settings` that it does not say.
     pub fn configured(&self, file: &Path) -> Result<EncoderSettings, Fail> {
-        let Listed { settings, scale, size } = self.listed()?;
+        let Listed { settings, scale, size, .. } = self.listed()?;
         if let Some(key) = size {
             return Err(Fail::usage(format!("--settings: {key} is what the config says; leave it out")));
         }
@@ -146,7 +153,7 @@ impl Given {
     fn listed(&self) -> Result<Listed, Fail> {
         let mut s = SMALL;
         let mut size = None;
-        let (mut head, mut bias, mut scale) = (None, 0, None);
+        let (mut head, mut bias, mut scale) = (None, None, None);
         let list = self.option("--settings").map(|v| v.to_string_lossy().into_owned()).unwrap_or_default();
         for pair in list.split(',').filter(|pair| !pair.is_empty()) {
             let (key, value) = pair.split_once('=').unwrap_or((pair, ""));
@@ -168,27 +175,30 @@ impl Given {
                 "layers" => s.num_layers = number()?,
                 "intermediate" => s.intermediate_size = number()?,
                 "text" => s.text_hidden_size = number()?,
-                "bias" => bias = number()?,
+                "bias" => bias = Some(number()?),
                 "scale" => scale = Some(value.parse().map_err(|_| bad())?),
                 _ => return Err(bad()),
             }
         }
         // As the Rust reads its config: the head width is what the heads leave of the hidden size.
         s.head_dim = head.unwrap_or(s.hidden_size.checked_div(s.num_heads).unwrap_or(0));
-        s.projector_bias = match bias {
-            0 | 1 => bias == 1,
-            _ => return Err(refused_settings(Refusal::Setting)),
+        let bias = match bias {
+            Some(number @ (0 | 1)) => Some(number == 1),
+            Some(_) => return Err(refused_settings(Refusal::Setting)),
+            None => None,
         };
+        s.projector_bias = bias.unwrap_or(false);
         s.scaling = scale.unwrap_or(scale_of(s.head_dim));
-        Ok(Listed { settings: s, scale, size })
+        Ok(Listed { settings: s, scale, size, bias })
     }
 }
 
-/// What `--settings` says: with the built-in settings under it, and the scale and the last size that it names.
+/// What `--settings` says: with the built-in settings under it, and the scale, the last size and the bias that it names.
 struct Listed {
     settings: EncoderSettings,
     scale: Option<f32>,
     size: Option<String>,
+    bias: Option<bool>,
 }
 
 const KEYS: &str = "a list of KEY=NUMBER, parted by commas; keys: patch merge image rule mean deviation hidden heads \

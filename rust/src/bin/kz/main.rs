@@ -22,8 +22,10 @@ mod room;
 mod salvage;
 mod shown;
 mod source;
+mod spot;
 mod sweep;
 mod tiles;
+mod weights;
 
 use fail::Fail;
 use given::Given;
@@ -42,26 +44,26 @@ kz: the Pixtral image encoder, proved; from the command line
   kz salvage FILE.npy -o OUT.ppm        the picture of damaged patches
   kz compare A.ppm B.ppm [-o OUT.png]   equal patches; --tokens: nearest sweeps
   kz config CONFIG.json                 the settings that a config.json says
+  kz weights FILE.safetensors -o OUT    a model's weights as plain floats
   kz bench                              how long each call takes
 Pictures are binary netpbm, P5 or P6. Patches and token vectors are .npy of
 NumPy, which says its shape; weights and tables plain floats: f32, little-
 endian, in the order of include/kyzgultam.h. Sizes are HEIGHTxWIDTH.
 
   --settings LIST   as rule=2,mean=0.2,deviation=0.25 (`kz encode --help`)
-  --config, --weights, --tables FILE   for encode; built in where not given
+  --model DIR, or --config, --weights, --tables FILE: encode's; else built in
   --tiles           for encode, patches and restore: not resized, but tiles
   --grid HxW        for restore and salvage of plain floats
   --log FILE        for encode and patches: a line a sweep that shows no pixel
   --force           write over plain files that are there already
   --skip-existing   for encode and patches: take such files for done
-
 `kz COMMAND --help` says more; `kz --version`. Exit status: 0 done, 1 refused
 (the message names file, number and what to do), 2 not a command line of kz.
 ";
 
 type Command = (&'static str, &'static str, &'static [&'static str], fn(&Given) -> Result<(), Fail>);
 
-const COMMANDS: [Command; 8] = [
+const COMMANDS: [Command; 9] = [
     ("demo", demo::HELP, &["-o", "--force"], demo::run),
     (
         "encode",
@@ -71,6 +73,7 @@ const COMMANDS: [Command; 8] = [
             "--tiles",
             "--weights",
             "--tables",
+            "--model",
             "--config",
             "--settings",
             "--bf16",
@@ -90,6 +93,7 @@ const COMMANDS: [Command; 8] = [
     ("salvage", salvage::HELP, &["-o", "--map", "--all", "--grid", "--settings", "--force"], salvage::run),
     ("compare", compare::HELP, &["-o", "--tokens", "--settings", "--force"], compare::run),
     ("config", config::HELP, &["--settings"], config::run),
+    ("weights", weights::HELP, &["-o", "--config", "--settings", "--force"], weights::run),
     ("bench", bench::HELP, &["--quick", "--large", "--size", "--weights", "--tables", "--settings"], bench::run),
 ];
 

@@ -5,8 +5,10 @@ use crate::given::Given;
 use crate::room;
 use crate::shown::shown;
 use crate::source::{unread, Source};
+use crate::weights;
 use kyzgultam::{
-    forward, forward_axes, pixtral_preprocess, rope_axes, EncoderSettings, PictureSettings, Refusal, RopeAxes,
+    forward, forward_axes, pixtral_preprocess, rope_axes, tensor_names, EncoderSettings, PictureSettings, Refusal,
+    RopeAxes,
 };
 use std::path::{Path, PathBuf};
 
@@ -23,11 +25,22 @@ pub enum Tables {
     Axes(RopeAxes),
 }
 
+/// Where weights come from.
+pub enum Origin {
+    Seed,
+    /// Plain floats.
+    Floats(PathBuf),
+    /// A safetensors file, and whether the projector has a bias, where that is said.
+    Tensors(PathBuf, Option<bool>),
+}
+
 pub struct Model {
     pub settings: EncoderSettings,
     pub weights: Vec<f32>,
     pub tables: Tables,
-    files: [Option<PathBuf>; 2],
+    origin: Origin,
+    /// The tables' file.
+    file: Option<PathBuf>,
 }
 
 impl Tables {
@@ -53,35 +66,46 @@ impl Tables {
 
 impl Model {
     pub fn read(given: &Given) -> Result<Model, Fail> {
-        Model::of(given.settings()?, ["--weights", "--tables"].map(|name| given.path(name)))
+        let origin = match (given.path("--weights"), given.path("--model")) {
+            (Some(_), Some(_)) => return Err(Fail::usage("--model has a model.safetensors; leave out --weights")),
+            (Some(file), None) => Origin::Floats(file),
+            (None, Some(folder)) => Origin::Tensors(single(&folder)?, given.bias()?),
+            (None, None) => Origin::Seed,
+        };
+        Model::of(given.settings()?, origin, given.path("--tables"))
     }
 
     /// Weights and tables from files, or built in.
-    pub fn of(settings: EncoderSettings, files: [Option<PathBuf>; 2]) -> Result<Model, Fail> {
+    pub fn of(settings: EncoderSettings, origin: Origin, file: Option<PathBuf>) -> Result<Model, Fail> {
         allowed(&settings.picture)?;
         let merge = settings.picture.spatial_merge_size;
         let lengths = match settings.lengths(merge, merge) {
             // No grid is allowed: each picture is refused with 4, before the model is used.
             Err(Refusal::Grid) => {
-                return Ok(Model { settings, weights: vec![], tables: Tables::Axes(RopeAxes::default()), files })
+                let tables = Tables::Axes(RopeAxes::default());
+                return Ok(Model { settings, weights: vec![], tables, origin, file });
             }
             lengths => lengths.map_err(refused_settings)?,
         };
         let room = || weights_room(&settings, lengths.weights);
-        let weights = match &files[0] {
-            Some(file) => floats(file, lengths.weights, room, Refusal::WeightsLength, "").map(|[weights]| weights)?,
-            None => seeded(&settings, room()?),
+        let (settings, weights) = match &origin {
+            Origin::Seed => (settings, seeded(&settings, room()?)),
+            Origin::Floats(file) => {
+                let [weights] = floats(file, lengths.weights, room, Refusal::WeightsLength, "")?;
+                (settings, weights)
+            }
+            Origin::Tensors(file, bias) => weights::read(settings, *bias, file)?,
         };
         let room = || table_room(&settings, lengths.tables);
         let order = ", the cosines and then the sines";
-        let tables = match &files[1] {
+        let tables = match &file {
             Some(file) => {
                 let [cos, sin] = floats(file, lengths.tables, room, Refusal::TableLength, order)?;
                 Tables::Full { cos, sin }
             }
             None => Tables::Axes(built_in(&settings).map_err(refused_settings)?),
         };
-        Ok(Model { settings, weights, tables, files })
+        Ok(Model { settings, weights, tables, origin, file })
     }
 
     /// Room for the token vectors and the scratch of a grid; words where there is none.
@@ -124,17 +148,43 @@ impl Model {
             Tables::Full { cos, sin } => odd(cos).or(odd(sin).map(|i| cos.len() + i)),
             Tables::Axes(_) => None,
         };
-        let place = |file: &Option<PathBuf>, i: usize| match file {
-            Some(file) => format!("float {i} of {} is not; write that file again", shown(file)),
-            None => "the built-in weights are too large for these --settings; give --weights".into(),
-        };
+        let plain = |file: &Path, i: usize| format!("float {i} of {} is not; write that file again", shown(file));
         match (refusal, odd(&self.weights), tables) {
-            (Refusal::NotFinite, Some(i), _) => place(&self.files[0], i),
-            (Refusal::NotFinite, _, Some(i)) => place(&self.files[1], i),
+            (Refusal::NotFinite, Some(i), _) => match &self.origin {
+                Origin::Seed => "the built-in weights are too large for these --settings; give --weights".into(),
+                Origin::Floats(file) => plain(file, i),
+                Origin::Tensors(file, _) => {
+                    let (name, i) = self.tensor(i);
+                    format!("value {i} of {name} in {} is not; write that file again", shown(file))
+                }
+            },
+            (Refusal::NotFinite, _, Some(i)) => plain(self.file.as_deref().unwrap_or(Path::new("")), i),
             (Refusal::NotFinite, ..) => "all inputs are: the weights are too large for a stage".into(),
             _ => "look at --settings".into(),
         }
     }
+
+    /// The tensor in which a weight stands, and its place there.
+    fn tensor(&self, mut i: usize) -> (String, usize) {
+        for (name, (out, inputs)) in tensor_names(&self.settings).into_iter().zip(parts(&self.settings)) {
+            let count = out * inputs.max(1);
+            if i < count {
+                return (name, i);
+            }
+            i -= count;
+        }
+        ("the weights".into(), i)
+    }
+}
+
+/// The file with all weights of a model's folder.
+fn single(folder: &Path) -> Result<PathBuf, Fail> {
+    let (file, index) = (folder.join("model.safetensors"), folder.join("model.safetensors.index.json"));
+    if !file.exists() && index.exists() {
+        let words = format!("is not there, and by {} the model is in several; write them to one", shown(&index));
+        return Err(Fail::file(&file, words));
+    }
+    Ok(file)
 }
 
 const RANGES: &str = "`kz encode --help` has the ranges";
@@ -154,7 +204,7 @@ pub fn allowed(settings: &PictureSettings) -> Result<(), Fail> {
     }
 }
 
-fn weights_room(s: &EncoderSettings, len: usize) -> Result<Vec<f32>, Fail> {
+pub fn weights_room(s: &EncoderSettings, len: usize) -> Result<Vec<f32>, Fail> {
     let (hidden, layers, intermediate) = (s.hidden_size, s.num_layers, s.intermediate_size);
     let text = s.text_hidden_size;
     let what = format!("the weights (hidden={hidden}, layers={layers}, intermediate={intermediate}, text={text})");
@@ -226,20 +276,24 @@ impl Random {
     }
 }
 
-/// Weights that keep values near 1 in size: norms of 1, and matrices even in ±√(3 / inputs). Those of patch_conv are
-/// smooth over a patch, so that a token says more of brightness and slope than of grain. They have the same bits on every
-/// machine.
-fn seeded(s: &EncoderSettings, mut weights: Vec<f32>) -> Vec<f32> {
+/// Outputs and inputs of each matrix, in the order of the weights; a norm has no inputs, and a bias is the matrix of one.
+pub fn parts(s: &EncoderSettings) -> impl Iterator<Item = (usize, usize)> {
     let (h, i, x) = (s.hidden_size, s.intermediate_size, s.text_hidden_size);
     let (p, m) = (s.picture.patch_size, s.picture.spatial_merge_size);
-    // Outputs and inputs of each matrix, in order; a norm has no inputs, and a bias is the matrix of one.
     let layer = [(h, 0), (h, h), (h, h), (h, h), (h, h), (h, 0), (i, h), (i, h), (h, i)];
     let bias = s.projector_bias.then_some((x, 1));
     let last = [(h, 0), (h, h * m * m), (x, h)].into_iter().chain(bias).chain([(x, x)]).chain(bias);
     let layers = std::iter::repeat_n(layer, s.num_layers).flatten();
+    [(h, 3 * p * p), (h, 0)].into_iter().chain(layers).chain(last)
+}
+
+/// Weights that keep values near 1 in size: norms of 1, and matrices even in ±√(3 / inputs). Those of patch_conv are
+/// smooth over a patch, so that a token says more of brightness and slope than of grain. They have the same bits on every
+/// machine.
+fn seeded(s: &EncoderSettings, mut weights: Vec<f32>) -> Vec<f32> {
     let mut random = Random::new(14);
-    weights.extend((0..h).flat_map(|_| smooth(&mut random, p)));
-    for (out, inputs) in [(h, 0)].into_iter().chain(layers).chain(last) {
+    weights.extend((0..s.hidden_size).flat_map(|_| smooth(&mut random, s.picture.patch_size)));
+    for (out, inputs) in parts(s).skip(1) {
         let size = (3.0 / inputs as f32).sqrt();
         match inputs {
             0 => weights.extend((0..out).map(|_| 1.0)),

@@ -60,6 +60,14 @@ impl<R: Read> Source<R> {
         Ok(taken)
     }
 
+    /// Takes all bytes that are left, behind those that are there.
+    pub fn rest(&mut self, bytes: &mut Vec<u8>) -> io::Result<()> {
+        bytes.append(&mut self.ahead);
+        self.from.read_to_end(bytes)?;
+        self.left = self.left.map(|_| 0);
+        Ok(())
+    }
+
     /// Takes little-endian f32 until the floats are full: how many bytes there were.
     pub fn floats(&mut self, floats: &mut [f32]) -> io::Result<usize> {
         let mut bytes = [0; 1 << 16];
