@@ -651,6 +651,7 @@ fn bench_times_every_call() {
     a_salvage(&said);
     small_tables(&said);
     a_pool(&said);
+    a_load(&said);
 }
 
 /// The lines of a tile: two calls, each with two times and their ratio.
@@ -676,6 +677,16 @@ fn small_tables(said: &str) {
     for (line, name) in [(built_in, "hidden 64, grid 20x20 "), (wide, "hidden 1024, grid 8x8 ")] {
         assert!(line.starts_with(name) && line.ends_with(" of the speed"), "{line}");
     }
+}
+
+/// The lines of weights from a file: three dtypes, each with two times and the ratio of speeds, and a header's search.
+fn a_load(said: &str) {
+    let lines: Vec<&str> = said.lines().skip_while(|line| !line.starts_with("weights of 94 MB, ms ")).collect();
+    let [_, f32, bf16, f16, header, ..] = &lines[..] else { panic!("{said}") };
+    for (line, name) in [(f32, "F32 "), (bf16, "BF16 "), (f16, "F16 ")] {
+        assert!(line.starts_with(name) && line.ends_with(" of the speed"), "{line}");
+    }
+    assert!(header.starts_with("header of 222, ms "), "{header}");
 }
 
 /// The lines of a pool: add with no slide and with one, and how long a find takes.
@@ -740,6 +751,7 @@ fn bench_beside_the_rust() {
         a_salvage(&said);
         small_tables(&said);
         a_pool(&said);
+        a_load(&said);
     }
     // Without the source the port is timed alone.
     let (status, said, errors) = bench_with(&folder, Some(&folder.path("none")));
@@ -751,6 +763,7 @@ fn bench_beside_the_rust() {
     a_salvage(&said);
     small_tables(&said);
     a_pool(&said);
+    a_load(&said);
     // With a source that is another, oracle/run fails, and kz says so.
     fs::create_dir_all(folder.path("empty/crates/vision/src")).unwrap();
     for name in ["pixtral.rs", "image_process.rs"] {

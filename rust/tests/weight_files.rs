@@ -146,7 +146,7 @@ fn every_damage_has_its_number() {
     let files: [(&[u8], &[&str]); 11] = [
         (b"", &["number 16: ", "it has 0 bytes, and the length of its header takes 8"]),
         (&bytes[..100], &["number 16: ", "it has 100 bytes, and its header is to have "]),
-        (&file(header[..header.len() - 1].as_bytes(), b""), &["number 16: ", &last, "^ ',' or '}' is expected\n"]),
+        (&file(&header.as_bytes()[..header.len() - 1], b""), &["number 16: ", &last, "^ ',' or '}' is expected\n"]),
         (&file(b" []", b""), &["number 16: ", "byte 9; ", "\n   []\n   ^ '{' is expected\n"]),
         (&with("{", &format!("{{\"a\":{}", "[".repeat(33))), &["byte 44; ", "^ this bracket opens level 33\n"]),
         (&with(entry, "[]"), &["number 16: ", &byte, "^ an object with a string dtype"]),

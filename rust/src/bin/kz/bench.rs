@@ -2,7 +2,7 @@
 
 use crate::fail::Fail;
 use crate::given::{Given, SMALL};
-use crate::model::{refused_settings, Lent, Model, Origin, Random, Tables};
+use crate::model::{parts, refused_settings, Lent, Model, Origin, Random, Tables};
 use crate::{room, say};
 use kyzgultam::{BadSample, EncoderSettings, PictureSettings, Pool, Refusal};
 use std::fs;
@@ -26,14 +26,14 @@ with the archives that kz was linked with; the Rust's source is
 ../shared/docs/src from its root, or KZ_RUST_SRC. A tile of 1540x1540 is timed
 in turn with a picture of as many pixels; salvage, with no sample bad and with
 every one, in turn with restore; forward by small tables, in turn with forward
-by full ones; bf16 packed and widened, and add to a pool, in turn with a copy;
-and find in a pool.
+by full ones; bf16 packed and widened, add to a pool, and the weights of a
+safetensors file, in turn with a copy; find in a pool, and a header's search.
 
 The second form, and the first where the source or rustc is missing, times
 the port alone on noise, on one core: the best of the runs that fit into half
 a second, at least one. `share` is the part of a sweep's time. Without --size
 three sizes are timed, the largest without forward. The model is as for
-`kz encode`. Then come tile to pool as above and, last, restore of the largest
+`kz encode`. Then come tile to header as above, and last restore of the largest
 by mean and deviation of the Rust, 0.2 and 0.25, and 0.2 and 1e38 (by halving).
 ";
 
@@ -84,6 +84,8 @@ fn beside_the_rust(grids: Option<&str>) -> Result<bool, Fail> {
             packs()?;
             say(format_args!(""));
             pools()?;
+            say(format_args!(""));
+            loads()?;
             say(format_args!(""));
         }
         let status = Command::new(&oracle).arg(ARCHIVES).args(&words).status();
@@ -138,6 +140,8 @@ fn alone(given: &Given) -> Result<(), Fail> {
     packs()?;
     say(format_args!(""));
     pools()?;
+    say(format_args!(""));
+    loads()?;
     let (height, width) = sizes[sizes.len() - 1];
     choices(&s.picture, height, width)
 }
@@ -348,6 +352,70 @@ fn pools() -> Result<(), Fail> {
     let each = time.map_err(refused_settings)?.as_secs_f64() * 1e9 / (64 * rounds) as f64;
     say(format_args!("{:<24}{each:>10.1}", "find in 64 keys, ns"));
     Ok(())
+}
+
+/// Times the weights of a safetensors file, in turn with a copy of as many bytes as are written; and the search of a header
+/// of 24 layers, up to the refusal with 5.
+fn loads() -> Result<(), Fail> {
+    let advice = "try it again where there is more";
+    let settings = EncoderSettings { num_layers: 1, text_hidden_size: 1024, ..EncoderSettings::default() };
+    let len = settings.weights_len().map_err(refused_settings)?;
+    let mut floats = room::zeros(len, "weights", advice).map_err(Fail::Refused)?;
+    let from: Vec<f32> = room::zeros(len, "floats to copy", advice).map_err(Fail::Refused)?;
+    let mut to = room::zeros(len, "a copy", advice).map_err(Fail::Refused)?;
+    say(format_args!("{:<24}{:>10}{:>10}", format!("weights of {} MB, ms", 4 * len / 1_000_000), "weights", "copy"));
+    // A half of 0x3C00 is 1, and so are the others.
+    for (dtype, one) in [("F32", &[0, 0, 0x80, 0x3F][..]), ("BF16", &[0x80, 0x3F]), ("F16", &[0, 0x3C])] {
+        let image = image(&settings, dtype, one, len).map_err(Fail::Refused)?;
+        floats.fill(0.0);
+        let times = in_turn(
+            || kyzgultam::weights(&settings, black_box(&image), &mut floats).map(drop).map_err(|r| r.refusal),
+            || {
+                to.copy_from_slice(black_box(&from));
+                black_box(&to);
+                Ok(())
+            },
+        );
+        let [load, copy] = times.map_err(refused_settings)?.map(|time| time.as_secs_f64() * 1e3);
+        say(format_args!("{dtype:<24}{load:>10.2}{copy:>10.2}   {:.3} of the speed", copy / load));
+        if floats.iter().any(|x| *x != 1.0) {
+            return Err(Fail::Refused("the weights are not those of the file: this is a fault, report it".into()));
+        }
+    }
+    let settings = EncoderSettings { num_layers: 24, ..settings };
+    // The largest tensor, of which each other has a part.
+    let most = parts(&settings).map(|(out, inputs)| out * inputs.max(1)).max().unwrap_or(0);
+    let image = image(&settings, "BF16", &[0, 0], most).map_err(Fail::Refused)?;
+    let time = best(|| match kyzgultam::weights(&settings, black_box(&image), &mut []) {
+        Err(refused) if refused.refusal == Refusal::Output => Ok(()),
+        Err(refused) => Err(refused.refusal),
+        Ok(_) => Ok(()),
+    });
+    let each = time.map_err(refused_settings)?.as_secs_f64() * 1e3;
+    let names = kyzgultam::tensor_names(&settings).len();
+    say(format_args!("{:<24}{each:>10.3}", format!("header of {names}, ms")));
+    Ok(())
+}
+
+/// A safetensors file with all tensors of one dtype, one behind the other in `count` values that are all alike; a tensor
+/// that would pass their end lies at the front again.
+fn image(settings: &EncoderSettings, dtype: &str, value: &[u8], count: usize) -> Result<Vec<u8>, String> {
+    let mut begin = 0;
+    let mut entries = vec![];
+    for (name, (out, inputs)) in kyzgultam::tensor_names(settings).iter().zip(parts(settings)) {
+        let size = out * inputs.max(1);
+        begin = if begin + size > count { 0 } else { begin };
+        let offsets = [begin, begin + size].map(|place| place * value.len());
+        entries.push(format!("\"{name}\":{{\"dtype\":\"{dtype}\",\"shape\":[{size}],\"data_offsets\":{offsets:?}}}"));
+        begin += size;
+    }
+    let header = format!("{{{}}}", entries.join(","));
+    let len = 8 + header.len() + count * value.len();
+    let mut image = room::empty(len, "a safetensors file", "try it again where there is more")?;
+    image.extend((header.len() as u64).to_le_bytes());
+    image.extend(header.as_bytes());
+    image.extend(value.iter().cycle().take(count * value.len()));
+    Ok(image)
 }
 
 /// The shortest of five adds for which all held results are slid down by sixteen floats, and of five such moves.
