@@ -228,6 +228,7 @@ fn memory_is_asked_for_first() {
     sparse(&folder, "largest.ppm", b"P6 8192 8192 255\n", 17 + 3 * 8192 * 8192);
     sparse(&folder, "large.patches", b"", 4 * 3 * 2048 * 2048);
     sparse(&folder, "large.tables", b"", 4 * 2 * 2048 * 2048 * 256);
+    sparse(&folder, "large.safetensors", b"", 100_000_000);
     sweep(&folder, "a.ppm", 8, 8, 1);
     let fine = "patch=1,merge=1,image=2048";
     for (kib, words, parts) in [
@@ -270,6 +271,11 @@ fn memory_is_asked_for_first() {
             50_000,
             "patches largest.ppm -o out".into(),
             ["largest.ppm: there is no memory for its 8192x8192 pixels", "201326592 bytes"],
+        ),
+        (
+            50_000,
+            "weights large.safetensors -o out.f32".into(),
+            ["large.safetensors: there is no memory for its bytes", "100000000 bytes"],
         ),
         (
             50_000,
