@@ -5,6 +5,7 @@ alone (nothing of the port is read or run, and nothing of the safetensors packag
   tests/weights.py            the records of crates/weights_replay/stdin
   tests/weights.py check LIB [COUNT]   the answers of a shared library that has kz_weights, to COUNT files (10,000)
   tests/weights.py count      how many records there are of each number
+  tests/weights.py seeds DIR  64 files for tests/fuzz/weights.c to begin with
 
 Whether a header is a text, and where not, is what tests/config.py finds; its members, one after another, and their values
 are Python's json's. A record is a line of numbers, parted by tabs, then the file, then a newline. The numbers are the
@@ -406,6 +407,8 @@ def files(count):
 def main():
     if sys.argv[1:2] == ["check"]:
         return check(sys.argv[2], int(sys.argv[3]) if len(sys.argv) > 3 else 10000)
+    if sys.argv[1:2] == ["seeds"]:
+        return seeds(sys.argv[2])
     out, numbers = sys.stdout.buffer, collections.Counter()
     for s, file, lent in files(180):
         told, words = answer(s, file, lent)
@@ -415,6 +418,21 @@ def main():
             out.write(b"\t".join(b"%d" % n for n in line) + b"\n" + file + b"\n")
     if sys.argv[1:] == ["count"]:
         print(dict(sorted(numbers.items())))
+
+
+# ---- for a fuzzer
+
+def seeds(folder):
+    """A byte by which tests/fuzz/weights.c picks settings, and a file of these, every other one damaged."""
+    r = random.Random(20260104)
+    for n in range(64):
+        s = Settings(1 + (n >> 2 & 1), 1, 0 if n & 16 else 8, 1, 4, 1, 4, n >> 1 & 1, 1, 1 + (n >> 3 & 1), n & 1)
+        d = Draft(r, s, list(SIZES))
+        harmless(d)
+        if n >= 32:
+            damage(d, r.choice((*DAMAGES, file_damages)))
+        with open(f"{folder}/{n:02}", "wb") as out:
+            out.write(bytes([n & 31]) + d.file())
 
 
 # ---- asked of the port
