@@ -298,11 +298,11 @@ struct kz_weights_report {
  * whatever it holds; tensors may overlap, and lie in any order with anything between them and behind them. Names, keys
  * and dtypes are compared after their escapes are read, and of two alike the last counts, in an entry too.
  * Refused with 1, 16, 17, 18, 5, each over all tensors before the next:
- * 16 where the file is below 8 bytes or the header passes its end (place 0); where the header, whatever stands before
- *    and behind it but blanks too, is no RFC 8259 text of at most 32 levels (the place at which kz_config would refuse
- *    it, counted from the file's start) or no object (the place of its value); and where an entry asked for is no
- *    object, its dtype no string, its shape no list of plain digits, or its data_offsets no list of just two, each of
- *    at most 2^64 - 1 (the place of the entry's value, as with 17 and 18);
+ * 16 where the file is below 8 bytes, or ends before its header does (place 0); where the header, blanks around it
+ *    allowed, is no RFC 8259 text of at most 32 levels (the byte at which kz_config would refuse it, counted from the
+ *    file's start), or no object (the first byte of its value); where an entry asked for is no object, its dtype no
+ *    string, its shape no list of plain digits, or its data_offsets no list of just two, each of at most 2^64 - 1 (the
+ *    first byte of the entry's value, as with 17 and 18);
  * 17 where a tensor is missing (place 0), its dtype another, or the product of its shape, 1 for [], not its count;
  * 18 where its first offset is above the second, the second above the length of the data, or the two are not as far
  *    apart as its bytes are many; offsets are counted from the data's start;
