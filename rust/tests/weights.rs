@@ -367,3 +367,18 @@ fn forward_takes_them_and_refuses_a_nan() {
     assert_eq!(found[len() - 1].to_bits(), 0xFF80_0001);
     assert_eq!(tokens(&found), Err(Refusal::NotFinite));
 }
+
+/// With 48 layers and 32 levels it runs on a thread with 140 KiB of stack.
+#[test]
+fn little_stack() {
+    let settings = EncoderSettings { num_layers: 48, ..SETTINGS };
+    let made = Tensors::new(&settings, "BF16", |n| vec![0; n]);
+    let header = format!("{{\"a\":{}{},{}", "[".repeat(31), "]".repeat(31), &made.header()[1..]);
+    let bytes = file(header.as_bytes(), &made.data);
+    let run = move || {
+        let mut out = marks(settings.weights_len().unwrap());
+        weights(&settings, &bytes, &mut out).map(|_| out)
+    };
+    let found = std::thread::Builder::new().stack_size(140 << 10).spawn(run).unwrap().join().unwrap().unwrap();
+    assert!(found.iter().all(|x| x.to_bits() == 0));
+}
