@@ -9,7 +9,7 @@
  * Where two versions differ in the first or the second number, an answer may have other bits: docs/DIFFERENCES.md says
  * which. So an archive keeps this beside what it stores. `kz --version` prints it too.
  */
-#define KZ_VERSION "0.5.0"
+#define KZ_VERSION "0.6.0"
 
 #ifdef __cplusplus
 extern "C" {
