@@ -7,7 +7,7 @@ use Prim.Native.Nat.{ℕ, _+_, _-_, _*_, _≤_}
 use native.Mathlib.Nat.{zero-add}
 use native.Mathlib.Omega.{arith}
 use lib.Dec.{eqb}
-use borrow.Author.Tests.{ne-eqb, eqb-true, le-leb}
+use borrow.Author.Tests.{ne-eqb, eqb-true}
 use Rattle.json_grammar.specs.Grammar as G
 use Rattle.json_grammar.specs.Grammar.{Ws, Value, Elements}
 use Rattle.json_grammar.specs.inner.Machine.{digits, nullable, settle, ready, past, go}
@@ -17,7 +17,8 @@ use Rattle.json_read.specs.inner.Steps.{Sep, more, closed, wrong, sepOf, separa
 use Rattle.json_members.specs.Names.{limited, numberSize, sizeOf}
 use Rattle.json_members.specs.inner.Bytes.{quiet, sizeFrom, sizeAt}
 use Rattle.json_members.proofs.Finding.{ws-skip, value-solid}
-use Rattle.json_members.proofs.Sizing.{size-law}
+use Rattle.json_members.proofs.Sizing.{digit-is, size-law}
+use Rattle.json_members.proofs.Suffix.{ws-quiet}
 use Rattle.json_lists.specs.Lists.{joined, elementSizes, sizesOf, saidOf}
 use Rattle.json_lists.specs.inner.Bytes.{awaited, reading, behind, parting, numbersFrom, opened, numbersAt, listAt}
 
@@ -90,14 +91,6 @@ behind-law (b ∷ l) = of (isBlank b) (eqb b 0x2C) (eqb b 0x5D) refl refl (behin
 
 -- ---- by the grammar
 
-ws-quiet : {l r : List ℕ} → Ws l r → quiet r ≡ true → quiet l ≡ true
-unfolding quiet
-ws-quiet G.unspaced h = h
-ws-quiet (G.space w) h = refl
-ws-quiet (G.tab w) h = refl
-ws-quiet (G.feed w) h = refl
-ws-quiet (G.return w) h = refl
-
 ws-awaited : {l r : List ℕ} → Ws l r → numbersFrom awaited l ≡ numbersFrom awaited r
 unfolding numbersFrom
 ws-awaited G.unspaced = refl
@@ -122,9 +115,6 @@ quiet-rest (b ∷ l) h = of (isDigit b) (isMore b) h
     of : (t u : Bool) → not (t || u) ≡ true → cond t (behindDigits l) (b ∷ l) ≡ b ∷ l
     of true u k = absurd (false≢true k)
     of false u k = refl
-
-digit-is : (b : ℕ) → 0x30 ≤ b → b ≤ 0x39 → isDigit b ≡ true
-digit-is b h k = rw (le-leb 0x30 b h, le-leb b 0x39 k)
 
 digits-rest : {l r : List ℕ} → G.Digits l r → behindDigits l ≡ behindDigits r
 unfolding behindDigits

@@ -140,7 +140,7 @@ drop-s (suc i) (b ∷ s) = step (drop-s i s)
 
 -- ---- what is found
 
-ws-quiet : {l r : List ℕ} → Ws l r → quiet r ≡ true → quiet l ≡ true
+pub ws-quiet : {l r : List ℕ} → Ws l r → quiet r ≡ true → quiet l ≡ true
 unfolding quiet
 ws-quiet G.unspaced h = h
 ws-quiet (G.space w) h = refl

@@ -104,12 +104,13 @@ module _ (bytes : List ℕ) (count : ℕ) (f : Found) (g : Good (length bytes) c
   pub not-known : (d : Described) → d ≡ summary f → ((k : Kind) (n begin end : ℕ) → d ≡ D.Known k n begin end → ⊥) → ⊥
   not-known d e h = let o = stored (length bytes) count f g in h (o .kind) (held (product (o .shape))) (o .begin) (o .end) (e ∙ summary-of f (o .dtype) (o .shape) (o .begin) (o .end) (o .kind) (o .is) (o .kind-is))
 
--- its bytes as the code takes them
+-- no count of bytes wraps
 pub few : (n r : ℕ) (k : Kind) → r ≡ sizeOf k → n ≤ 67108864 → n * r ≤ 268435456
 few n r F32 e h = rw e (omega arith)
 few n r BF16 e h = rw e (omega arith)
 few n r F16 e h = rw e (omega arith)
 
+-- its bytes as the code takes them
 pub known-part :
     (bytes : List ℕ) (count : ℕ) (f : Found) (g : Good (length bytes) count f) (d : Described) → d ≡ summary f →
     (k : Kind) (n begin end : ℕ) → d ≡ D.Known k n begin end →

@@ -1,19 +1,11 @@
 -- `test::misplaced` meets its contract. Assumes nothing.
-use mathlib.Core.Path.{_≡_, refl, sym}
-use Prim.Native.Nat.{ℕ, _*_, _≤_}
+use mathlib.Core.Path.{refl}
 use native.Mathlib.Omega.{arith}
 use borrow.Author.Tests.{lt-leb, le-leb}
-use Rattle.tensor_values.specs.declared.Kind.{Kind}
-use Rattle.tensor_values.specs.declared.Kind.the-variants.{F32, BF16, F16}
-use Rattle.tensor_values.specs.Values.{sizeOf}
 use borrow.Author.Needs.{needs}
+use Rattle.weights.proofs.Filling.{few}
 use Rattle.weights.proofs.test.misplaced.Statement.{statement}
 use Rattle.weights.proofs.test.misplaced.Tie as tie
-
-few : (n r : ℕ) (k : Kind) → r ≡ sizeOf k → n ≤ 67108864 → n * r ≤ 268435456
-few n r F32 e h = rw e (omega arith)
-few n r BF16 e h = rw e (omega arith)
-few n r F16 e h = rw e (omega arith)
 
 returns : tie.Need-returns
 returns c = rw (lt-leb _ _ (c .if1 .taken)) refl
