@@ -1,20 +1,25 @@
 -- Laws of weighted sums by two rows of weights. Assumes nothing.
-use mathlib.Core.Path.{_≡_, refl, ap, _∙_}
+use mathlib.Core.Path.{_≡_, refl, sym, ap, _∙_}
 use mathlib.Core.List.{List}
 use Prim.Native.Nat.{ℕ, _+_, _*_, _-_, _≤_}
 use native.Mathlib.Omega.{arith}
-use lib.ListN.{length, getD}
-use lib.Ieee.{Float, nan}
+use lib.ListN.{length}
+use lib.Ieee.{Float}
 use Rattle.buffers.specs.Rows.{tab}
 use Rattle.buffers.specs.Region.{region, put}
 use Rattle.buffers.specs.inner.Apart.{Apart}
 use Rattle.buffers.proofs.Regions.{put-append, put-comm, region-put, apart-sub}
-use Rattle.encoder_linear.specs.inner.Lanes.{spread}
 use Rattle.encoder_linear.specs.inner.Fits.{WeighPairFits}
 use Rattle.encoder_linear.specs.Linear.{columnOf, weighedRow}
 use Rattle.encoder_linear.specs.inner.Weighed.{weighedPair}
 use Rattle.encoder_linear.proofs.Sums.{length-weighed}
-use Rattle.encoder_linear.proofs.Columns.{lanes-put, weighed-add}
+use Rattle.encoder_linear.proofs.Columns.{weighed-add}
+use Rattle.encoder_linear.proofs.Rooms.{part-of}
+
+pair-unfold : (s : List Float) (a b v x y t dim hd o : ℕ)
+    → weighedPair s a b v x y t dim hd o ≡ put (put s x (weighedRow t dim hd o (region s a t) (region s v (t * dim)))) y (weighedRow t dim hd o (region s b t) (region s v (t * dim)))
+unfolding weighedPair
+pair-unfold s a b v x y t dim hd o = refl
 
 module _ (s : List Float) (a b v x y t dim hd o : ℕ) (g : WeighPairFits (length s) a b v x y t dim hd o) where
   -- the first d sums of each row
@@ -63,23 +68,12 @@ module _ (s : List Float) (a b v x y t dim hd o : ℕ) (g : WeighPairFits (lengt
       ∙ put-append (put s x (A (d + m))) y (B d) D (y + d) (rw lb refl)
       ∙ ap (put (put s x (A (d + m))) y) (weighed-add t dim o d m r q)
 
-  -- sixteen more of each, worked out by the parts that are read and stored side by side
-  pub pair-turn : (d : ℕ) → d + 16 ≤ hd → (u u₁ u₂ p r q f h : List Float) → u ≡ some d
-      → p ≡ region u a t → r ≡ region u b t → q ≡ region u v (t * dim) → length p ≡ t
-      → f ≡ tab 16 (λ l. columnOf (length p) dim (o + d + l) p q) → h ≡ tab 16 (λ l. columnOf (length p) dim (o + d + l) r q)
-      → u₁ ≡ spread u (x + d) 1 16 (λ i. getD f (0 + i * 1) nan) → u₂ ≡ spread u₁ (y + d) 1 16 (λ i. getD h (0 + i * 1) nan)
-      → u₂ ≡ some (d + 16)
-  unfolding weighedRow
-  pair-turn d w u u₁ u₂ p r q f h eu ep er eq el ef eh e₁ e₂ =
+  -- m more of each row, by what stands there once d are written
+  pub pair-more : (d m : ℕ) → d + m ≤ hd → (u z : List Float) → u ≡ some d → z ≡ weighedPair u a b v (x + d) (y + d) t dim m (o + d) → z ≡ some (d + m)
+  pair-more d m h u z eu ez =
       let k : d ≤ hd = omega arith in
-      let P = ep ∙ ap (λ z. region z a t) eu ∙ a-seen d k in
-      let R = er ∙ ap (λ z. region z b t) eu ∙ b-seen d k in
-      let Q = eq ∙ ap (λ z. region z v (t * dim)) eu ∙ v-seen d k in
-      let column : List Float → ℕ → Float = λ z l. columnOf t dim (o + d + l) z (region s v (t * dim)) in
-      let wide : (z w : List Float) → z ≡ w → tab 16 (λ l. columnOf (length p) dim (o + d + l) z q) ≡ tab 16 (column w) =
-      λ z w e. ap (λ n. tab 16 (λ l. columnOf n dim (o + d + l) z q)) el ∙ ap (λ x. tab 16 (λ l. columnOf t dim (o + d + l) z x)) Q ∙ ap (λ x. tab 16 (column x)) e in
-      let z₁ = e₁ ∙ lanes-put u f (x + d) (column (region s a t)) (ef ∙ wide p (region s a t) P) ∙ ap (λ z. put z (x + d) (tab 16 (column (region s a t)))) eu in
-      e₂ ∙ lanes-put u₁ h (y + d) (column (region s b t)) (eh ∙ wide r (region s b t) R) ∙ ap (λ z. put z (y + d) (tab 16 (column (region s b t)))) z₁ ∙ pair-add d 16 w
+      let at : List Float → List Float = λ u. put (put u (x + d) (weighedRow t dim m (o + d) (region u a t) (region u v (t * dim)))) (y + d) (weighedRow t dim m (o + d) (region u b t) (region u v (t * dim))) in
+      ez ∙ pair-unfold u a b v (x + d) (y + d) t dim m (o + d) ∙ ap at eu ∙ rw (a-seen d k, b-seen d k, v-seen d k) (pair-add d m h)
 
   -- and the rest of each
   pub pair-rest : (d : ℕ) → d ≤ hd → (u u₁ u₂ : List Float) → u ≡ some d
@@ -97,3 +91,49 @@ module _ (s : List Float) (a b v x y t dim hd o : ℕ) (g : WeighPairFits (lengt
       let z₂ : u₂ ≡ some (d + m) = e₂ ∙ rw (past b t (g .bx) (g .second .rowout), past v (t * dim) (g .first .vout) (g .second .vout), z₁) (pair-add d m all) in
       let end : d + m ≡ hd = omega arith in
       z₂ ∙ ap some end
+
+-- sixteen sums by the parts that were read
+row-is : (n t dim o : ℕ) (p q P Q f : List Float) → n ≡ t → p ≡ P → q ≡ Q → f ≡ tab 16 (λ l. columnOf n dim (o + l) p q) → f ≡ weighedRow t dim 16 o P Q
+unfolding weighedRow
+row-is n t dim o p q P Q f en ep eq ef =
+    ef ∙ ap (λ k. tab 16 (λ l. columnOf k dim (o + l) p q)) en ∙ ap (λ z. tab 16 (λ l. columnOf t dim (o + l) z q)) ep ∙ ap (λ z. tab 16 (λ l. columnOf t dim (o + l) P z)) eq
+
+module _ (s p r q : List Float) (a b v x y t dim o : ℕ) (ep : p ≡ region s a t) (er : r ≡ region s b t) (eq : q ≡ region s v (t * dim)) (el : length p ≡ t) where
+  -- the sums of a row of weights z, sixteen from place k on
+  abbrev sums : List Float → ℕ → List Float
+  sums z k = tab 16 (λ l. columnOf (length p) dim (k + l) z q)
+
+  by-a : (k : ℕ) (f : List Float) → f ≡ sums p k → f ≡ weighedRow t dim 16 k (region s a t) (region s v (t * dim))
+  by-a k f e = row-is (length p) t dim k p q (region s a t) (region s v (t * dim)) f el ep eq e
+
+  by-b : (k : ℕ) (f : List Float) → f ≡ sums r k → f ≡ weighedRow t dim 16 k (region s b t) (region s v (t * dim))
+  by-b k f e = row-is (length p) t dim k r q (region s b t) (region s v (t * dim)) f el er eq e
+
+  pub sixteen-is : (u₁ u₂ f g : List Float) → f ≡ sums p o → g ≡ sums r o → u₁ ≡ put s x f → u₂ ≡ put u₁ y g → u₂ ≡ weighedPair s a b v x y t dim 16 o
+  unfolding weighedPair
+  sixteen-is u₁ u₂ f g ef eg e₁ e₂ = e₂ ∙ rw (e₁, by-a o f ef, by-b o g eg) refl
+
+  -- two rows of sixteen, one behind the other
+  joined : (c d : ℕ) (u f g w : List Float) → f ≡ weighedRow t dim 16 o w (region s v (t * dim)) → g ≡ weighedRow t dim 16 (o + 16) w (region s v (t * dim))
+      → d ≡ c + 16 → put (put u c f) d g ≡ put u c (weighedRow t dim 32 o w (region s v (t * dim)))
+  joined c d u f g w ef eg ed =
+      put-append u c f g d (ed ∙ ap (λ k. c + k) (sym (ap length ef ∙ length-weighed t dim 16 o w (region s v (t * dim)))))
+      ∙ ap (put u c) (rw (ef, eg) (weighed-add t dim o 16 16 w (region s v (t * dim))))
+
+  pub thirty-two-is : (u₁ u₂ u₃ u₄ f g h i : List Float) → f ≡ sums p o → g ≡ sums p (o + 16) → h ≡ sums r o → i ≡ sums r (o + 16)
+      → u₁ ≡ put s x f → u₂ ≡ put u₁ (x + 16) g → u₃ ≡ put u₂ y h → u₄ ≡ put u₃ (y + 16) i → u₄ ≡ weighedPair s a b v x y t dim 32 o
+  unfolding weighedPair
+  thirty-two-is u₁ u₂ u₃ u₄ f g h i ef eg eh ei e₁ e₂ e₃ e₄ =
+      let z₂ = e₂ ∙ ap (λ u. put u (x + 16) g) e₁ ∙ joined x (x + 16) s f g (region s a t) (by-a o f ef) (by-a (o + 16) g eg) refl in
+      e₄ ∙ ap (λ u. put u (y + 16) i) e₃ ∙ joined y (y + 16) u₂ h i (region s b t) (by-b o h eh) (by-b (o + 16) i ei) refl
+      ∙ ap (λ u. put u y (weighedRow t dim 32 o (region s b t) (region s v (t * dim)))) z₂
+
+-- what is asked for the m places behind d of them
+pub part-fits : {len a b v x y t dim hd o : ℕ} (d m : ℕ) → WeighPairFits len a b v x y t dim hd o → d + m ≤ hd → WeighPairFits len a b v (x + d) (y + d) t dim m (o + d)
+part-fits d m g h = record {
+  first = part-of d m (g .first) h;
+  second = part-of d m (g .second) h;
+  ay = apart-sub (g .ay) (omega arith) (omega arith) (omega arith) (omega arith);
+  bx = apart-sub (g .bx) (omega arith) (omega arith) (omega arith) (omega arith);
+  xy = apart-sub (g .xy) (omega arith) (omega arith) (omega arith) (omega arith);
+}

@@ -17,7 +17,7 @@ use Rattle.buffers.proofs.Lists.{fit, length-tab, getD-tab, tab-ext, tab-mul, l
 use Rattle.buffers.specs.Each.{blank}
 use Rattle.encoder_linear.specs.Linear.{sumOf, linearRow, linearOf}
 use Rattle.encoder_linear.specs.inner.Lanes.{sumFrom, laneOf, cellOf, goneSum, spread, filled, product, begun, goneOn}
-use Rattle.encoder_linear.specs.inner.Fits.{ColumnsFits, ColumnAt}
+use Rattle.encoder_linear.specs.inner.Fits.{ColumnsFits, ColumnAt, WideAt}
 use Rattle.encoder_linear.proofs.Sums.{sum-ext, length-linear}
 use Rattle.encoder_linear.proofs.Fills.{spread-ext, spread-one, filled-ext, filled-in, filled-out, filled-add}
 
@@ -185,8 +185,16 @@ module _ {lens lenw lent y r nin nout k n c : ℕ} (f : ColumnAt lens lenw lent 
   room = omega (arith, fit nin (f .column), f .fits .win, f .fits .kin)
 
   -- the column before
+
   pub before-it : {d : ℕ} → c ≡ d + 1 → ColumnAt lens lenw lent y r nin nout k n d
   before-it e = record { fits = f .fits; column = omega (arith, f .column) }
+
+module _ {lens lenw lent y r nin nout k n c : ℕ} (f : WideAt lens lenw lent y r nin nout k n c) where
+  pub first-of : ColumnAt lens lenw lent y r nin nout k n c
+  first-of = record { fits = f .fits; column = omega (arith, f .columns) }
+
+  pub column-of : (o : ℕ) → o < 4 → ColumnAt lens lenw lent y r nin nout k n (c + o)
+  column-of o h = record { fits = f .fits; column = omega (arith, f .columns) }
 
 module _ (w xt : List Float) (y r nin nout k n : ℕ) where
   -- column c gathered into lanes and gone on
@@ -235,6 +243,23 @@ module _ (w xt : List Float) (y r nin nout k n : ℕ) where
       let two : c + 2 ≡ suc (c + 1) = omega arith in
       g ∙ spread-ext x (y + (c + 1)) nout r (λ l. goneSum u w xt y nin nout k n l (c + 1)) (λ l. goneSum s w xt y nin nout k n l (c + 1)) (column-same s u c (c + 1) e (omega arith) h)
       ∙ rw (two, f)
+
+  -- four columns, each the lanes of its own, spread one after another
+  pub four-spread : (s b₀ b₁ b₂ b₃ : List Float) (c : ℕ) (F : ℕ → ℕ → Float)
+      → ((l : ℕ) → l < r → getD b₀ (0 + l * 1) nan ≡ F l 0) → ((l : ℕ) → l < r → getD b₁ (0 + l * 1) nan ≡ F l 1)
+      → ((l : ℕ) → l < r → getD b₂ (0 + l * 1) nan ≡ F l 2) → ((l : ℕ) → l < r → getD b₃ (0 + l * 1) nan ≡ F l 3)
+      → spread (spread (spread (spread s (y + c) nout r (λ l. getD b₀ l nan)) (y + c + 1) nout r (λ l. getD b₁ l nan)) (y + c + 2) nout r (λ l. getD b₂ l nan)) (y + c + 3) nout r (λ l. getD b₃ l nan)
+      ≡ filled s (y + c) nout r 4 F
+  unfolding filled
+  four-spread s b₀ b₁ b₂ b₃ c F h₀ h₁ h₂ h₃ =
+      let at = y + c in
+      let turn : (u b : List Float) (o : ℕ) → u ≡ filled s at nout r o F → ((l : ℕ) → l < r → getD b (0 + l * 1) nan ≡ F l o)
+      → spread u (at + o) nout r (λ l. getD b l nan) ≡ filled s at nout r (suc o) F =
+      λ u b o e h.
+      spread-ext u (at + o) nout r (λ l. getD b l nan) (λ l. F l o) (λ l p. ap (λ i. getD b i nan) (omega arith) ∙ h l p) ∙ ap (λ x. spread x (at + o) nout r (λ l. F l o)) e in
+      let z₁ : spread s at nout r (λ l. getD b₀ l nan) ≡ filled s at nout r 1 F = ap (λ a. spread s a nout r (λ l. getD b₀ l nan)) (omega arith) ∙ turn s b₀ 0 refl h₀ in
+      turn (spread (spread (spread s at nout r (λ l. getD b₀ l nan)) (at + 1) nout r (λ l. getD b₁ l nan)) (at + 2) nout r (λ l. getD b₂ l nan)) b₃ 3
+      (turn (spread (spread s at nout r (λ l. getD b₀ l nan)) (at + 1) nout r (λ l. getD b₁ l nan)) b₂ 2 (turn (spread s at nout r (λ l. getD b₀ l nan)) b₁ 1 z₁ h₁) h₂) h₃
 
   -- four columns gathered into cells and gone on
   pub four-cells : (s z a b : List Float) (c : ℕ) → r ≤ 4 → length z ≡ 16

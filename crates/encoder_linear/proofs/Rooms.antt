@@ -86,9 +86,9 @@ module _ {len row v out t dim hd o : ℕ} where
       two (two (le-leb (o + hd) dim (f .oIn)) (le-leb (v + t * dim) len (f .vIn)))
       (two (two (le-leb (row + t) len (f .rowIn)) (le-leb (out + hd) len (f .outIn))) (two (aside-is (f .rowout)) (aside-is (f .vout))))
 
--- what is asked of the sums from d on
-pub rest-fits : {lens row v out t dim hd o : ℕ} (d : ℕ) → WeighFits lens row v out t dim hd o → d ≤ hd → WeighFits lens row v (out + d) t dim (hd - d) (o + d)
-rest-fits d g h = record {
+-- what is asked of m of the sums, from d on
+pub part-of : {lens row v out t dim hd o : ℕ} (d m : ℕ) → WeighFits lens row v out t dim hd o → d + m ≤ hd → WeighFits lens row v (out + d) t dim m (o + d)
+part-of d m g h = record {
   vIn = g .vIn;
   rowIn = g .rowIn;
   outIn = omega (arith, g .outIn);
@@ -96,6 +96,10 @@ rest-fits d g h = record {
   rowout = apart-sub (g .rowout) (omega arith) (omega arith) (omega arith) (omega arith);
   vout = apart-sub (g .vout) (omega arith) (omega arith) (omega arith) (omega arith);
 }
+
+-- and of all from d on
+pub rest-fits : {lens row v out t dim hd o : ℕ} (d : ℕ) → WeighFits lens row v out t dim hd o → d ≤ hd → WeighFits lens row v (out + d) t dim (hd - d) (o + d)
+rest-fits {hd = hd} d g h = part-of d (hd - d) g (omega arith)
 
 module _ {len a b v x y t dim hd o : ℕ} where
   pub weigh-pair-says : weighPairFits len a b v x y t dim hd o ≡ true → WeighPairFits len a b v x y t dim hd o

@@ -2,6 +2,7 @@
 pub mod bias;
 mod few;
 mod lanes;
+mod level;
 pub mod linear;
 pub mod pair;
 mod room;

@@ -13,6 +13,8 @@ use crate::few::four_columns;
 use crate::lanes::one_column;
 use crate::lanes::pack;
 use crate::lanes::two_columns;
+use crate::lanes::wide_columns;
+use crate::level::wide;
 use crate::room::from_fits;
 use crate::room::linear_fits;
 use buffers::clear_at;
@@ -32,7 +34,7 @@ pub(crate) fn next_rows(n: usize) -> usize
 }
 
 // The r rows of sums at y go on by n products: a lane of xt by the floats from k on of each of the nout rows of w, of few
-// rows four columns at a time, of more two.
+// rows four columns at a time, of more two, or four where registers are wide.
 pub(crate) fn columns(
     s: &mut [f32],
     y: usize,
@@ -52,6 +54,9 @@ pub(crate) fn columns(
         if 4 <= nout - c {
             if r < 5 {
                 four_columns(s, y, r, nin, nout, w, k, n, xt, c);
+                c += 4;
+            } else if wide() {
+                wide_columns(s, y, r, nin, nout, w, k, n, xt, c);
                 c += 4;
             } else {
                 two_columns(s, y, r, nin, nout, w, k, n, xt, c);

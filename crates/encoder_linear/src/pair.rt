@@ -7,10 +7,12 @@ ghost use Rattle.buffers.specs.Rows.{tab};
 ghost use Rattle.encoder_linear.specs.Linear.{columnOf};
 ghost use Rattle.encoder_linear.specs.inner.Weighed.{weighedPair};
 ghost use Rattle.encoder_linear.specs.inner.Room.{weighPairFits};
-ghost use Rattle.encoder_linear.specs.inner.Fits.{WideFits, WeighPairFits};
+ghost use Rattle.encoder_linear.specs.inner.Fits.{WideFits, WiderFits, WeighPairFits};
+use crate::lanes::Four;
 use crate::lanes::Two;
 use crate::lanes::add_products;
-use crate::lanes::copy_spread;
+use crate::lanes::put_lanes;
+use crate::level::wide;
 use crate::room::weigh_pair_fits;
 use crate::weigh::weigh_rest;
 use buffers::part;
@@ -41,7 +43,95 @@ pub(crate) fn wide_pair(p: &[f32], r: &[f32], v: &[f32], o: usize, dim: usize) -
     }
 }
 
-// Sixteen by sixteen while there are as many; how many of each were written.
+// Thirty-two sums by the weights p and thirty-two by r: those at the places o to o + 31, sixteen and sixteen.
+pub(crate) fn wider_pair(p: &[f32], r: &[f32], v: &[f32], o: usize, dim: usize) -> Four
+    requires { ⌜ WiderFits (length (now p)) (length (now r)) (length (now v)) o dim ⌝ }
+    ensures { λ x. ⌜ (x .first ≡ tab 16 (λ l. columnOf (length (now (p .entry))) dim (o + l) (now (p .entry)) (now (v .entry))))
+        × (x .second ≡ tab 16 (λ l. columnOf (length (now (p .entry))) dim (o + 16 + l) (now (p .entry)) (now (v .entry))))
+        × (x .third ≡ tab 16 (λ l. columnOf (length (now (p .entry))) dim (o + l) (now (r .entry)) (now (v .entry))))
+        × (x .fourth ≡ tab 16 (λ l. columnOf (length (now (p .entry))) dim (o + 16 + l) (now (r .entry)) (now (v .entry)))) ⌝ }
+{
+    let mut b = [0.0f32; 16];
+    let mut c = [0.0f32; 16];
+    let mut d = [0.0f32; 16];
+    let mut e = [0.0f32; 16];
+    let mut j = 0usize;
+    let mut a = o;
+    while j < p.len() {
+        let t = p[j];
+        let u = r[j];
+        let b2 = add_products(b, v, a, t);
+        let c2 = add_products(c, v, a + 16, t);
+        let d2 = add_products(d, v, a, u);
+        let e2 = add_products(e, v, a + 16, u);
+        b = b2;
+        c = c2;
+        d = d2;
+        e = e2;
+        a += dim;
+        j += 1;
+    }
+    Four {
+        first: b,
+        second: c,
+        third: d,
+        fourth: e,
+    }
+}
+
+// The sums at the sixteen places from o on.
+pub(crate) fn pair_sixteen(
+    s: &mut [f32],
+    a: usize,
+    b: usize,
+    v: usize,
+    x: usize,
+    y: usize,
+    t: usize,
+    dim: usize,
+    o: usize,
+)
+    requires { ⌜ WeighPairFits (length (now s)) a b v x y t dim 16 o ⌝ }
+    ensures { λ _. ⌜ now (s .exit) ≡ weighedPair (now (s .entry)) a b v x y t dim 16 o ⌝ }
+{
+    let n = t * dim;
+    let both = wide_pair(part(s, a, t), part(s, b, t), part(s, v, n), o, dim);
+    let f = both.first;
+    let g = both.second;
+    put_lanes(s, x, f);
+    put_lanes(s, y, g);
+}
+
+// The sums at the thirty-two places from o on.
+pub(crate) fn pair_thirty_two(
+    s: &mut [f32],
+    a: usize,
+    b: usize,
+    v: usize,
+    x: usize,
+    y: usize,
+    t: usize,
+    dim: usize,
+    o: usize,
+)
+    requires { ⌜ WeighPairFits (length (now s)) a b v x y t dim 32 o ⌝ }
+    ensures { λ _. ⌜ now (s .exit) ≡ weighedPair (now (s .entry)) a b v x y t dim 32 o ⌝ }
+{
+    let n = t * dim;
+    let after = x + 16;
+    let next = y + 16;
+    let both = wider_pair(part(s, a, t), part(s, b, t), part(s, v, n), o, dim);
+    let f = both.first;
+    let g = both.second;
+    let h = both.third;
+    let i = both.fourth;
+    put_lanes(s, x, f);
+    put_lanes(s, after, g);
+    put_lanes(s, y, h);
+    put_lanes(s, next, i);
+}
+
+// Sixteen at a time, or thirty-two where registers are wide, while there are as many; how many of each were written.
 pub(crate) fn pair_wide(
     s: &mut [f32],
     a: usize,
@@ -57,15 +147,15 @@ pub(crate) fn pair_wide(
     requires { ⌜ WeighPairFits (length (now s)) a b v x y t dim hd o ⌝ }
     ensures { λ r. ⌜ (r ≤ hd) × (now (s .exit) ≡ weighedPair (now (s .entry)) a b v x y t dim r o) ⌝ }
 {
-    let n = t * dim;
     let mut d = 0usize;
     while 16 <= hd - d {
-        let both = wide_pair(part(s, a, t), part(s, b, t), part(s, v, n), o + d, dim);
-        let f = both.first;
-        let g = both.second;
-        copy_spread(s, x + d, 1, &f, 0, 1, 16);
-        copy_spread(s, y + d, 1, &g, 0, 1, 16);
-        d += 16;
+        if 32 <= hd - d && wide() {
+            pair_thirty_two(s, a, b, v, x + d, y + d, t, dim, o + d);
+            d += 32;
+        } else {
+            pair_sixteen(s, a, b, v, x + d, y + d, t, dim, o + d);
+            d += 16;
+        }
     }
     d
 }

@@ -13,10 +13,31 @@ pub record TwoFit (a b : List Float) (lent lenw lenv : ℕ) : Type 0 where
   pub tin : lenw * 16 ≤ lent
   pub same : lenv ≡ lenw
 
+-- lanes of a, b, c and d, by four
+pub record FourFit (a b c d : List Float) (lent lenw lenv lenu lenp : ℕ) : Type 0 where
+  pub first : length a ≡ 16
+  pub second : length b ≡ 16
+  pub third : length c ≡ 16
+  pub fourth : length d ≡ 16
+  pub tin : lenw * 16 ≤ lent
+  pub same : lenv ≡ lenw
+  pub same₃ : lenu ≡ lenw
+  pub same₄ : lenp ≡ lenw
+
 -- n floats of v, from o on with step q, to at with step m
 pub record StrideFits (lend at m lenv o q n : ℕ) : Type 0 where
   pub to : (i : ℕ) → i < n → at + i * m < lend
   pub from : (i : ℕ) → i < n → o + i * q < lenv
+
+-- r of four times sixteen lanes, to four columns of rows of m
+pub record SpreadFits (lens at m r lena lenb lenc lend : ℕ) : Type 0 where
+  pub some : 0 < r
+  pub rows : r ≤ 16
+  pub first : lena ≡ 16
+  pub second : lenb ≡ 16
+  pub third : lenc ≡ 16
+  pub fourth : lend ≡ 16
+  pub to : (l : ℕ) → l < r → at + 3 + l * m < lens
 
 -- n floats of each of r rows, to m lanes
 pub record PackFits (lent m lenx at r nin n : ℕ) : Type 0 where
@@ -37,6 +58,11 @@ pub record ColumnsFits (lens lenw lent y r nin nout k n : ℕ) : Type 0 where
 pub record ColumnAt (lens lenw lent y r nin nout k n c : ℕ) : Type 0 where
   pub fits : ColumnsFits lens lenw lent y r nin nout k n
   pub column : c < nout
+
+-- and columns c to c + 3
+pub record WideAt (lens lenw lent y r nin nout k n c : ℕ) : Type 0 where
+  pub fits : ColumnsFits lens lenw lent y r nin nout k n
+  pub columns : c + 4 ≤ nout
 
 -- sixteen cells, by four lanes at j and a weight of each of four rows of nin
 pub record CellFits (lena lent lenw j at nin : ℕ) : Type 0 where
@@ -124,6 +150,12 @@ pub record WideFits (lenp lenr lenv o dim : ℕ) : Type 0 where
   pub same : lenr ≡ lenp
   pub vIs : lenv ≡ lenp * dim
   pub places : o + 16 ≤ dim
+
+-- thirty-two places
+pub record WiderFits (lenp lenr lenv o dim : ℕ) : Type 0 where
+  pub same : lenr ≡ lenp
+  pub vIs : lenv ≡ lenp * dim
+  pub places : o + 32 ≤ dim
 
 -- two rows of weights, at a and at b, with sums at x and at y
 pub record WeighPairFits (len : ℕ) (a b v x y t dim hd o : ℕ) : Type 0 where

@@ -11,7 +11,7 @@ use Rattle.buffers.proofs.Lists.{length-tab}
 use Rattle.buffers.proofs.Regions.{length-region}
 use Rattle.encoder_linear.specs.inner.Lanes.{laneOf, goneSum, spread}
 use Rattle.encoder_linear.proofs.Fills.{spread-ext, length-spread}
-use Rattle.encoder_linear.proofs.Pieces.{cell, room, before-it, column-lane}
+use Rattle.encoder_linear.proofs.Pieces.{cell, room, column-lane}
 use Rattle.encoder_linear.proofs.lanes.one_column.Statement.{statement}
 use Rattle.encoder_linear.proofs.lanes.one_column.Tie as tie
 

@@ -41,35 +41,56 @@ loop-again c =
       four-turn (a .w .now) (a .xt .now) (a .y) (a .r) (a .nin) (a .nout) (a .k) (a .n) (a .s .now) (l .s) (c .before .before .four-columns .last .0) (l .c) (omega (arith, c .before .before .before .before .before .if1 .taken, c .before .before .before .before .before .before .before .loop .inv .0)) (l .inv .2) (c .before .before .four-columns .ensures),
     )
 
-two-columns-requires : tie.Need-two-columns-requires Inv-loop μ-loop
-two-columns-requires c κs = record { fits = rw (c .before .before .before .before .loop .inv .1) (c .before .before .before .before .before .before .before .before .pre); column = omega (arith, c .before .before .if1 .taken, c .before .before .before .before .loop .inv .0) }
+wide-requires : tie.Need-wide-requires Inv-loop μ-loop
+wide-requires c κs = search needs
+
+wide-columns-requires : tie.Need-wide-columns-requires Inv-loop μ-loop
+wide-columns-requires c κs = record { fits = rw (c .before .before .before .before .before .before .loop .inv .1) (c .before .before .before .before .before .before .before .before .before .before .pre); columns = omega (arith, c .before .before .before .before .if1 .taken, c .before .before .before .before .before .before .loop .inv .0) }
 
 add-c-2 : tie.Need-add-c-2 Inv-loop μ-loop
-add-c-2 c = omega (arith, c .before .before .before .before .before .if1 .taken, c .before .before .before .before .before .before .before .loop .inv .0)
+add-c-2 c = omega (arith, c .before .before .before .before .before .before .before .if1 .taken, c .before .before .before .before .before .before .before .before .before .loop .inv .0)
 
 loop-less-2 : tie.Need-loop-less-2 Inv-loop μ-loop
-loop-less-2 c = omega (arith, c .before .before .before .before .before .if1 .taken, c .before .before .before .before .before .before .before .loop .inv .0)
+loop-less-2 c = omega (arith, c .before .before .before .before .before .before .before .if1 .taken, c .before .before .before .before .before .before .before .before .before .loop .inv .0)
 
 loop-again-2 : tie.Need-loop-again-2 Inv-loop μ-loop
 loop-again-2 c =
-    let l = c .before .before .before .before .before .before .before .loop in
-    let a = c .before .before .before .before .before .before .before .before .before .before .before .args in (
-      omega (arith, c .before .before .before .before .before .if1 .taken, c .before .before .before .before .before .before .before .loop .inv .0),
+    let l = c .before .before .before .before .before .before .before .before .before .loop in
+    let a = c .before .before .before .before .before .before .before .before .before .before .before .before .before .args in (
+      omega (arith, c .before .before .before .before .before .before .before .if1 .taken, c .before .before .before .before .before .before .before .before .before .loop .inv .0),
+      c .before .before .wide-columns .kept .0 ∙ l .inv .1,
+      four-turn (a .w .now) (a .xt .now) (a .y) (a .r) (a .nin) (a .nout) (a .k) (a .n) (a .s .now) (l .s) (c .before .before .wide-columns .last .0) (l .c) (omega (arith, c .before .before .before .before .before .before .before .if1 .taken, c .before .before .before .before .before .before .before .before .before .loop .inv .0)) (l .inv .2) (c .before .before .wide-columns .ensures),
+    )
+
+two-columns-requires : tie.Need-two-columns-requires Inv-loop μ-loop
+two-columns-requires c κs = record { fits = rw (c .before .before .before .before .before .before .loop .inv .1) (c .before .before .before .before .before .before .before .before .before .before .pre); column = omega (arith, c .before .before .before .before .if1 .taken, c .before .before .before .before .before .before .loop .inv .0) }
+
+add-c-3 : tie.Need-add-c-3 Inv-loop μ-loop
+add-c-3 c = omega (arith, c .before .before .before .before .before .before .before .if1 .taken, c .before .before .before .before .before .before .before .before .before .loop .inv .0)
+
+loop-less-3 : tie.Need-loop-less-3 Inv-loop μ-loop
+loop-less-3 c = omega (arith, c .before .before .before .before .before .before .before .if1 .taken, c .before .before .before .before .before .before .before .before .before .loop .inv .0)
+
+loop-again-3 : tie.Need-loop-again-3 Inv-loop μ-loop
+loop-again-3 c =
+    let l = c .before .before .before .before .before .before .before .before .before .loop in
+    let a = c .before .before .before .before .before .before .before .before .before .before .before .before .before .args in (
+      omega (arith, c .before .before .before .before .before .before .before .if1 .taken, c .before .before .before .before .before .before .before .before .before .loop .inv .0),
       c .before .before .two-columns .kept .0 ∙ l .inv .1,
-      pair-turn (a .w .now) (a .xt .now) (a .y) (a .r) (a .nin) (a .nout) (a .k) (a .n) (a .s .now) (l .s) (c .before .before .two-columns .last .0) (l .c) (omega (arith, c .before .before .before .before .before .if1 .taken, c .before .before .before .before .before .before .before .loop .inv .0)) (l .inv .2) (c .before .before .two-columns .ensures),
+      pair-turn (a .w .now) (a .xt .now) (a .y) (a .r) (a .nin) (a .nout) (a .k) (a .n) (a .s .now) (l .s) (c .before .before .two-columns .last .0) (l .c) (omega (arith, c .before .before .before .before .before .before .before .if1 .taken, c .before .before .before .before .before .before .before .before .before .loop .inv .0)) (l .inv .2) (c .before .before .two-columns .ensures),
     )
 
 one-column-requires : tie.Need-one-column-requires Inv-loop μ-loop
 one-column-requires c κs = record { fits = rw (c .before .before .before .loop .inv .1) (c .before .before .before .before .before .before .before .pre); column = c .before .before .loop-test .taken }
 
-add-c-3 : tie.Need-add-c-3 Inv-loop μ-loop
-add-c-3 c = omega (arith, c .before .before .before .before .before .loop-test .taken)
+add-c-4 : tie.Need-add-c-4 Inv-loop μ-loop
+add-c-4 c = omega (arith, c .before .before .before .before .before .loop-test .taken)
 
-loop-less-3 : tie.Need-loop-less-3 Inv-loop μ-loop
-loop-less-3 c = omega (arith, c .before .before .before .before .before .loop-test .taken)
+loop-less-4 : tie.Need-loop-less-4 Inv-loop μ-loop
+loop-less-4 c = omega (arith, c .before .before .before .before .before .loop-test .taken)
 
-loop-again-3 : tie.Need-loop-again-3 Inv-loop μ-loop
-loop-again-3 c =
+loop-again-4 : tie.Need-loop-again-4 Inv-loop μ-loop
+loop-again-4 c =
     let l = c .before .before .before .before .before .before .loop in
     let a = c .before .before .before .before .before .before .before .before .before .before .args in (
       omega (arith, c .before .before .before .before .before .loop-test .taken),
@@ -98,13 +119,18 @@ columns-spec =
     add-c
     loop-less
     loop-again
-    two-columns-requires
+    wide-requires
+    wide-columns-requires
     add-c-2
     loop-less-2
     loop-again-2
-    one-column-requires
+    two-columns-requires
     add-c-3
     loop-less-3
     loop-again-3
+    one-column-requires
+    add-c-4
+    loop-less-4
+    loop-again-4
     same-length
     returns)
