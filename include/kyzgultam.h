@@ -9,11 +9,16 @@
  * Where two versions differ in the first or the second number, an answer may have other bits: docs/DIFFERENCES.md says
  * which. So an archive keeps this beside what it stores. `kz --version` prints it too.
  */
-#define KZ_VERSION "0.6.0"
+#define KZ_VERSION "0.7.0"
+#define KZ_VERSION_NUMBER 700 /* ten thousand times the first number, a hundred times the second, and the third */
 
 #ifdef __cplusplus
 extern "C" {
 #endif
+
+/* KZ_VERSION_NUMBER of the header that an archive belongs to: libkyzgultam.a's, and libnumber.a's. */
+uint32_t kz_version(void);
+uint32_t kz_number_version(void);
 
 /*
  * Pictures and the encoder (libkyzgultam.a). A call takes any numbers and returns. What a caller owes, and nothing

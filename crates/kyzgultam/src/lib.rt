@@ -6,6 +6,7 @@ pub mod plain;
 pub mod pools;
 pub mod salvage;
 pub mod tiles;
+pub mod version;
 pub mod weights_file;
 
 use face_encoder::ForwardReport;

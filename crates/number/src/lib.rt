@@ -74,3 +74,11 @@ pub extern "C" fn kz_bf16_widen_all(b: &[u16], out: &mut [u32]) -> usize
 {
     number_bf16_half_root::packed::bf16_widen_all(b, out)
 }
+
+// 0.7.0, as `kz_version` of the other archive says it: both may be linked into one program.
+#[no_mangle]
+pub extern "C" fn kz_number_version() -> u32
+    ensures { λ r. ⌜ r ≡ 700 ⌝ }
+{
+    700
+}
