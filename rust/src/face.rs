@@ -1,5 +1,7 @@
 //! The C declarations of include/kyzgultam.h.
 
+#[cfg(kz_levels)]
+use crate::level::{running, Level};
 use crate::PictureSettings;
 
 #[repr(C)]
@@ -157,7 +159,38 @@ pub struct PoolPlace {
     pub len: usize,
 }
 
-extern "C" {
+/// Makes of each declaration a function that hands on to it or, where all levels are linked, to the running level's own,
+/// which has the level behind its name.
+macro_rules! face {
+    ($(pub fn $name:ident($($given:ident: $kind:ty),* $(,)?) -> $answer:ty;)*) => {$(
+        #[cfg(not(kz_levels))]
+        pub unsafe fn $name($($given: $kind),*) -> $answer {
+            extern "C" {
+                fn $name($($given: $kind),*) -> $answer;
+            }
+            $name($($given),*)
+        }
+
+        #[cfg(kz_levels)]
+        pub unsafe fn $name($($given: $kind),*) -> $answer {
+            extern "C" {
+                #[link_name = concat!(stringify!($name), "_x86_64")]
+                fn x86_64($($given: $kind),*) -> $answer;
+                #[link_name = concat!(stringify!($name), "_x86_64_v3")]
+                fn x86_64_v3($($given: $kind),*) -> $answer;
+                #[link_name = concat!(stringify!($name), "_x86_64_v4")]
+                fn x86_64_v4($($given: $kind),*) -> $answer;
+            }
+            match running() {
+                Level::X86_64 => x86_64($($given),*),
+                Level::X86_64V3 => x86_64_v3($($given),*),
+                Level::X86_64V4 => x86_64_v4($($given),*),
+            }
+        }
+    )*};
+}
+
+face! {
     pub fn kz_preprocess(
         settings: PictureSettings,
         rgb: *const u8,

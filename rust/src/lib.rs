@@ -7,6 +7,9 @@
 //! that Rust takes for granted: rounding to nearest, and no flushing of subnormals. A C program that was linked with
 //! `-ffast-math` has another, in the Rust that it calls too.
 //!
+//! The calls run for the highest level of processors that there is here ([`level`]), with the same bits for each; where
+//! the environment's KZ_LEVEL holds them to one that cannot be had, a call panics and says so.
+//!
 //! A picture larger than the image size is resized, or, where nothing may be lost, taken tile by tile: [`cut`],
 //! [`preprocess_tile`] and [`restore_tile`]. Patches that [`restore`] refuses for damaged samples, [`salvage`] brings
 //! back without these, and lists them. [`forward`] takes the Rust's rotary tables, [`forward_axes`] small ones;
@@ -57,6 +60,7 @@
 mod calls;
 mod config;
 mod face;
+mod level;
 mod number;
 mod pool;
 mod refusal;
@@ -69,6 +73,7 @@ mod weights;
 pub use calls::{forward, forward_axes, forward_plain, patch, pixtral_preprocess, restore};
 pub use calls::{Patches, Picture, PixtralEncoder};
 pub use config::{config, ConfigRefusal};
+pub use level::{level, Level, UnknownLevel};
 pub use number::{bf16, bf16_pack, bf16_pack_all, bf16_widen, bf16_widen_all};
 pub use number::{exp, half_to_f32, root, tanh};
 pub use pool::Pool;

@@ -4,7 +4,7 @@
 
 use crate::face;
 
-fn by(rule: unsafe extern "C" fn(u32) -> u32, x: f32) -> f32 {
+fn by(rule: unsafe fn(u32) -> u32, x: f32) -> f32 {
     f32::from_bits(unsafe { rule(x.to_bits()) })
 }
 

@@ -37,7 +37,11 @@ fn version_is_the_headers() {
     let header = fs::read_to_string(Path::new(env!("CARGO_MANIFEST_DIR")).join("../include/kyzgultam.h")).unwrap();
     assert!(header.contains(&format!("\n#define KZ_VERSION \"{}\"\n", kyzgultam::VERSION)));
     for words in ["--version", "-V"] {
-        assert_eq!(folder.done(words), format!("kz {}\n", kyzgultam::VERSION));
+        // Level and kit follow, where the build knows them.
+        let said = folder.done(words);
+        let (first, rest) = said.split_once('\n').unwrap();
+        assert_eq!(first, format!("kz {}", kyzgultam::VERSION));
+        assert!(rest.lines().all(|line| line.starts_with("level ") || line.starts_with("kit ")), "{said}");
     }
 }
 

@@ -8,6 +8,7 @@ use kyzgultam::{BadSample, EncoderSettings, PictureSettings, Pool, Refusal};
 use std::fs;
 use std::hint::black_box;
 use std::io::{stderr, Write};
+use std::path::{Path, PathBuf};
 use std::process::Command;
 use std::time::{Duration, Instant};
 
@@ -38,8 +39,9 @@ by mean and deviation of the Rust, 0.2 and 0.25, and 0.2 and 1e38 (by halving).
 ";
 
 const ORACLE: &str = concat!(env!("CARGO_MANIFEST_DIR"), "/../oracle/run");
-/// The archives that this program was linked with (build.rs).
-const ARCHIVES: &str = env!("KZ_LINKED");
+const ARCHIVES: &str = concat!(env!("CARGO_MANIFEST_DIR"), "/../archives");
+/// The archives that this program was linked with (build.rs); where they have all levels, each stands beside them alone.
+const LINKED: &str = env!("KZ_LINKED");
 /// What oracle/run ends with where it has no Rust to compare with.
 const SKIPPED: i32 = 3;
 
@@ -71,6 +73,7 @@ fn beside_the_rust(grids: Option<&str>) -> Result<bool, Fail> {
         let _ = writeln!(stderr(), "kz: comparison with the Rust skipped: there is no {ORACLE}");
         return Ok(false);
     };
+    let archives = running()?;
     for program in ["picture", "encoder"] {
         let mut words = vec![program, "--bench"];
         if program == "encoder" {
@@ -88,7 +91,7 @@ fn beside_the_rust(grids: Option<&str>) -> Result<bool, Fail> {
             loads()?;
             say(format_args!(""));
         }
-        let status = Command::new(&oracle).arg(ARCHIVES).args(&words).status();
+        let status = Command::new(&oracle).arg(&archives).args(&words).status();
         let status = status.map_err(|e| Fail::file(&oracle, format!("cannot be run: {e}; check it out again")))?;
         match status.code() {
             Some(0) => {}
@@ -97,6 +100,22 @@ fn beside_the_rust(grids: Option<&str>) -> Result<bool, Fail> {
         }
     }
     Ok(true)
+}
+
+/// The archives of the running level alone, with the names that oracle/run links; made where they are not there yet.
+fn running() -> Result<PathBuf, Fail> {
+    let linked = PathBuf::from(LINKED);
+    let Ok(Some(level)) = kyzgultam::level() else { return Ok(linked) };
+    let folder = linked.with_file_name(level.name());
+    if !folder.join("libkyzgultam.a").is_file() && fs::canonicalize(ARCHIVES).is_ok() {
+        let made = Command::new(ARCHIVES).arg(level.name()).status();
+        let made =
+            made.map_err(|e| Fail::file(Path::new(ARCHIVES), format!("cannot be run: {e}; check it out again")))?;
+        if !made.success() {
+            return Err(Fail::file(Path::new(ARCHIVES), format!("ended with {made}; its own words are above")));
+        }
+    }
+    Ok(folder)
 }
 
 /// Times the port by itself.

@@ -25,6 +25,7 @@ mod source;
 mod spot;
 mod sweep;
 mod tiles;
+mod version;
 mod weights;
 
 use fail::Fail;
@@ -120,8 +121,9 @@ fn run(words: &[OsString]) -> Result<(), Fail> {
         say(format_args!("{}", HELP.trim_end()));
         return Ok(());
     }
+    kyzgultam::level().map_err(|unknown| Fail::Refused(unknown.to_string()))?;
     if is(first, &["--version", "-V"]) {
-        return answer(format_args!("kz {}", kyzgultam::VERSION));
+        return answer(format_args!("{}", version::lines()));
     }
     let command = COMMANDS.iter().find(|(name, ..)| first == name);
     let (_, help, known, work) = command.ok_or_else(|| Fail::usage(format!("no command {}", shown::shown(first))))?;
