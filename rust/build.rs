@@ -35,7 +35,7 @@ fn main() {
     for name in ARCHIVES {
         println!("cargo:rustc-link-lib=static={name}");
     }
-    // `kz bench` hands oracle/run the archives that it was linked with, or those of the running level, which stand beside.
+    // `kz bench` hands oracle/run the archives that it was linked with, or those of the running level beside them.
     println!("cargo:rustc-env=KZ_LINKED={}", archives.folder.display());
     // `kz --version` names the kit that proved them, where that is known: `archives` writes it beside them.
     let kit = archives.folder.join("kit");

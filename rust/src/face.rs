@@ -159,8 +159,8 @@ pub struct PoolPlace {
     pub len: usize,
 }
 
-/// Makes of each declaration a function that hands on to it or, where all levels are linked, to the running level's own,
-/// which has the level behind its name.
+/// Makes of each declaration a function that hands on to it or, where all levels are linked, to that of the running
+/// level, which has the level behind its name.
 macro_rules! face {
     ($(pub fn $name:ident($($given:ident: $kind:ty),* $(,)?) -> $answer:ty;)*) => {$(
         #[cfg(not(kz_levels))]
