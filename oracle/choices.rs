@@ -2,6 +2,7 @@
 
 use super::edges::{byte, channel, choice, grey, odd_bits, own, several, sound, spread};
 use super::edges::{step, unsound, wide, Channel, TINY};
+use super::fewer::fewer;
 use super::{accepted, differ, of, picture, Asked, Choice, Comparison, Fill, Random};
 use super::{Settings, Source, Table, MAX, OWN, RULES, USUAL};
 
@@ -82,7 +83,7 @@ impl Comparison {
         let pool: Vec<_> = both
             .flat_map(|(bad, good)| [spread(*bad), spread(*good)].concat())
             .collect();
-        self.mixed(MIXED, &pool);
+        self.mixed(fewer(MIXED), &pool);
     }
 
     /// 01's six numbers, and which channels of the lists are allowed.
@@ -273,7 +274,7 @@ impl Comparison {
             self.every_byte(choice(channels));
         }
         let mut random = Random(self.random.next());
-        self.random_pictures(PICTURES, || match random.below(4) {
+        self.random_pictures(fewer(PICTURES), || match random.below(4) {
             0 => random.any(),
             _ => random.near(),
         });

@@ -22,6 +22,8 @@ use std::io::Write;
 mod axes;
 #[path = "bench.rs"]
 mod bench;
+#[path = "fewer.rs"]
+mod fewer;
 #[path = "plain.rs"]
 mod plain;
 mod rules;
@@ -904,7 +906,7 @@ fn every_end(tally: &mut Tally) {
 fn edges_and_random() -> bool {
     let (mut r, mut by_axes) = (Random(SEED), Random(SEED + 6));
     let mut tally = Tally::default();
-    for i in 0..4000 {
+    for i in 0..fewer::fewer(4000) {
         let mut c = small(&mut r);
         // Large weights in one part after another, so that each stage in turn overflows.
         if i % 4 == 1 {

@@ -13,6 +13,7 @@
 //!     number --errors   prints how far T is from the hyperbolic tangent, by decade (errors.rs)
 
 mod errors;
+mod fewer;
 mod rules;
 
 use rules::{exp_rule, l, tanh_before, tanh_rule};
@@ -367,7 +368,7 @@ fn edges_and_random(rule: &Rule) -> Tally {
         tally.compare(rule, x);
     }
     let mut random = Random::new();
-    for _ in 0..RANDOM / 2 {
+    for _ in 0..fewer::fewer(RANDOM) / 2 {
         tally.compare(rule, random.next());
         tally.compare(rule, (rule.busy)(random.next()));
     }

@@ -22,6 +22,8 @@ use std::time::Instant;
 mod choices;
 #[path = "edges.rs"]
 mod edges;
+#[path = "fewer.rs"]
+mod fewer;
 #[path = "fills.rs"]
 mod fills;
 #[path = "lent.rs"]
@@ -37,6 +39,7 @@ mod settings;
 #[path = "words.rs"]
 mod words;
 use edges::{changes, grey, odd_bits, pairs, wide};
+use fewer::fewer;
 use fills::{Fill, Random, SEED};
 use lent::{differ, Differences, Lent};
 use records::CELLS;
@@ -700,7 +703,7 @@ impl Comparison {
                 list.extend(middle - 1..=middle + 1);
                 list.extend((0..3).map(|other| OWN.value(other, byte)));
             }
-            list.extend((0..MIXED / 2).map(|_| self.random.next() as u32));
+            list.extend((0..fewer(MIXED) / 2).map(|_| self.random.next() as u32));
             for bits in list {
                 let mut set = [(0, plain[0]), (1, plain[1]), (2, plain[2])];
                 set[channel].1 = bits;
@@ -789,12 +792,12 @@ fn edges_and_random() -> bool {
     let mut all = Comparison::new();
     all.large_pictures();
     all.small_pictures();
-    all.random_pictures(PICTURES, || OWN);
+    all.random_pictures(fewer(PICTURES), || OWN);
     all.refused_pictures();
     all.grids();
     all.damaged_pictures();
     all.pixels();
-    all.mixed(MIXED, &[OWN]);
+    all.mixed(fewer(MIXED), &[OWN]);
     all.patches();
     all.choices();
     all.report()

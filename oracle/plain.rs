@@ -252,7 +252,7 @@ fn every_place(r: &mut Random, tally: &mut Tally) {
 /// Random calls, with merging and up to 144 tokens: as they are, with large weights in one part after another, and
 /// with one or two changes.
 fn random(r: &mut Random, tally: &mut Tally) {
-    for i in 0..1200 {
+    for i in 0..super::fewer::fewer(1200) {
         let c = small(r);
         let mut c = longer(r, c);
         if i % 4 == 1 {

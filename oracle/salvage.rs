@@ -18,6 +18,8 @@ use std::io::Write;
 #[allow(dead_code)]
 #[path = "edges.rs"]
 mod edges;
+#[path = "fewer.rs"]
+mod fewer;
 #[path = "fills.rs"]
 mod fills;
 #[path = "lent.rs"]
@@ -38,6 +40,7 @@ mod settings;
 mod words;
 use edges::{byte, changes, channel, choice, grey, odd_bits, pairs};
 use edges::{several, sound, spread, unsound, wide, Channel};
+use fewer::fewer;
 use fills::{Fill, Random, SEED};
 use lent::{differ, Differences, Lent};
 use restore::{restore, unshaped};
@@ -852,7 +855,7 @@ impl Comparison {
     }
 
     fn random_pictures(&mut self) {
-        for _ in 0..PICTURES {
+        for _ in 0..fewer(PICTURES) {
             let random = &mut self.random;
             let (patch, merge) = (1 + random.below(32), 1 + random.below(4));
             let image = patch * merge + random.below(60);
@@ -873,7 +876,7 @@ impl Comparison {
     /// Calls in which each part by itself is sound or not, so that refusals meet.
     fn mixed(&mut self) {
         let bad = unsound();
-        for _ in 0..MIXED {
+        for _ in 0..fewer(MIXED) {
             let random = &mut self.random;
             let s = random.settings(&bad);
             let merge = s.spatial_merge_size;

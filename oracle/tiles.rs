@@ -15,6 +15,8 @@ use std::io::Write;
 
 #[path = "edges.rs"]
 mod edges;
+#[path = "fewer.rs"]
+mod fewer;
 #[path = "fills.rs"]
 mod fills;
 #[path = "lent.rs"]
@@ -29,6 +31,7 @@ mod settings;
 mod words;
 use edges::{byte, changes, channel, choice, grey, odd_bits, pairs};
 use edges::{several, sound, spread, unsound, wide};
+use fewer::fewer;
 use fills::{Fill, Random, SEED};
 use lent::{differ, Differences, Lent};
 use records::CELLS;
@@ -979,7 +982,7 @@ impl Comparison {
     }
 
     fn random_sweeps(&mut self) {
-        for _ in 0..SWEEPS {
+        for _ in 0..fewer(SWEEPS) {
             let random = &mut self.random;
             let (patch, merge) = (1 + random.below(32), 1 + random.below(4));
             let a = patch * merge;
@@ -1004,7 +1007,7 @@ impl Comparison {
     /// Calls in which each part by itself is sound or not, so that refusals meet.
     fn mixed(&mut self) {
         let (odd, bad) = (odd_bits(), unsound());
-        for _ in 0..MIXED {
+        for _ in 0..fewer(MIXED) {
             let random = &mut self.random;
             let patch = random.pick(&[1, 1, 2, 2, 3, 4, 0, 33]);
             let merge = random.pick(&[1, 1, 2, 2, 3, 4, 0, 5]);
