@@ -933,6 +933,14 @@ fn edges_and_random() -> bool {
             None => drop(tally.compare(&c)),
         }
     }
+    // Heads of as many dimensions as wide registers take at once, and more by each remainder.
+    let mut wide = Random(SEED + 31);
+    for head_dim in (32..=132).step_by(4) {
+        let c = small(&mut wide);
+        let scaling = 1.0 / (head_dim as f32).sqrt();
+        let s = Settings { hidden_size: head_dim * c.s.num_heads, head_dim, scaling, num_layers: 2, ..c.s };
+        tally.compare(&sized(&mut wide, s, c.grid, 0.2));
+    }
     axes::all(&mut by_axes, &mut tally);
     // The settings of 1540: a grid too tall, and one that merge does not divide.
     for grid in [[112, 2], [3, 2], [2, 112], [2, 3], [0, 2], [2, 0], [110, 2], [2, 2]] {
