@@ -10,7 +10,8 @@
 //! no difference.
 //!
 //!     encoder            edges, a call for each stage (stages.rs), calls by small tables (axes.rs) and with
-//!                        plain attention (plain.rs), and random calls with a fixed seed
+//!                        plain attention (plain.rs), and random calls with a fixed seed, with KZ_FEWER
+//!                        a tenth of them (fewer.rs)
 //!     encoder --bench    times ours and the Rust, on one thread (bench.rs); with --quick, on
 //!                        small grids alone, with --large, on these and 64x64, with one layer
 //!     encoder --sample   prints the Rust's answers as crates/encoder_replay/stdin holds them
