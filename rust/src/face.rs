@@ -344,4 +344,7 @@ face! {
     pub fn kz_bf16_widen(b: u16) -> u32;
     pub fn kz_bf16_pack_all(x: *const u32, x_len: usize, out: *mut u16, out_len: usize) -> usize;
     pub fn kz_bf16_widen_all(b: *const u16, b_len: usize, out: *mut u32, out_len: usize) -> usize;
+
+    pub fn kz_version() -> u32;
+    pub fn kz_number_version() -> u32;
 }

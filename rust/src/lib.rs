@@ -86,3 +86,10 @@ pub use weights::{tensor_names, weights, WeightsRefusal};
 
 /// `KZ_VERSION` of the header: where two differ in the first or the second number, an answer may have other bits.
 pub const VERSION: &str = env!("CARGO_PKG_VERSION");
+
+/// What the linked archives say their version is, libkyzgultam.a's and libnumber.a's: ten thousand times the first
+/// number, a hundred times the second, and the third. Both are that of [`VERSION`], unless archives of another version
+/// were handed to the build (`KZ_ARCHIVES`).
+pub fn linked_versions() -> [u32; 2] {
+    unsafe { [face::kz_version(), face::kz_number_version()] }
+}

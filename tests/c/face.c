@@ -1430,6 +1430,8 @@ static void packed(void) {
 
 int main(void) {
     for (size_t i = 0; i < FLOATS; i++) rgb[i] = (uint8_t)(i * 89 + 17);
+    EXPECT(kz_version() == KZ_VERSION_NUMBER);
+    EXPECT(kz_number_version() == KZ_VERSION_NUMBER);
     preprocess();
     restore();
     rules();
