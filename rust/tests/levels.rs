@@ -1,5 +1,5 @@
-//! The levels of processors: each that this machine has gives the same bits, and KZ_LEVEL picks one, or says which there
-//! are. Where the archives of one level alone are linked, it says that.
+//! The levels of processors: each that this machine has gives the same bits, and KZ_LEVEL picks one, or is answered with
+//! those that there are. Where the archives of one level alone are linked, that is the answer.
 
 mod common;
 

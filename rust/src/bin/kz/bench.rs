@@ -40,7 +40,7 @@ by mean and deviation of the Rust, 0.2 and 0.25, and 0.2 and 1e38 (by halving).
 
 const ORACLE: &str = concat!(env!("CARGO_MANIFEST_DIR"), "/../oracle/run");
 const ARCHIVES: &str = concat!(env!("CARGO_MANIFEST_DIR"), "/../archives");
-/// The archives that this program was linked with (build.rs); where they have all levels, each stands beside them alone.
+/// The archives that this program was linked with (build.rs). Beside those of all levels stand those of each.
 const LINKED: &str = env!("KZ_LINKED");
 /// What oracle/run ends with where it has no Rust to compare with.
 const SKIPPED: i32 = 3;
