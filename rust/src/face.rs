@@ -164,6 +164,7 @@ pub struct PoolPlace {
 macro_rules! face {
     ($(pub fn $name:ident($($given:ident: $kind:ty),* $(,)?) -> $answer:ty;)*) => {$(
         #[cfg(not(kz_levels))]
+        #[allow(clippy::too_many_arguments)]
         pub unsafe fn $name($($given: $kind),*) -> $answer {
             extern "C" {
                 fn $name($($given: $kind),*) -> $answer;
@@ -172,6 +173,7 @@ macro_rules! face {
         }
 
         #[cfg(kz_levels)]
+        #[allow(clippy::too_many_arguments)]
         pub unsafe fn $name($($given: $kind),*) -> $answer {
             extern "C" {
                 #[link_name = concat!(stringify!($name), "_x86_64")]
