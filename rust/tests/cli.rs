@@ -505,7 +505,7 @@ fn damaged_pictures() {
         ("more", "1 bytes after its picture"),
         ("deep", "two bytes"),
         ("text", "not P5 or P6"),
-        ("other", "no binary netpbm"),
+        ("other", "is cut short: it ends after 8 bytes"),
         ("none", "cannot be read"),
     ] {
         folder.fails(1, &format!("encode {name}.ppm -o out {LIST}"), &[&format!("{name}.ppm: "), part]);

@@ -1,6 +1,7 @@
 //! A seeded generator, and encoders and pictures made from it.
 #![allow(dead_code)]
 
+pub mod png;
 pub mod tensors;
 pub mod tool;
 

@@ -9,7 +9,7 @@ use crate::npy::Element;
 use crate::progress::Progress;
 use crate::shown::shown;
 use crate::source::Source;
-use crate::{files, netpbm, npy, room, tiles};
+use crate::{files, npy, picture, room, tiles};
 use kyzgultam::{pixtral_preprocess, preprocess_tile, PictureSettings, Refusal, Tile};
 use std::collections::BTreeMap;
 use std::ffi::OsStr;
@@ -20,7 +20,7 @@ pub const ENCODE: &str = "\
 kz encode SWEEP.ppm .. -o DIR [--tiles] [--model DIR] [--weights FILE]
           [--tables FILE] [--config FILE] [--settings LIST] [--bf16]
           [--log FILE] [--force | --skip-existing]
-Writes the token vectors of each SWEEP (P5 or P6) to DIR/SWEEP.tokens.npy, an
+Writes the token vectors of a SWEEP (PNG, P5, P6) to DIR/SWEEP.tokens.npy, an
 array of NumPy: rows x columns x text; with --tiles those of each tile, not
 resized (this and --log: `kz patches --help`); with --bf16 rounded to bf16, as
 '<u2', in half the room. --skip-existing goes on with a list that was cut off.
@@ -47,7 +47,7 @@ pub const PATCHES: &str = "\
 kz patches SWEEP.ppm .. -o DIR [--tiles] [--settings LIST] [--log FILE]
            [--force | --skip-existing]
 
-Writes the patches of each SWEEP (P5 or P6) to DIR/SWEEP.patches.npy, an array
+Writes the patches of a SWEEP (PNG, P5, P6) to DIR/SWEEP.patches.npy, an array
 of NumPy: grid rows x grid columns x 3 patch^2, a patch's samples by channel,
 row and column. `kz restore` brings the picture back. A list that was cut off
 goes on with --skip-existing, which takes files that are there for done. Of
@@ -108,7 +108,7 @@ impl<Report> Called<Report> {
 impl Cutter {
     /// Reads a picture and cuts it: the patches are in the buffer.
     pub fn cut(&mut self, file: &Path, settings: &PictureSettings) -> Result<Resized, Fail> {
-        let picture = netpbm::read(file)?;
+        let picture = picture::read(file)?;
         let cut = self.whole(&picture, settings).of(file)?;
         Ok(resized(&picture, settings, cut))
     }
@@ -283,7 +283,7 @@ impl List<'_> {
         cutter: &mut Cutter,
     ) -> Result<Result<Resized, Fail>, Fail> {
         let file = &self.given.files[index];
-        let (picture, taken) = netpbm::find(file);
+        let (picture, taken) = picture::find(file);
         let cut = cutter.whole(&picture, settings);
         log.sweep(index, settings, (picture.height, picture.width), cut.report)?;
         Ok(taken.and_then(|()| cut.of(file)).map(|cut| resized(&picture, settings, cut)))
@@ -298,7 +298,7 @@ impl List<'_> {
         settings: &PictureSettings,
         cutter: &mut Cutter,
     ) -> Result<Result<Picture, Fail>, Fail> {
-        let (picture, taken) = netpbm::find(&self.given.files[index]);
+        let (picture, taken) = picture::find(&self.given.files[index]);
         let (height, width) = (picture.height, picture.width);
         let count = kyzgultam::cut(height, width, settings).map_or(1, |cut| cut.rows * cut.columns);
         for tile in 0..count {
@@ -362,7 +362,7 @@ impl List<'_> {
         let (file, stem) = (&self.given.files[sweep], self.stems[sweep]);
         let picture = match log {
             Some(log) => self.logged_tiles(log, sweep, settings, cutter)?,
-            None => netpbm::read(file),
+            None => picture::read(file),
         }?;
         let (height, width) = (picture.height, picture.width);
         let refused = |refusal| refused(file, refusal);

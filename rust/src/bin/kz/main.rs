@@ -8,6 +8,7 @@ mod encode;
 mod fail;
 mod files;
 mod given;
+mod inflate;
 mod join;
 mod log;
 mod model;
@@ -15,7 +16,9 @@ mod nearest;
 mod netpbm;
 mod npy;
 mod paint;
+mod picture;
 mod png;
+mod png_read;
 mod progress;
 mod restore;
 mod room;
@@ -23,6 +26,7 @@ mod salvage;
 mod shown;
 mod source;
 mod spot;
+mod sums;
 mod sweep;
 mod tiles;
 mod version;
@@ -47,9 +51,9 @@ kz: the Pixtral image encoder, proved; from the command line
   kz config CONFIG.json                 the settings that a config.json says
   kz weights FILE.safetensors -o OUT    a model's weights as plain floats
   kz bench                              how long each call takes
-Pictures are binary netpbm, P5 or P6. Patches and token vectors are .npy of
-NumPy, which says its shape; weights and tables plain floats: f32, little-
-endian, in the order of include/kyzgultam.h. Sizes are HEIGHTxWIDTH.
+Pictures that are read are PNG or binary netpbm (P5, P6). Patches and token
+vectors are .npy of NumPy, with their shape; weights and tables plain f32,
+little-endian, in the order of include/kyzgultam.h. Sizes are HEIGHTxWIDTH.
 
   --settings LIST   as rule=2,mean=0.2,deviation=0.25 (`kz encode --help`)
   --model DIR, or --config, --weights, --tables FILE: encode's; else built in

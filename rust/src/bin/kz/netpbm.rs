@@ -1,11 +1,10 @@
 //! Binary netpbm pictures: P5 (grey) and P6 (RGB), samples of one byte.
 
-use crate::fail::{numbered, Fail};
+use crate::fail::numbered;
 use crate::room;
 use crate::source::Source;
 use kyzgultam::Refusal;
 use std::io::{self, Read, Write};
-use std::path::Path;
 
 /// Three bytes a pixel, by row.
 #[derive(Clone)]
@@ -17,21 +16,6 @@ pub struct Picture {
 
 /// A header with its comments is not longer than this.
 const HEADER: usize = 1 << 16;
-
-/// Reads a picture. Its header, and then its length, are tested before its samples are read.
-pub fn read(file: &Path) -> Result<Picture, Fail> {
-    let (picture, taken) = find(file);
-    taken.map(|()| picture)
-}
-
-/// What a file has of a picture, and whether that is taken. The sides are the header's, 0 and 0 where there is none.
-/// The bytes are all there or none are; where a picture is not taken for the value of a sample, all are.
-pub fn find(file: &Path) -> (Picture, Result<(), Fail>) {
-    let mut picture = Picture { height: 0, width: 0, rgb: vec![] };
-    let parsed = |mut source| parse(&mut source, &mut picture).map_err(|why| Fail::file(file, why));
-    let taken = Source::open(file).and_then(parsed);
-    (picture, taken)
-}
 
 /// Writes a P6.
 pub fn ppm(to: &mut dyn Write, picture: &Picture) -> io::Result<()> {
@@ -101,7 +85,10 @@ fn head(bytes: &[u8]) -> Result<Head, String> {
         Some([b'P', b'1'..=b'7']) => {
             return Err("is a netpbm picture, but not P5 or P6; convert it, as with `magick IN OUT.ppm`".into())
         }
-        _ => return Err("is no binary netpbm picture (P5 or P6); convert it, as with `magick IN OUT.ppm`".into()),
+        _ => {
+            let words = "is no PNG and no binary netpbm picture (P5 or P6); convert it, as with `magick IN OUT.ppm`";
+            return Err(words.into());
+        }
     };
     let mut header = Header { bytes, at: 2 };
     let width = header.decimal("width")?;
@@ -116,8 +103,9 @@ fn head(bytes: &[u8]) -> Result<Head, String> {
     Ok(Head { channels, height, width, most, len: header.at })
 }
 
-/// Fills an empty picture: its sides, and then its bytes, when the last of them is read.
-fn parse(source: &mut Source<impl Read>, picture: &mut Picture) -> Result<(), String> {
+/// Fills an empty picture: its sides, and then its bytes, when the last of them is read. Its header is tested first, and
+/// then its length, where it has one.
+pub fn parse(source: &mut Source<impl Read>, picture: &mut Picture) -> Result<(), String> {
     let unread = |e: io::Error| format!("cannot be read: {e}");
     let Head { channels, height, width, most, len } = head(source.look(HEADER).map_err(unread)?)?;
     (picture.height, picture.width) = (height, width);

@@ -1,6 +1,7 @@
-//! PNG pictures, stored without compression.
+//! PNG pictures, as they are written: stored without compression.
 
 use crate::netpbm::{ppm, Picture};
+use crate::sums::{adler32, crc32};
 use std::io::{self, Write};
 use std::iter::once;
 use std::path::Path;
@@ -80,30 +81,9 @@ fn zlib(to: &mut Chunk, mut bytes: impl Iterator<Item = u8>, len: usize) -> io::
     to.put(&(sums.1 << 16 | sums.0).to_be_bytes())
 }
 
-/// The sum of more bytes, after those of a sum that begins with 0.
-fn crc32(sum: u32, bytes: &[u8]) -> u32 {
-    !bytes.iter().fold(!sum, |crc, byte| {
-        (0..8).fold(crc ^ u32::from(*byte), |c, _| if c & 1 == 1 { c >> 1 ^ 0xEDB8_8320 } else { c >> 1 })
-    })
-}
-
-/// The two sums of more bytes, after those that begin with 1 and 0.
-fn adler32(sums: (u32, u32), bytes: &[u8]) -> (u32, u32) {
-    bytes.iter().fold(sums, |(a, b), byte| {
-        let a = (a + u32::from(*byte)) % 65521;
-        (a, (b + a) % 65521)
-    })
-}
-
 #[cfg(test)]
 mod tests {
     use super::*;
-
-    #[test]
-    fn check_values() {
-        assert_eq!(crc32(crc32(0, b"12345"), b"6789"), 0xCBF4_3926);
-        assert_eq!(adler32(adler32((1, 0), b"Wiki"), b"pedia"), (0x0398, 0x11E6));
-    }
 
     fn file(height: usize, width: usize, rgb: &[u8]) -> Vec<u8> {
         let mut file = Vec::new();
