@@ -325,7 +325,7 @@ fn a_length_is_tested_before_it_is_read() {
         ("patches long.ppm -o out", "long.ppm: goes on for 1099511627573 bytes after its picture"),
         ("compare a.ppm long.ppm", "long.ppm: goes on for 1099511627573 bytes"),
         ("patches comment.ppm -o out", "comment.ppm: is no netpbm picture: its header is longer than 65536 bytes"),
-        ("patches long -o out", "long: is no binary netpbm picture"),
+        ("patches long -o out", "long: is no PNG and no binary netpbm picture"),
         ("encode a.ppm -o out --weights long", "long: refused, number 9: "),
         (
             "encode a.ppm -o out --tables long",
@@ -337,7 +337,7 @@ fn a_length_is_tested_before_it_is_read() {
     }
     // What has no length is read as far as it may go.
     for (words, part) in [
-        ("patches /dev/zero -o out", "/dev/zero: is no binary netpbm picture"),
+        ("patches /dev/zero -o out", "/dev/zero: is no PNG and no binary netpbm picture"),
         ("encode a.ppm -o out --weights /dev/zero", "it has more than "),
         ("encode a.ppm -o out --tables /dev/zero", "it has more than 2048 bytes"),
         ("restore /dev/zero --grid 4x4 -o out.ppm", "/dev/zero: refused, number 7: "),

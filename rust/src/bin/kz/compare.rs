@@ -6,8 +6,9 @@ use crate::given::Given;
 use crate::model::allowed;
 use crate::netpbm::Picture;
 use crate::shown::shown;
-use crate::{answer, files, nearest, paint, png, room};
+use crate::{beside, files, nearest, paint, picture, png, room, unsaid};
 use kyzgultam::{patch, restore};
+use std::io::Write;
 
 pub const HELP: &str = "\
 kz compare A.ppm B.ppm [-o OUT.png] [--settings LIST] [--force]
@@ -45,8 +46,8 @@ pub fn run(given: &Given) -> Result<(), Fail> {
     let settings = given.settings()?.picture;
     allowed(&settings)?;
     let (mut first, mut second) = (Cutter::default(), Cutter::default());
-    let (grid, of_a) = first.cut(a, &settings)?;
-    let (other, of_b) = second.cut(b, &settings)?;
+    let (grid, of_a) = first.cut(a, &picture::read(a)?, &settings)?;
+    let (other, of_b) = second.cut(b, &picture::read(b)?, &settings)?;
     if grid != other {
         let (a, b) = (shown(a), shown(b));
         return Err(Fail::Refused(format!(
@@ -66,7 +67,8 @@ pub fn run(given: &Given) -> Result<(), Fail> {
         None => String::new(),
     };
     let rule = by_rule(of_a.or(of_b));
-    answer(format_args!("{equal} of {count} patches are equal{tail}{rule}"))?;
+    let mut to = beside(out.as_deref().as_slice());
+    writeln!(to, "{equal} of {count} patches are equal{tail}{rule}").and_then(|()| to.flush()).map_err(unsaid)?;
     if let Some(out) = out {
         drop(second);
         let mut rgb =
@@ -75,7 +77,7 @@ pub fn run(given: &Given) -> Result<(), Fail> {
             restore(&first.patches, grid.0, grid.1, &settings, &mut rgb).map_err(|r| Fail::call(a, r, "report it"))?;
         let map = paint::marks(Picture { height: size.height, width: size.width, rgb }, grid, &differ);
         files::write(&out, given.force, |to| png::named(to, &out, &map))?;
-        answer(format_args!("{}: the patches that differ are red", shown(&out)))?;
+        writeln!(to, "{}: the patches that differ are red", shown(&out)).map_err(unsaid)?;
     }
     Ok(())
 }

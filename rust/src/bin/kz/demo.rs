@@ -61,6 +61,9 @@ pub fn run(given: &Given) -> Result<(), Fail> {
         return Err(Fail::usage("demo takes no files"));
     }
     let folder = given.path("-o").unwrap_or(PathBuf::from("kz-demo"));
+    if files::standard(&folder) {
+        return Err(Fail::usage("-o - is for one file, and demo writes many files; give a folder"));
+    }
     files::folder(&folder)?;
     for name in NAMES {
         files::vacant(&folder.join(name), given.force)?;

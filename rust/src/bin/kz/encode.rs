@@ -9,11 +9,13 @@ use crate::npy::Element;
 use crate::progress::Progress;
 use crate::shown::shown;
 use crate::source::Source;
-use crate::{files, npy, picture, room, tiles};
+use crate::sweeps::{self, Sweep};
+use crate::{beside, files, npy, room, tiles};
 use kyzgultam::{pixtral_preprocess, preprocess_tile, PictureSettings, Refusal, Tile};
-use std::collections::BTreeMap;
+use std::borrow::Cow;
 use std::ffi::OsStr;
 use std::fs;
+use std::io::Write;
 use std::path::{Path, PathBuf};
 
 pub const ENCODE: &str = "\
@@ -49,13 +51,13 @@ kz patches SWEEP.ppm .. -o DIR [--tiles] [--settings LIST] [--log FILE]
 
 Writes the patches of a SWEEP (PNG, P5, P6) to DIR/SWEEP.patches.npy, an array
 of NumPy: grid rows x grid columns x 3 patch^2, a patch's samples by channel,
-row and column. `kz restore` brings the picture back. A list that was cut off
-goes on with --skip-existing, which takes files that are there for done. Of
---settings (`kz encode --help`) patch, merge, image, rule, mean and deviation
-are used. Where a side of a sweep is above image, what is said of its file
-names the rule. The file has neither the rule nor means and deviations: go on
-by those that the list was begun with, and note them beside the files, since
-restore needs the same means and deviations.
+row and column. SWEEP - is standard input, which may have several P5 and P6,
+one behind the other: stdin.f0000 and so on; -o - is standard output, for one.
+--skip-existing, with a list that was cut off, takes files that are there for
+done. Of --settings (`kz encode --help`) patch, merge, image, rule, mean and
+deviation are used. What is said of a file names the rule where a side is above
+image. The file says neither the rule nor means and deviations: note them
+beside it and go on by the same, and `kz restore` brings the picture back.
 
 With --tiles nothing is resized: each sweep is cut by row into square tiles,
 whose side is the largest multiple of patch x merge not above image. The last
@@ -106,11 +108,10 @@ impl<Report> Called<Report> {
 }
 
 impl Cutter {
-    /// Reads a picture and cuts it: the patches are in the buffer.
-    pub fn cut(&mut self, file: &Path, settings: &PictureSettings) -> Result<Resized, Fail> {
-        let picture = picture::read(file)?;
-        let cut = self.whole(&picture, settings).of(file)?;
-        Ok(resized(&picture, settings, cut))
+    /// Cuts a file's picture: the patches are in the buffer.
+    pub fn cut(&mut self, file: &Path, picture: &Picture, settings: &PictureSettings) -> Result<Resized, Fail> {
+        let cut = self.whole(picture, settings).of(file)?;
+        Ok(resized(picture, settings, cut))
     }
 
     /// Cuts a picture: its patches are in the buffer.
@@ -208,39 +209,41 @@ struct List<'a> {
     given: &'a Given,
     folder: PathBuf,
     log: Option<PathBuf>,
-    /// What the files of each are named after.
-    stems: Vec<&'a OsStr>,
+    sweeps: Vec<Sweep>,
 }
 
 impl List<'_> {
-    /// A file is named after its sweep, without folder and ending. Two alike would be written to one file.
     fn read(given: &Given) -> Result<List<'_>, Fail> {
         let folder = given.needed("-o", "DIR")?;
         if given.files.is_empty() {
             return Err(Fail::usage("no SWEEP.ppm is given"));
-        }
-        let mut seen = BTreeMap::new();
-        let mut stems = Vec::new();
-        for sweep in &given.files {
-            let stem = sweep.file_stem();
-            let stem = stem.ok_or_else(|| Fail::usage(format!("{}: is no name of a file", shown(sweep))))?;
-            if let Some(other) = seen.insert(stem, sweep) {
-                let (a, b) = (shown(other), shown(sweep));
-                return Err(Fail::usage(format!("{a} and {b} would be written to the same file; give them apart")));
-            }
-            stems.push(stem);
         }
         let log = given.path("--log");
         if let Some(log) = &log {
             apart(log, &given.files)?;
             log::vacant(log, given.force)?;
         }
-        Ok(List { given, folder, log, stems })
+        let list = List { given, folder, log, sweeps: sweeps::listed(&given.files)? };
+        list.one_file()?;
+        Ok(list)
+    }
+
+    /// Standard output takes one file.
+    fn one_file(&self) -> Result<(), Fail> {
+        match (self.sweeps.len(), self.given.tiles, self.given.skip) {
+            _ if !files::standard(&self.folder) => Ok(()),
+            (1, false, false) => files::vacant(&self.folder, false),
+            (1, true, _) => Err(Fail::usage("-o - is for one file, and each tile has one; give a folder")),
+            (1, _, true) => Err(Fail::usage("-o - has no file that --skip-existing could find; give a folder")),
+            (n, ..) => Err(Fail::usage(format!("-o - is for one file, and there are {n} sweeps; give a folder"))),
+        }
     }
 
     /// Makes the folder, and then the log, which may stand in it.
     fn begin(&self) -> Result<Option<Log>, Fail> {
-        files::folder(&self.folder)?;
+        if !files::standard(&self.folder) {
+            files::folder(&self.folder)?;
+        }
         self.log.as_ref().map(|log| Log::new(log, self.given.force)).transpose()
     }
 
@@ -263,7 +266,9 @@ impl List<'_> {
             if self.given.tiles {
                 self.tiles(index, settings, &mut cutter, &mut vectors, &mut log, progress)
             } else {
-                progress.say(&self.whole(index, settings, &mut cutter, &mut vectors, &mut log)?);
+                let words = self.whole(index, settings, &mut cutter, &mut vectors, &mut log)?;
+                progress.clear();
+                let _ = writeln!(beside(&[&self.folder]), "{words}");
                 Ok(())
             }
         });
@@ -282,11 +287,11 @@ impl List<'_> {
         settings: &PictureSettings,
         cutter: &mut Cutter,
     ) -> Result<Result<Resized, Fail>, Fail> {
-        let file = &self.given.files[index];
-        let (picture, taken) = picture::find(file);
+        let sweep = &self.sweeps[index];
+        let (picture, taken) = sweep.find();
         let cut = cutter.whole(&picture, settings);
         log.sweep(index, settings, (picture.height, picture.width), cut.report)?;
-        Ok(taken.and_then(|()| cut.of(file)).map(|cut| resized(&picture, settings, cut)))
+        Ok(taken.and_then(|()| cut.of(&sweep.file)).map(|cut| resized(&picture, settings, cut)))
     }
 
     /// Reads a sweep, cuts all of its tiles and writes their lines: the sweep. One that has no cut has a line for
@@ -297,8 +302,8 @@ impl List<'_> {
         index: usize,
         settings: &PictureSettings,
         cutter: &mut Cutter,
-    ) -> Result<Result<Picture, Fail>, Fail> {
-        let (picture, taken) = picture::find(&self.given.files[index]);
+    ) -> Result<Result<Cow<'_, Picture>, Fail>, Fail> {
+        let (picture, taken) = self.sweeps[index].find();
         let (height, width) = (picture.height, picture.width);
         let count = kyzgultam::cut(height, width, settings).map_or(1, |cut| cut.rows * cut.columns);
         for tile in 0..count {
@@ -317,7 +322,7 @@ impl List<'_> {
         cutter: &mut Cutter,
     ) -> Result<(), Fail> {
         let Some(mut log) = log else { return Ok(()) };
-        for index in begun..self.stems.len() {
+        for index in begun..self.sweeps.len() {
             if self.given.tiles {
                 self.logged_tiles(&mut log, index, settings, cutter).map(drop)?;
             } else {
@@ -337,12 +342,13 @@ impl List<'_> {
         vectors: &mut V,
         log: &mut Option<Log>,
     ) -> Result<String, Fail> {
-        let file = &self.given.files[index];
-        let out = self.out::<V>(self.stems[index]);
+        let sweep = &self.sweeps[index];
+        let file = &sweep.file;
+        let out = self.out::<V>(&sweep.stem);
         let [.., floats] = vectors.shape((0, 0));
         let cut = log.as_mut().map(|log| self.logged(log, index, settings, cutter)).transpose()?;
         self.unless_done(&out, None, floats, || {
-            let (grid, rule) = cut.unwrap_or_else(|| cutter.cut(file, settings))?;
+            let (grid, rule) = cut.unwrap_or_else(|| cutter.cut(file, &*sweep.read()?, settings))?;
             let words = self.put(&out, vectors, &cutter.patches, grid, |words| Fail::file(file, words))?;
             Ok(format!("{words}{}", by_rule(rule)))
         })
@@ -359,10 +365,10 @@ impl List<'_> {
         log: &mut Option<Log>,
         progress: &Progress,
     ) -> Result<(), Fail> {
-        let (file, stem) = (&self.given.files[sweep], self.stems[sweep]);
+        let Sweep { file, stem, .. } = &self.sweeps[sweep];
         let picture = match log {
             Some(log) => self.logged_tiles(log, sweep, settings, cutter)?,
-            None => picture::read(file),
+            None => self.sweeps[sweep].read(),
         }?;
         let (height, width) = (picture.height, picture.width);
         let refused = |refusal| refused(file, refusal);
@@ -391,6 +397,9 @@ impl List<'_> {
     }
 
     fn out<V: Vectors>(&self, name: &OsStr) -> PathBuf {
+        if files::standard(&self.folder) {
+            return self.folder.clone();
+        }
         let mut name = name.to_os_string();
         name.push(format!(".{}.npy", V::NAME));
         self.folder.join(name)
@@ -444,14 +453,14 @@ impl List<'_> {
     /// Does the work for each sweep. One that is refused is named, and the others are still done, unless nothing can be
     /// written any more.
     fn each(&self, mut work: impl FnMut(usize, &Progress) -> Result<(), Fail>) -> Result<(), Fail> {
-        let total = self.stems.len();
+        let total = self.sweeps.len();
         let mut progress = Progress::new(total, self.given.tiles);
         for part in files::parts(&self.folder) {
             progress.warn(&format!("{}: {LEFT}", shown(&part)));
         }
         let (mut refused, mut there) = (0, 0);
-        for (i, stem) in self.stems.iter().enumerate() {
-            progress.at(stem);
+        for (i, sweep) in self.sweeps.iter().enumerate() {
+            progress.at(&sweep.stem);
             match work(i, &progress) {
                 Ok(()) => {}
                 Err(Fail::Refused(words)) if total > 1 => {

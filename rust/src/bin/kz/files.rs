@@ -2,10 +2,11 @@
 
 use crate::fail::Fail;
 use crate::shown::shown;
+use crate::unsaid;
 use std::collections::hash_map::RandomState;
 use std::fs::{self, File, FileType, Metadata, OpenOptions, Permissions};
 use std::hash::{BuildHasher, Hasher};
-use std::io::{self, BufWriter, Write};
+use std::io::{self, stdout, BufWriter, IsTerminal, Write};
 use std::os::unix::ffi::OsStrExt;
 use std::os::unix::fs::{FileTypeExt, MetadataExt, OpenOptionsExt, PermissionsExt};
 use std::path::{Path, PathBuf};
@@ -36,6 +37,11 @@ pub fn put_bf16(to: &mut dyn Write, floats: &[f32]) -> io::Result<()> {
     Ok(())
 }
 
+/// Whether a name is that of standard input or output.
+pub fn standard(file: &Path) -> bool {
+    file == Path::new("-")
+}
+
 pub fn folder(folder: &Path) -> Result<(), Fail> {
     fs::create_dir_all(folder).map_err(|e| Fail::file(folder, format!("this folder cannot be made: {e}")))
 }
@@ -43,7 +49,13 @@ pub fn folder(folder: &Path) -> Result<(), Fail> {
 /// Refuses a place where something stands, unless it is a plain file and forced. Asked before long work; `write` asks
 /// again.
 pub fn vacant(file: &Path, force: bool) -> Result<(), Fail> {
-    replaced(file, force).map(drop)
+    if !standard(file) {
+        return replaced(file, force).map(drop);
+    }
+    match stdout().is_terminal() {
+        true => Err(Fail::usage("standard output is a terminal, for which no file is; send it on by > or |")),
+        false => Ok(()),
+    }
 }
 
 /// The plain file that is to be replaced, if there is one. Nothing else is: a device, a pipe or a link would be lost.
@@ -91,8 +103,13 @@ fn unwritten(file: &Path, e: io::Error) -> Fail {
     }
 }
 
-/// Writes beside the file and then gives what was written its name. A file that is replaced keeps its mode.
+/// Writes beside the file and then gives what was written its name. A file that is replaced keeps its mode. What goes to
+/// standard output is there as far as it came.
 pub fn write(file: &Path, force: bool, fill: impl FnOnce(&mut dyn Write) -> io::Result<()>) -> Result<(), Fail> {
+    if standard(file) {
+        let mut to = BufWriter::new(stdout().lock());
+        return fill(&mut to).and_then(|()| to.flush()).map_err(unsaid);
+    }
     written(file, force, fill).map(drop)
 }
 

@@ -2,9 +2,11 @@
 
 use crate::config;
 use crate::fail::Fail;
+use crate::files;
 use crate::model::refused_settings;
 use crate::shown::shown;
 use kyzgultam::{EncoderSettings, PictureSettings, Refusal};
+use std::cell::OnceCell;
 use std::ffi::{OsStr, OsString};
 use std::os::unix::ffi::OsStrExt;
 use std::path::{Path, PathBuf};
@@ -55,6 +57,8 @@ pub struct Given {
     pub tiles: bool,
     pub tokens: bool,
     options: Vec<(&'static str, OsString)>,
+    /// The settings, once they were asked for: a config.json may come from a pipe.
+    known: OnceCell<EncoderSettings>,
 }
 
 /// The f32 nearest to 1 / root of head, for every head that is allowed, as is the Rust's powf with glibc's.
@@ -95,7 +99,24 @@ impl Given {
         if given.force && given.skip {
             return Err(Fail::usage("--force writes over files and --skip-existing leaves them; give one"));
         }
+        given.once()?;
         Ok(given)
+    }
+
+    /// Standard input and output, each of which is a single file, are given once.
+    fn once(&self) -> Result<(), Fail> {
+        let of = |names: &[&str]| names.iter().filter(|name| self.option(name).is_some_and(|v| v == "-")).count();
+        let read = self.files.iter().filter(|file| files::standard(file)).count();
+        if read + of(&["--weights", "--tables", "--config"]) > 1 {
+            return Err(Fail::usage("- is standard input, which is read once, and it is given twice"));
+        }
+        if of(&["-o", "--map"]) > 1 {
+            return Err(Fail::usage("- is standard output, which takes one file, and it is given twice"));
+        }
+        if of(&["--log"]) > 0 {
+            return Err(Fail::usage("--log is to be a file, which is kept; a name is given as ./-"));
+        }
+        Ok(())
     }
 
     fn option(&self, name: &str) -> Option<&OsStr> {
@@ -126,12 +147,16 @@ impl Given {
     /// The settings of `--config` or `--model`, or the built-in model's, with those of `--settings` over them. Whether they
     /// are allowed the calls decide.
     pub fn settings(&self) -> Result<EncoderSettings, Fail> {
-        match (self.path("--config"), self.path("--model")) {
-            (Some(_), Some(_)) => Err(Fail::usage("--model has a config.json; leave out --config")),
-            (Some(file), None) => self.configured(&file),
-            (None, Some(folder)) => self.configured(&folder.join("config.json")),
-            (None, None) => Ok(self.listed()?.settings),
+        if let Some(known) = self.known.get() {
+            return Ok(*known);
         }
+        let found = match (self.path("--config"), self.path("--model")) {
+            (Some(_), Some(_)) => return Err(Fail::usage("--model has a config.json; leave out --config")),
+            (Some(file), None) => self.configured(&file)?,
+            (None, Some(folder)) => self.configured(&folder.join("config.json"))?,
+            (None, None) => self.listed()?.settings,
+        };
+        Ok(*self.known.get_or_init(|| found))
     }
 
     /// Whether the projector has a bias, where `--settings` says it.

@@ -9,10 +9,11 @@ use crate::restore::{floats, DAMAGED, ELSEWHERE};
 use crate::shown::shown;
 use crate::source::Source;
 use crate::tiles::{label, named, place, Named};
-use crate::{files, npy, room, say};
+use crate::{beside, files, npy, room};
 use kyzgultam::{cut, restore_tile, Cut, PictureSettings, Refusal};
 use std::collections::BTreeMap;
 use std::ffi::OsStr;
+use std::io::Write;
 use std::path::{Path, PathBuf};
 
 pub fn run(given: &Given) -> Result<(), Fail> {
@@ -45,7 +46,8 @@ pub fn run(given: &Given) -> Result<(), Fail> {
     }
     progress.clear();
     files::write(&out, given.force, |to| ppm(to, &sweep))?;
-    say(format_args!("{}: {height}x{width}, joined from {}x{} tiles", shown(&out), cut.rows, cut.columns));
+    let words = format!("{height}x{width}, joined from {}x{} tiles", cut.rows, cut.columns);
+    let _ = writeln!(beside(&[&out]), "{}: {words}", shown(&out));
     Ok(())
 }
 

@@ -28,6 +28,7 @@ mod source;
 mod spot;
 mod sums;
 mod sweep;
+mod sweeps;
 mod tiles;
 mod version;
 mod weights;
@@ -37,6 +38,7 @@ use given::Given;
 use std::ffi::OsString;
 use std::fmt;
 use std::io::{self, stderr, stdout, Write};
+use std::path::Path;
 use std::process::ExitCode;
 
 const HELP: &str = "\
@@ -51,9 +53,9 @@ kz: the Pixtral image encoder, proved; from the command line
   kz config CONFIG.json                 the settings that a config.json says
   kz weights FILE.safetensors -o OUT    a model's weights as plain floats
   kz bench                              how long each call takes
-Pictures that are read are PNG or binary netpbm (P5, P6). Patches and token
-vectors are .npy of NumPy, with their shape; weights and tables plain f32,
-little-endian, in the order of include/kyzgultam.h. Sizes are HEIGHTxWIDTH.
+Pictures that are read are PNG or binary netpbm (P5, P6), patches and tokens
+NumPy's .npy, which says its shape, weights and tables plain f32 in the order
+of include/kyzgultam.h. Sizes are HEIGHTxWIDTH; - is standard input or output.
 
   --settings LIST   as rule=2,mean=0.2,deviation=0.25 (`kz encode --help`)
   --model DIR, or --config, --weights, --tables FILE: encode's; else built in
@@ -110,6 +112,15 @@ fn say(line: fmt::Arguments) {
 /// A line on standard output that is the answer itself.
 fn answer(line: fmt::Arguments) -> Result<(), Fail> {
     writeln!(stdout(), "{line}").and_then(|()| stdout().flush()).map_err(unsaid)
+}
+
+/// Where words about files go: to standard output, but to standard error where one of them is written there.
+fn beside(files: &[&Path]) -> Box<dyn Write> {
+    if files.iter().any(|file| files::standard(file)) {
+        Box::new(stderr())
+    } else {
+        Box::new(stdout())
+    }
 }
 
 fn unsaid(e: io::Error) -> Fail {

@@ -5,7 +5,7 @@ use crate::given::Given;
 use crate::npy::{self, Element, Shape};
 use crate::shown::shown;
 use crate::source::{unread, Source};
-use crate::{answer, room};
+use crate::{answer, files, room};
 use kyzgultam::{bf16_widen, Pool};
 use std::path::{Path, PathBuf};
 
@@ -59,7 +59,7 @@ struct Tokens<'a> {
 impl<'a> Tokens<'a> {
     fn open(file: &'a PathBuf) -> Result<Tokens<'a>, Fail> {
         let mut source = Source::open(file)?;
-        if source.left().is_none() {
+        if source.left().is_none() || files::standard(file) {
             return Err(Fail::file(file, "is no plain file, and is to be read twice; write it to one"));
         }
         let (element, shape) = npy::any(&mut source).map_err(|why| Fail::file(file, why))?;

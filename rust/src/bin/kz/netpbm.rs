@@ -106,7 +106,15 @@ fn head(bytes: &[u8]) -> Result<Head, String> {
 /// Fills an empty picture: its sides, and then its bytes, when the last of them is read. Its header is tested first, and
 /// then its length, where it has one.
 pub fn parse(source: &mut Source<impl Read>, picture: &mut Picture) -> Result<(), String> {
-    let unread = |e: io::Error| format!("cannot be read: {e}");
+    fill(source, picture, false)
+}
+
+/// The same of a picture behind which others may stand.
+pub fn first(source: &mut Source<impl Read>, picture: &mut Picture) -> Result<(), String> {
+    fill(source, picture, true)
+}
+
+fn fill(source: &mut Source<impl Read>, picture: &mut Picture, others: bool) -> Result<(), String> {
     let Head { channels, height, width, most, len } = head(source.look(HEADER).map_err(unread)?)?;
     (picture.height, picture.width) = (height, width);
     let sides = 1..=8192;
@@ -115,37 +123,29 @@ pub fn parse(source: &mut Source<impl Read>, picture: &mut Picture) -> Result<()
     }
     source.take(&mut vec![0; len]).map_err(unread)?;
     let needed = height * width * channels;
-    let fits = |found: u64| match found.checked_sub(needed as u64) {
-        None => Err(format!("is cut short: {found} bytes of samples where {needed} belong; get the whole file")),
-        Some(0) => Ok(()),
-        Some(more) => Err(format!("goes on for {more} bytes after its picture; {ONE}")),
-    };
-    source.left().map_or(Ok(()), fits)?;
+    let short =
+        |found: u64| format!("is cut short: {found} bytes of samples where {needed} belong; get the whole file");
+    match source.left().map(|left| (left, left.checked_sub(needed as u64))) {
+        Some((left, None)) => return Err(short(left)),
+        Some((_, Some(more @ 1..))) if !others => {
+            return Err(format!("goes on for {more} bytes after its picture; {ONE}"));
+        }
+        _ => {}
+    }
     let what = format!("its {height}x{width} pixels");
     let mut rgb = room::zeros(height * width * 3, &what, "cut or shrink the picture")?;
     // Grey samples go to the end, and are then spread from the front on.
     let start = rgb.len() - needed;
     let found = source.take(&mut rgb[start..]).map_err(unread)?;
     if found < needed {
-        fits(found as u64)?;
+        return Err(short(found as u64));
     }
-    if !source.ended().map_err(unread)? {
+    if !(source.ended().map_err(unread)? || others && begins(source).map_err(unread)?) {
         return Err(format!("goes on after its picture; {ONE}"));
     }
     let above = rgb[start..].iter().find(|v| usize::from(**v) > most).copied();
-    let mut table = [0; 256];
-    for (value, byte) in table.iter_mut().enumerate().take(most + 1) {
-        *byte = ((value * 255 + most / 2) / most) as u8;
-    }
-    if channels == 1 {
-        for i in 0..needed {
-            let grey = rgb[start + i];
-            rgb[3 * i..3 * i + 3].fill(grey);
-        }
-    }
-    for byte in &mut rgb {
-        *byte = table[usize::from(*byte)];
-    }
+    spread(&mut rgb, start);
+    scale(&mut rgb, most);
     picture.rgb = rgb;
     match above {
         Some(value) => Err(format!("has a sample of {value}, above its maxval {most}; write it again")),
@@ -153,7 +153,37 @@ pub fn parse(source: &mut Source<impl Read>, picture: &mut Picture) -> Result<()
     }
 }
 
-const ONE: &str = "give one picture a file (`pamsplit`)";
+fn unread(e: io::Error) -> String {
+    format!("cannot be read: {e}")
+}
+
+/// Whether a picture that is read begins here.
+fn begins(source: &mut Source<impl Read>) -> io::Result<bool> {
+    Ok(matches!(source.look(3)?, [b'P', b'5' | b'6', next] if white(*next) || *next == b'#'))
+}
+
+/// Makes three of each grey sample that stands at the end, from a place on; RGB begins at 0.
+fn spread(rgb: &mut [u8], start: usize) {
+    if start > 0 {
+        for i in 0..rgb.len() / 3 {
+            let grey = rgb[start + i];
+            rgb[3 * i..3 * i + 3].fill(grey);
+        }
+    }
+}
+
+/// Brings samples of another maxval to 255, rounded to the nearest.
+fn scale(rgb: &mut [u8], most: usize) {
+    let mut table = [0; 256];
+    for (value, byte) in table.iter_mut().enumerate().take(most + 1) {
+        *byte = ((value * 255 + most / 2) / most) as u8;
+    }
+    for byte in rgb {
+        *byte = table[usize::from(*byte)];
+    }
+}
+
+const ONE: &str = "give one picture a file (`pamsplit`), or all on standard input (-) to encode or patches";
 
 #[cfg(test)]
 mod tests {

@@ -3,8 +3,8 @@
 use crate::fail::Fail;
 use crate::netpbm::{self, Picture};
 use crate::png_read;
-use crate::source::Source;
-use std::io::Read;
+use crate::source::{self, Source};
+use std::io::{self, Read};
 use std::path::Path;
 
 /// Reads a picture. Its header is tested before its samples are read.
@@ -23,9 +23,31 @@ pub fn find(file: &Path) -> (Picture, Result<(), Fail>) {
 }
 
 fn parse(source: &mut Source<impl Read>, picture: &mut Picture) -> Result<(), String> {
-    if png_read::begins(source).map_err(|e| format!("cannot be read: {e}"))? {
+    if png_read::begins(source).map_err(unread)? {
         png_read::parse(source, picture)
     } else {
         netpbm::parse(source, picture)
     }
+}
+
+/// The pictures of a file, of which a netpbm may have several, one behind the other: each with why it is not taken. One
+/// that is not taken may be the last, since nobody knows where it ends.
+pub fn all(file: &Path) -> Result<Vec<(Picture, Result<(), String>)>, Fail> {
+    let mut source = Source::open(file)?;
+    let mut pictures = Vec::new();
+    loop {
+        let mut picture = Picture { height: 0, width: 0, rgb: vec![] };
+        let several = !png_read::begins(&mut source).map_err(source::unread(file))?;
+        let taken = if several { netpbm::first(&mut source, &mut picture) } else { parse(&mut source, &mut picture) };
+        // For its samples alone a picture is refused with its bytes, behind which the next one stands.
+        let lost = taken.is_err() && picture.rgb.is_empty();
+        pictures.push((picture, taken));
+        if lost || source.ended().map_err(source::unread(file))? {
+            return Ok(pictures);
+        }
+    }
+}
+
+fn unread(e: io::Error) -> String {
+    format!("cannot be read: {e}")
 }

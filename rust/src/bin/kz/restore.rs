@@ -6,9 +6,10 @@ use crate::model::allowed;
 use crate::netpbm::{ppm, Picture};
 use crate::shown::shown;
 use crate::source::{unread, Source};
-use crate::{files, join, npy, room, say};
+use crate::{beside, files, join, npy, room};
 use kyzgultam::{PictureSettings, Refusal};
 use std::fs::File;
+use std::io::Write;
 use std::path::Path;
 
 pub const HELP: &str = "\
@@ -52,7 +53,7 @@ pub fn run(given: &Given) -> Result<(), Fail> {
     let size = size.map_err(|refusal| read.refused(refusal))?;
     let picture = Picture { height: size.height, width: size.width, rgb: read.rgb };
     files::write(&out, given.force, |to| ppm(to, &picture))?;
-    say(format_args!("{}: {}x{}", shown(&out), size.height, size.width));
+    let _ = writeln!(beside(&[&out]), "{}: {}x{}", shown(&out), size.height, size.width);
     Ok(())
 }
 

@@ -6,10 +6,10 @@ use crate::model::allowed;
 use crate::netpbm::{ppm, Picture};
 use crate::restore::{Patches, ELSEWHERE};
 use crate::shown::shown;
-use crate::{files, paint, png, room, unsaid};
+use crate::{beside, files, paint, png, room, unsaid};
 use kyzgultam::{BadSample, PictureSettings, Refusal};
 use std::fs;
-use std::io::{self, stdout, BufWriter, Write};
+use std::io::{self, BufWriter, Write};
 use std::path::{Path, PathBuf};
 
 pub const HELP: &str = "\
@@ -58,6 +58,7 @@ pub fn run(given: &Given) -> Result<(), Fail> {
     // Made before the first file is written: where there is no memory for it, there is neither.
     let marked = map.as_ref().map(|_| saved.marked(file)).transpose()?;
     files::write(&out, given.force, |to| ppm(to, &saved.picture))?;
+    let to = beside(&[&out, map.as_deref().unwrap_or(&out)]);
     let mut lines = vec![format!("{}: {}", shown(&out), saved.sum())];
     let mapped = map.zip(marked).map_or(Ok(()), |(map, marked)| {
         files::write(&map, given.force, |to| png::named(to, &map, &marked))?;
@@ -69,14 +70,16 @@ pub fn run(given: &Given) -> Result<(), Fail> {
         Ok(())
     });
     // The picture is there, so what is bad in it is said even where its map is not.
-    let said = saved.say(&lines, if given.all { saved.list.len() } else { LINES }).map_err(unsaid);
+    let most = if given.all { saved.list.len() } else { LINES };
+    let said = saved.say(&mut BufWriter::new(to), &lines, most).map_err(unsaid);
     mapped.and(said)
 }
 
 /// The outputs are two files, and neither is the one that is read: what is damaged stays as it is.
 fn apart(file: &Path, out: &Path, map: Option<&Path>) -> Result<(), Fail> {
-    let read = fs::canonicalize(file).ok();
+    let read = fs::canonicalize(file).ok().filter(|_| !files::standard(file));
     for (name, output) in [("-o", Some(out)), ("--map", map)] {
+        let output = output.filter(|output| !files::standard(output));
         if let Some(output) = output.filter(|output| read.is_some() && place(output) == read) {
             let words = format!("{name} {} is the file that is read; give another name", shown(output));
             return Err(Fail::usage(words));
@@ -143,8 +146,7 @@ impl Saved {
     }
 
     /// Lines, and then the bad samples, of which at most so many.
-    fn say(&self, lines: &[String], most: usize) -> io::Result<()> {
-        let mut to = BufWriter::new(stdout().lock());
+    fn say(&self, to: &mut dyn Write, lines: &[String], most: usize) -> io::Result<()> {
         for line in lines {
             writeln!(to, "{line}")?;
         }
@@ -156,7 +158,7 @@ impl Saved {
             writeln!(to, "patch row  column  channel  pixel row  column  found bits")?;
         }
         for sample in self.list.iter().take(most) {
-            self.line(&mut to, *sample)?;
+            self.line(to, *sample)?;
         }
         if bad > most {
             writeln!(to, "and {} more; --all says every one", bad - most)?;

@@ -1,8 +1,10 @@
 //! A file as it is read, from the front on: its length, if it has one, is known before its bytes are.
 
 use crate::fail::Fail;
+use crate::files;
 use std::fs::File;
-use std::io::{self, Read};
+use std::io::{self, stdin, Read, Seek};
+use std::os::fd::AsFd;
 use std::path::Path;
 
 pub struct Source<R> {
@@ -17,11 +19,22 @@ pub fn unread(file: &Path) -> impl Fn(io::Error) -> Fail + '_ {
     move |e| Fail::file(file, format!("cannot be read: {e}"))
 }
 
+/// Standard input as a file, which is a pipe or a plain one.
+fn input() -> io::Result<File> {
+    Ok(File::from(stdin().as_fd().try_clone_to_owned()?))
+}
+
 impl Source<File> {
+    /// A file, or standard input where - is its name.
     pub fn open(file: &Path) -> Result<Source<File>, Fail> {
-        let from = File::open(file).map_err(unread(file))?;
+        let mut from = if files::standard(file) { input() } else { File::open(file) }.map_err(unread(file))?;
         let found = from.metadata().map_err(unread(file))?;
-        Ok(Source { from, ahead: vec![], left: found.is_file().then_some(found.len()) })
+        let left = match found.is_file() {
+            // Of standard input some may be read already.
+            true => Some(found.len().saturating_sub(from.stream_position().map_err(unread(file))?)),
+            false => None,
+        };
+        Ok(Source { from, ahead: vec![], left })
     }
 }
 

@@ -1,15 +1,16 @@
 //! `kz weights`, and the weights of `kz encode --model`: those of a safetensors file, or where and why it has none.
 
+use crate::beside;
 use crate::fail::{numbered, Fail};
 use crate::files;
 use crate::given::Given;
 use crate::model::{parts, refused_settings, weights_room};
 use crate::room;
-use crate::say;
 use crate::shown::shown;
 use crate::source::{unread, Source};
 use crate::spot::{followers, Spot};
 use kyzgultam::{tensor_names, weights, EncoderSettings, Refusal, WeightsRefusal};
+use std::io::Write;
 use std::path::Path;
 
 pub const HELP: &str = "\
@@ -44,7 +45,8 @@ pub fn run(given: &Given) -> Result<(), Fail> {
     let (settings, floats) = read(given.settings()?, given.bias()?, file)?;
     files::write(&out, given.force, |to| files::put(to, &floats))?;
     let (tensors, bias) = (tensor_names(&settings).len(), usize::from(settings.projector_bias));
-    say(format_args!("{}: {} floats of {tensors} tensors, bias={bias}", shown(&out), floats.len()));
+    let words = format!("{} floats of {tensors} tensors, bias={bias}", floats.len());
+    let _ = writeln!(beside(&[&out]), "{}: {words}", shown(&out));
     Ok(())
 }
 
