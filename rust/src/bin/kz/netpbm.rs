@@ -76,35 +76,76 @@ struct Head {
     width: usize,
     most: usize,
     len: usize,
+    /// What to do where more bytes follow than it asks for.
+    advice: &'static str,
 }
 
-fn head(bytes: &[u8]) -> Result<Head, String> {
-    let channels = match bytes.get(..2) {
-        Some(b"P5") => 1,
-        Some(b"P6") => 3,
+impl Head {
+    fn of(bytes: &[u8]) -> Result<Head, String> {
+        let channels = channels(bytes)?;
+        let mut header = Header { bytes, at: 2 };
+        let width = header.decimal("width")?;
+        let height = header.decimal("height")?;
+        let most = header.decimal("maxval")?;
+        if !(1..=65535).contains(&most) {
+            return Err(format!("is no netpbm picture: its maxval is {most}; it is to be in 1..255"));
+        }
+        if most > 255 {
+            return Err(format!("has samples of two bytes (maxval {most}); convert it, as with `pamdepth 255`"));
+        }
+        // One white space ends the header: what is meant to belong to it is read as samples.
+        let advice = match &bytes[header.at - 1..] {
+            [b'\r', b'\n', ..] => LINES,
+            [_, b'#', ..] => COMMENT,
+            _ => ONE,
+        };
+        Ok(Head { channels, height, width, most, len: header.at, advice })
+    }
+
+    /// How many samples there are.
+    fn samples(&self) -> usize {
+        self.height * self.width * self.channels
+    }
+
+    /// That no side is 0 or too large.
+    fn sides(&self) -> Result<(), String> {
+        let Head { height, width, .. } = *self;
+        match (height.min(width), height.max(width)) {
+            (0, _) => Err(numbered(Refusal::Side, format!("it is {height}x{width}, and has no pixel; write it again"))),
+            (_, 8193..) => Err(numbered(Refusal::Side, format!("it is {height}x{width}: cut or shrink it"))),
+            _ => Ok(()),
+        }
+    }
+
+    /// That so many bytes of samples are there, or that others may follow.
+    fn length(&self, found: u64, others: bool) -> Result<(), String> {
+        let needed = self.samples();
+        match found.checked_sub(needed as u64) {
+            None => Err(format!("is cut short: {found} bytes of samples where {needed} belong; get the whole file")),
+            Some(more @ 1..) if !others => Err(format!("goes on for {more} bytes after its picture; {}", self.advice)),
+            _ => Ok(()),
+        }
+    }
+}
+
+const ONE: &str = "give one picture a file (`pamsplit`), or all on standard input (-) to encode or patches";
+const LINES: &str = "the lines of its header end in CR LF, and the last LF is read as a sample: write it again with LF";
+const COMMENT: &str = "a comment stands behind its maxval, where the samples begin: put it before the maxval";
+
+/// How many samples a pixel has, by the first two bytes.
+fn channels(bytes: &[u8]) -> Result<usize, String> {
+    match bytes.get(..2) {
+        Some(b"P5") => Ok(1),
+        Some(b"P6") => Ok(3),
         Some([b'P', b'1'..=b'7']) => {
-            return Err("is a netpbm picture, but not P5 or P6; convert it, as with `magick IN OUT.ppm`".into())
+            Err("is a netpbm picture, but not P5 or P6; convert it, as with `magick IN OUT.ppm`".into())
         }
-        _ => {
-            let words = "is no PNG and no binary netpbm picture (P5 or P6); convert it, as with `magick IN OUT.ppm`";
-            return Err(words.into());
-        }
-    };
-    let mut header = Header { bytes, at: 2 };
-    let width = header.decimal("width")?;
-    let height = header.decimal("height")?;
-    let most = header.decimal("maxval")?;
-    if !(1..=65535).contains(&most) {
-        return Err(format!("is no netpbm picture: its maxval is {most}; it is to be in 1..255"));
+        _ => Err("is no PNG and no binary netpbm picture (P5 or P6); convert it, as with `magick IN OUT.ppm`".into()),
     }
-    if most > 255 {
-        return Err(format!("has samples of two bytes (maxval {most}); convert it, as with `pamdepth 255`"));
-    }
-    Ok(Head { channels, height, width, most, len: header.at })
 }
 
-/// Fills an empty picture: its sides, and then its bytes, when the last of them is read. Its header is tested first, and
-/// then its length, where it has one.
+/// Fills an empty picture: its sides, and then its bytes, when the last of them is read. Its header is tested first,
+/// and then its length, where it has one.
 pub fn parse(source: &mut Source<impl Read>, picture: &mut Picture) -> Result<(), String> {
     fill(source, picture, false)
 }
@@ -115,33 +156,20 @@ pub fn first(source: &mut Source<impl Read>, picture: &mut Picture) -> Result<()
 }
 
 fn fill(source: &mut Source<impl Read>, picture: &mut Picture, others: bool) -> Result<(), String> {
-    let Head { channels, height, width, most, len } = head(source.look(HEADER).map_err(unread)?)?;
+    let head = Head::of(source.look(HEADER).map_err(unread)?)?;
+    let Head { height, width, most, .. } = head;
     (picture.height, picture.width) = (height, width);
-    let sides = 1..=8192;
-    if !(sides.contains(&height) && sides.contains(&width)) {
-        return Err(numbered(Refusal::Side, format!("it is {height}x{width}: cut or shrink it")));
-    }
-    source.take(&mut vec![0; len]).map_err(unread)?;
-    let needed = height * width * channels;
-    let short =
-        |found: u64| format!("is cut short: {found} bytes of samples where {needed} belong; get the whole file");
-    match source.left().map(|left| (left, left.checked_sub(needed as u64))) {
-        Some((left, None)) => return Err(short(left)),
-        Some((_, Some(more @ 1..))) if !others => {
-            return Err(format!("goes on for {more} bytes after its picture; {ONE}"));
-        }
-        _ => {}
-    }
+    head.sides()?;
+    source.take(&mut vec![0; head.len]).map_err(unread)?;
+    source.left().map_or(Ok(()), |left| head.length(left, others))?;
     let what = format!("its {height}x{width} pixels");
     let mut rgb = room::zeros(height * width * 3, &what, "cut or shrink the picture")?;
     // Grey samples go to the end, and are then spread from the front on.
-    let start = rgb.len() - needed;
+    let start = rgb.len() - head.samples();
     let found = source.take(&mut rgb[start..]).map_err(unread)?;
-    if found < needed {
-        return Err(short(found as u64));
-    }
+    head.length(found as u64, others)?;
     if !(source.ended().map_err(unread)? || others && begins(source).map_err(unread)?) {
-        return Err(format!("goes on after its picture; {ONE}"));
+        return Err(format!("goes on after its picture; {}", head.advice));
     }
     let above = rgb[start..].iter().find(|v| usize::from(**v) > most).copied();
     spread(&mut rgb, start);
@@ -182,8 +210,6 @@ fn scale(rgb: &mut [u8], most: usize) {
         *byte = table[usize::from(*byte)];
     }
 }
-
-const ONE: &str = "give one picture a file (`pamsplit`), or all on standard input (-) to encode or patches";
 
 #[cfg(test)]
 mod tests {
@@ -228,6 +254,9 @@ mod tests {
         assert_eq!(read("P5\n1 2\n255\n", &[7, 9]), Ok((2, 1, vec![7, 7, 7, 9, 9, 9])));
         // White space and # belong to the samples once the header is over.
         assert_eq!(read("P5 2 1 255 ", b" #"), Ok((1, 2, vec![32, 32, 32, 35, 35, 35])));
+        assert_eq!(read("P5 2 1 255 ", b"# "), Ok((1, 2, vec![35, 35, 35, 32, 32, 32])));
+        // Where the count is right, a LF is a sample, whatever stood before it.
+        assert_eq!(read("P5\r\n2 1\r\n255\r", b"\n "), Ok((1, 2, vec![10, 10, 10, 32, 32, 32])));
     }
 
     #[test]
@@ -256,7 +285,17 @@ mod tests {
             ("P6\n2 1\n65535\n", &six, "two bytes"),
             ("P6\n2 1\n255\n", &six[..5], "cut short: 5 bytes of samples where 6 belong"),
             ("P6\n1 1\n255\n", &six, "3 bytes after"),
-            ("P6\n0 1\n255\n", &six[..0], "number 2"),
+            ("P6\n0 1\n255\n", &six[..0], "number 2: height or width is not in 1..8192; it is 1x0, and has no pixel"),
+            ("P5\n1 0\n255\n", &six[..0], "it is 0x1, and has no pixel; write it again"),
+            ("P6\r\n1 1\r\n255\r\n", &six[..3], "1 bytes after its picture; the lines of its header end in CR LF"),
+            ("P6\r\n1 1\r\n255\r\n", &six, "4 bytes after its picture; the lines of its header end in CR LF"),
+            (
+                "P6\n1 1\n255\n# a comment\n",
+                &six[..3],
+                "12 bytes after its picture; a comment stands behind its maxval",
+            ),
+            ("P6\n1 1\n255 # a comment\n", &six[..3], "a comment stands behind its maxval, where the samples begin"),
+            ("P6\r\n1 1\r\n255\r\n", &six[..1], "cut short: 2 bytes of samples where 3 belong"),
             ("P6\n1 8193\n255\n", &six, "number 2"),
             (&format!("P6\n#{}\n1 1 255\n", " ".repeat(HEADER)), &six[..3], "header is longer than 65536 bytes"),
             ("P6\n99999999999999999999999 99999999999999999999999\n255\n", &six, "number 2"),
