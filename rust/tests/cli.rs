@@ -84,7 +84,7 @@ fn usage() {
         ("encode a.ppm -o out --settings colour=1", "--settings: colour=1"),
         ("encode a.ppm -o out --settings scale=wide", "--settings: scale=wide"),
         ("encode a.ppm -o out --settings bias=yes", "--settings: bias=yes"),
-        ("encode a.ppm b/a.ppm -o out", "same file"),
+        ("encode a.ppm ./a.ppm -o out", "same file"),
         ("patches a.ppm", "-o DIR is missing"),
         ("patches -o out", "no SWEEP.ppm"),
         ("patches a.ppm -o out --weights w", "no option --weights"),
@@ -580,6 +580,34 @@ fn compare_finds_the_patches_that_differ() {
         assert_eq!(pixel[0] > pixel[1], place == (1, 4) || place == (3, 0), "{place:?}");
     }
     assert_eq!(folder.done(&format!("compare a.ppm a.ppm {LIST}")), "32 of 32 patches are equal\n");
+}
+
+/// Sweeps of one name in two folders have files of their own.
+#[test]
+fn equal_names_in_two_folders() {
+    let folder = Folder::new("folders");
+    for name in ["one", "two"] {
+        fs::create_dir(folder.path(name)).unwrap();
+    }
+    sweep(&folder, "one/a.ppm", 8, 8, 1);
+    sweep(&folder, "two/a.ppm", 8, 12, 2);
+    sweep(&folder, "two/b.ppm", 8, 8, 3);
+    let list = "one/a.ppm two/a.ppm two/b.ppm";
+    let said = folder.done(&format!("patches {list} -o out {LIST}"));
+    assert!(said.starts_with("out/one.a.patches.npy: 4x4 patches of 12 floats\nout/two.a.patches.npy: 4x6 "), "{said}");
+    assert_eq!(folder.names("out"), ["b.patches.npy", "one.a.patches.npy", "two.a.patches.npy"]);
+    for (file, right) in [("one.a", "one/a"), ("two.a", "two/a"), ("b", "two/b")] {
+        folder.done(&format!("restore out/{file}.patches.npy -o back.ppm --force {LIST}"));
+        assert_eq!(folder.get("back.ppm"), folder.get(&format!("{right}.ppm")));
+    }
+    let said = folder.done(&format!("patches {list} -o out --skip-existing {LIST}"));
+    assert_eq!(said.matches("skipped").count(), 3);
+    // Tiles too, which restore puts together by these names.
+    folder.done(&format!("patches --tiles {list} -o tiles {LIST},image=8"));
+    let tiles = "tiles/two.a.8x12.r00c00.patches.npy tiles/two.a.8x12.r00c01.patches.npy";
+    folder.done(&format!("restore --tiles {tiles} -o joined.ppm {LIST},image=8"));
+    assert_eq!(folder.get("joined.ppm"), folder.get("two/a.ppm"));
+    folder.fails(2, &format!("patches one/a.ppm one/./a.ppm -o out {LIST}"), &["would be written to the same file"]);
 }
 
 #[test]

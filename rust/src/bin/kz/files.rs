@@ -103,8 +103,8 @@ fn unwritten(file: &Path, e: io::Error) -> Fail {
     }
 }
 
-/// Writes beside the file and then gives what was written its name. A file that is replaced keeps its mode. What goes to
-/// standard output is there as far as it came.
+/// Writes beside the file and then gives what was written its name. A file that is replaced keeps its mode. What goes
+/// to standard output is there as far as it came.
 pub fn write(file: &Path, force: bool, fill: impl FnOnce(&mut dyn Write) -> io::Result<()>) -> Result<(), Fail> {
     if standard(file) {
         let mut to = BufWriter::new(stdout().lock());

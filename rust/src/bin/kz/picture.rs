@@ -30,9 +30,12 @@ fn parse(source: &mut Source<impl Read>, picture: &mut Picture) -> Result<(), St
     }
 }
 
+/// A picture, and why it is not taken.
+pub type Found = (Picture, Result<(), String>);
+
 /// The pictures of a file, of which a netpbm may have several, one behind the other: each with why it is not taken. One
 /// that is not taken may be the last, since nobody knows where it ends.
-pub fn all(file: &Path) -> Result<Vec<(Picture, Result<(), String>)>, Fail> {
+pub fn all(file: &Path) -> Result<Vec<Found>, Fail> {
     let mut source = Source::open(file)?;
     let mut pictures = Vec::new();
     loop {
