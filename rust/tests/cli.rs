@@ -189,7 +189,7 @@ fn a_long_sweep_is_resized_by_its_rule() {
         }
         let said = folder.done(&format!("compare b.ppm b.ppm {list}"));
         assert_eq!(said, format!("{count} of {count} patches are equal{by}"));
-        let said = folder.done(&format!("compare a.ppm b.ppm -o map{resize_rule}.ppm {list}"));
+        let said = folder.differ(&format!("compare a.ppm b.ppm -o map{resize_rule}.ppm {list}"));
         let first = format!("the first that differs is at row {}, column {} (from 0)", place[0], place[1]);
         assert!(said.starts_with(&format!("{} of {count} patches are equal; {first}{by}", count - 1)), "{said}");
         let map = folder.get(&format!("map{resize_rule}.ppm"));
@@ -207,7 +207,9 @@ fn a_long_sweep_is_resized_by_its_rule() {
     // One grid by rule 1, and two by rule 2.
     sweep(&folder, "square.ppm", 48, 48, 3);
     sweep(&folder, "tall.ppm", 48, 24, 3);
-    folder.done(&format!("compare square.ppm tall.ppm {LIST}"));
+    let said = folder.differ(&format!("compare square.ppm tall.ppm {LIST}"));
+    let both = "square.ppm is 48x48 and tall.ppm is 48x24: both were resized to 16x16 to be compared\n";
+    assert!(said.ends_with(&format!("; resized by rule 1\n{both}")), "{said}");
     folder.fails(1, &format!("compare square.ppm tall.ppm {LIST},rule=2"), &["square.ppm", "8x8", "tall.ppm", "8x4"]);
 }
 
@@ -525,8 +527,8 @@ fn nothing_is_overwritten() {
         ("patches a.ppm -o out", "out/a.patches.npy"),
         ("restore a.patches.npy -o out/back.ppm", "out/back.ppm"),
         ("salvage a.patches.npy -o out/saved.ppm", "out/saved.ppm"),
-        ("compare a.ppm b.ppm -o out/map.png", "out/map.png"),
-        ("compare a.ppm b.ppm -o out/map.ppm", "out/map.ppm"),
+        ("compare a.ppm a.ppm -o out/map.png", "out/map.png"),
+        ("compare a.ppm a.ppm -o out/map.ppm", "out/map.ppm"),
     ];
     for (words, file) in commands {
         folder.put(file, b"precious");
@@ -571,7 +573,7 @@ fn compare_finds_the_patches_that_differ() {
     rgb[(3 * 16 + 9) * 3] ^= 1;
     rgb[7 * 16 * 3 + 2] ^= 0x80;
     folder.put("b.ppm", &p6(8, 16, &rgb));
-    let said = folder.done(&format!("compare a.ppm b.ppm -o map.ppm {LIST}"));
+    let said = folder.differ(&format!("compare a.ppm b.ppm -o map.ppm {LIST}"));
     assert!(said.starts_with("30 of 32 patches are equal; the first that differs is at row 1, column 4 (from 0)\n"));
     let map = folder.get("map.ppm");
     let pixels = &map[map.len() - 8 * 16 * 3..];
@@ -580,6 +582,50 @@ fn compare_finds_the_patches_that_differ() {
         assert_eq!(pixel[0] > pixel[1], place == (1, 4) || place == (3, 0), "{place:?}");
     }
     assert_eq!(folder.done(&format!("compare a.ppm a.ppm {LIST}")), "32 of 32 patches are equal\n");
+    // Pictures of other sides may be equal when they are resized, which is said.
+    folder.put("small.ppm", &p6(7, 15, &[9; 7 * 15 * 3]));
+    folder.put("large.ppm", &p6(8, 16, &[9; 8 * 16 * 3]));
+    let said = folder.done(&format!("compare small.ppm large.ppm {LIST}"));
+    let both = "small.ppm is 7x15 and large.ppm is 8x16: both were resized to 8x16 to be compared\n";
+    assert_eq!(said, format!("32 of 32 patches are equal\n{both}"));
+    // What was not compared is refused, and no difference.
+    folder.fails(1, &format!("compare a.ppm none.ppm {LIST}"), &["none.ppm: cannot be read"]);
+}
+
+/// A picture is written as its name says.
+#[test]
+fn a_name_says_its_format() {
+    let folder = Folder::new("format");
+    let rgb = sweep(&folder, "a.ppm", 8, 12, 4);
+    sweep(&folder, "b.ppm", 8, 12, 5);
+    folder.done(&format!("patches a.ppm -o . {LIST}"));
+    let begins = |name: &str, right: &[u8]| assert!(folder.get(name).starts_with(right), "{name}");
+    for (name, right) in [("m.png", &b"\x89PNG"[..]), ("m.ppm", b"P6\n"), ("m2.PNG", b"\x89PNG"), ("m2.Ppm", b"P6\n")] {
+        folder.differ(&format!("compare a.ppm b.ppm -o {name} {LIST}"));
+        begins(name, right);
+        folder.done(&format!("salvage a.patches.npy -o s{name} --map t{name} {LIST}"));
+        begins(&format!("s{name}"), right);
+        begins(&format!("t{name}"), right);
+        folder.done(&format!("restore a.patches.npy -o r{name} {LIST}"));
+        begins(&format!("r{name}"), right);
+    }
+    for name in ["r.other", "r"] {
+        folder.done(&format!("restore a.patches.npy -o {name} {LIST}"));
+        assert_eq!(folder.get(name), p6(8, 12, &rgb));
+    }
+    let said = folder.done(&format!("compare rm.png a.ppm {LIST}"));
+    assert_eq!(said, "24 of 24 patches are equal\n");
+    let before = folder.names(".");
+    for name in ["m.jpg", "m", "m.pgm", "png"] {
+        let part = format!("-o {name}: a picture is written as its name says, .png or .ppm");
+        folder.fails(2, &format!("compare a.ppm b.ppm -o {name} {LIST}"), &[&part]);
+        folder.fails(
+            2,
+            &format!("salvage a.patches.npy -o x.ppm --map {name} {LIST}"),
+            &[&part.replace("-o", "--map")],
+        );
+    }
+    assert_eq!(folder.names("."), before);
 }
 
 /// Sweeps of one name in two folders have files of their own.

@@ -64,6 +64,14 @@ impl Folder {
         String::from_utf8(output.stdout).unwrap()
     }
 
+    /// What `kz compare` says where not all is equal.
+    pub fn differ(&self, words: &str) -> String {
+        let output = self.kz(words);
+        assert_eq!(output.status.code(), Some(3), "{words}: {}", String::from_utf8_lossy(&output.stderr));
+        assert!(output.stderr.is_empty(), "{words}");
+        String::from_utf8(output.stdout).unwrap()
+    }
+
     /// What is said where the command ends with a status; every part of the words is to be in it.
     pub fn fails(&self, status: i32, words: &str, parts: &[&str]) {
         let output = self.kz(words);

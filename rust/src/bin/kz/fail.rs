@@ -16,6 +16,8 @@ pub enum Fail {
     Unlogged(String),
     /// Exit status 2: the command line is not one that kz knows.
     Usage(String),
+    /// Exit status 3: nothing failed, but what was compared differs, and that is said already.
+    Differ,
 }
 
 impl Fail {

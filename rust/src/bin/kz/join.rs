@@ -3,13 +3,13 @@
 use crate::fail::{numbered, Fail};
 use crate::given::Given;
 use crate::model::{allowed, refused_settings};
-use crate::netpbm::{ppm, Picture};
+use crate::netpbm::Picture;
 use crate::progress::Progress;
 use crate::restore::{floats, DAMAGED, ELSEWHERE};
 use crate::shown::shown;
 use crate::source::Source;
 use crate::tiles::{label, named, place, Named};
-use crate::{beside, files, npy, room};
+use crate::{beside, files, npy, png, room};
 use kyzgultam::{cut, restore_tile, Cut, PictureSettings, Refusal};
 use std::collections::BTreeMap;
 use std::ffi::OsStr;
@@ -45,7 +45,7 @@ pub fn run(given: &Given) -> Result<(), Fail> {
         join(file, index, &name, &settings, &mut sweep).inspect_err(|_| progress.clear())?;
     }
     progress.clear();
-    files::write(&out, given.force, |to| ppm(to, &sweep))?;
+    files::write(&out, given.force, |to| png::or_ppm(to, &out, &sweep))?;
     let words = format!("{height}x{width}, joined from {}x{} tiles", cut.rows, cut.columns);
     let _ = writeln!(beside(&[&out]), "{}: {words}", shown(&out));
     Ok(())

@@ -65,7 +65,7 @@ of include/kyzgultam.h. Sizes are HEIGHTxWIDTH; - is standard input or output.
   --force           write over plain files that are there already
   --skip-existing   for encode and patches: take such files for done
 `kz COMMAND --help` says more; `kz --version`. Exit status: 0 done, 1 refused
-(the message names file, number and what to do), 2 not a command line of kz.
+(file, number and what to do are said), 2 no command line of kz, 3 not equal.
 ";
 
 type Command = (&'static str, &'static str, &'static [&'static str], fn(&Given) -> Result<(), Fail>);
@@ -155,6 +155,7 @@ fn main() -> ExitCode {
         Ok(()) => return ExitCode::SUCCESS,
         Err(Fail::Refused(words) | Fail::Taken(words) | Fail::Stopped(words) | Fail::Unlogged(words)) => (words, 1),
         Err(Fail::Usage(words)) => (format!("{words}; `kz --help` shows what there is"), 2),
+        Err(Fail::Differ) => return ExitCode::from(3),
     };
     let _ = writeln!(stderr(), "kz: {words}");
     ExitCode::from(status)

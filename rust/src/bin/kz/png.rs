@@ -1,6 +1,9 @@
 //! PNG pictures, as they are written: stored without compression.
 
+use crate::fail::Fail;
+use crate::files;
 use crate::netpbm::{ppm, Picture};
+use crate::shown::shown;
 use crate::sums::{adler32, crc32};
 use std::io::{self, Write};
 use std::iter::once;
@@ -9,12 +12,33 @@ use std::path::Path;
 /// Bytes of a stored block.
 const BLOCK: usize = 0xFFFF;
 
+fn ends(file: &Path, right: &str) -> bool {
+    file.extension().is_some_and(|ending| ending.eq_ignore_ascii_case(right))
+}
+
+/// Refuses the name of an option's picture that says neither of the two forms.
+pub fn says(option: &str, file: &Path) -> Result<(), Fail> {
+    if ends(file, "png") || ends(file, "ppm") || files::standard(file) {
+        return Ok(());
+    }
+    Err(Fail::usage(format!("{option} {}: a picture is written as its name says, .png or .ppm", shown(file))))
+}
+
 /// Writes a picture as a PPM where its file's name ends so, and else as a PNG.
 pub fn named(to: &mut dyn Write, file: &Path, picture: &Picture) -> io::Result<()> {
-    if file.extension().is_some_and(|ending| ending == "ppm") {
+    if ends(file, "ppm") {
         ppm(to, picture)
     } else {
         png(to, picture)
+    }
+}
+
+/// Writes a picture as a PNG where its file's name ends so, and else as a PPM.
+pub fn or_ppm(to: &mut dyn Write, file: &Path, picture: &Picture) -> io::Result<()> {
+    if ends(file, "png") {
+        png(to, picture)
+    } else {
+        ppm(to, picture)
     }
 }
 

@@ -3,10 +3,10 @@
 use crate::fail::Fail;
 use crate::given::Given;
 use crate::model::allowed;
-use crate::netpbm::{ppm, Picture};
+use crate::netpbm::Picture;
 use crate::shown::shown;
 use crate::source::{unread, Source};
-use crate::{beside, files, join, npy, room};
+use crate::{beside, files, join, npy, png, room};
 use kyzgultam::{PictureSettings, Refusal};
 use std::fs::File;
 use std::io::Write;
@@ -52,7 +52,7 @@ pub fn run(given: &Given) -> Result<(), Fail> {
     let size = kyzgultam::restore(&read.floats, grid_h, grid_w, &settings, &mut read.rgb);
     let size = size.map_err(|refusal| read.refused(refusal))?;
     let picture = Picture { height: size.height, width: size.width, rgb: read.rgb };
-    files::write(&out, given.force, |to| ppm(to, &picture))?;
+    files::write(&out, given.force, |to| png::or_ppm(to, &out, &picture))?;
     let _ = writeln!(beside(&[&out]), "{}: {}x{}", shown(&out), size.height, size.width);
     Ok(())
 }

@@ -3,7 +3,7 @@
 use crate::fail::Fail;
 use crate::given::Given;
 use crate::model::allowed;
-use crate::netpbm::{ppm, Picture};
+use crate::netpbm::Picture;
 use crate::restore::{Patches, ELSEWHERE};
 use crate::shown::shown;
 use crate::{beside, files, paint, png, room, unsaid};
@@ -26,9 +26,9 @@ picture was written, whatever is bad, and 1 where that cannot be said on
 standard output.
 
 With --map it also writes the picture with the bad pixels in magenta, their
-patches framed and all others dimmed, enlarged where it is small (PPM, if OUT
-ends in .ppm). A pixel is marked as a whole, whichever of its samples is bad,
-and by more than itself where it is too small to be seen.
+patches framed and all others dimmed, enlarged where it is small, as PNG or PPM
+by its ending (-o: PNG by .png, else PPM). A pixel is marked as a whole, which-
+ever of its samples is bad, and by more than itself where it is too small.
 
 The file, --grid and --settings are as for `kz restore`: with another mean or
 deviation than its own most samples are bad. The resize rule may be left out.
@@ -54,10 +54,11 @@ pub fn run(given: &Given) -> Result<(), Fail> {
     for output in [Some(&out), map.as_ref()].into_iter().flatten() {
         files::vacant(output, given.force)?;
     }
+    map.as_deref().map_or(Ok(()), |map| png::says("--map", map))?;
     let saved = Saved::read(file, asked, &settings)?;
     // Made before the first file is written: where there is no memory for it, there is neither.
     let marked = map.as_ref().map(|_| saved.marked(file)).transpose()?;
-    files::write(&out, given.force, |to| ppm(to, &saved.picture))?;
+    files::write(&out, given.force, |to| png::or_ppm(to, &out, &saved.picture))?;
     let to = beside(&[&out, map.as_deref().unwrap_or(&out)]);
     let mut lines = vec![format!("{}: {}", shown(&out), saved.sum())];
     let mapped = map.zip(marked).map_or(Ok(()), |(map, marked)| {
