@@ -119,7 +119,7 @@ fn what_is_not_read_is_refused_in_words() {
     }
     for len in 0..whole.len() {
         folder.put("a.png", &whole[..len]);
-        let words = if len > 0 { "is cut short: it ends after " } else { "is no PNG" };
+        let words = if len > 0 { "is cut short: it ends after " } else { "is empty" };
         folder.fails(1, &format!("patches a.png -o out {LIST}"), &["a.png: ", words]);
     }
     assert!(folder.names("out").is_empty());

@@ -180,7 +180,7 @@ fn several_pictures() {
         ),
         ("cat a.ppm text | \"$@\"", 0, &["-: goes on after its picture; "]),
         ("cat text | \"$@\"", 0, &["-: is no PNG and no binary netpbm picture"]),
-        ("exec \"$@\" < /dev/null", 0, &["-: is no PNG and no binary netpbm picture"]),
+        ("exec \"$@\" < /dev/null", 0, &["-: is empty; look at what was to write it"]),
         ("exec \"$@\" < /dev/zero", 0, &["-: is no PNG and no binary netpbm picture"]),
     ] {
         let _ = fs::remove_dir_all(folder.path("some"));

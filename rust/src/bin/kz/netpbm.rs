@@ -186,7 +186,7 @@ fn unread(e: io::Error) -> String {
 }
 
 /// Whether a picture that is read begins here.
-fn begins(source: &mut Source<impl Read>) -> io::Result<bool> {
+pub fn begins(source: &mut Source<impl Read>) -> io::Result<bool> {
     Ok(matches!(source.look(3)?, [b'P', b'5' | b'6', next] if white(*next) || *next == b'#'))
 }
 

@@ -5,6 +5,7 @@ use crate::netpbm::{self, Picture};
 use crate::png_read;
 use crate::source::{self, Source};
 use std::io::{self, Read};
+use std::ops::Range;
 use std::path::Path;
 
 /// Reads a picture. Its header is tested before its samples are read.
@@ -23,11 +24,30 @@ pub fn find(file: &Path) -> (Picture, Result<(), Fail>) {
 }
 
 fn parse(source: &mut Source<impl Read>, picture: &mut Picture) -> Result<(), String> {
+    other(source.look(DICOM.end).map_err(unread)?)?;
     if png_read::begins(source).map_err(unread)? {
         png_read::parse(source, picture)
     } else {
         netpbm::parse(source, picture)
     }
+}
+
+/// Where a DICOM file says what it is.
+const DICOM: Range<usize> = 128..132;
+
+/// Refuses by its first bytes what is no picture, but what a sweep often comes in.
+fn other(front: &[u8]) -> Result<(), String> {
+    if front.is_empty() {
+        return Err("is empty; look at what was to write it".into());
+    }
+    if front.get(DICOM) == Some(b"DICM") {
+        return Err(
+            "is a DICOM file; send its frames to standard input (-), as with `dcm2pnm --all-frames --no-overlays \
+                    --write-raw-pnm FILE`"
+                .into(),
+        );
+    }
+    Ok(())
 }
 
 /// A picture, and why it is not taken.
@@ -40,7 +60,7 @@ pub fn all(file: &Path) -> Result<Vec<Found>, Fail> {
     let mut pictures = Vec::new();
     loop {
         let mut picture = Picture { height: 0, width: 0, rgb: vec![] };
-        let several = !png_read::begins(&mut source).map_err(source::unread(file))?;
+        let several = netpbm::begins(&mut source).map_err(source::unread(file))?;
         let taken = if several { netpbm::first(&mut source, &mut picture) } else { parse(&mut source, &mut picture) };
         // For its samples alone a picture is refused with its bytes, behind which the next one stands.
         let lost = taken.is_err() && picture.rgb.is_empty();
