@@ -433,16 +433,15 @@ mod tests {
         assert!(taken.unwrap_err().starts_with("is transparent, first at row 1, column 0 (from 0); "));
     }
 
-    /// Each filter, on bytes worked out by hand: grey pixels 10 250 30 below 100 20 200, and RGB, whose left neighbour
+    /// Each filter, on bytes worked out by hand: grey pixels 11 251 31 below 101 21 201, and RGB, whose left neighbour
     /// is three bytes away.
     #[test]
     fn filters() {
-        let row = [10, 250, 30];
         for (filter, bytes) in
-            [(0, [10, 250, 30]), (1, [10, 240, 36]), (2, [166, 230, 86]), (3, [216, 235, 61]), (4, [166, 240, 36])]
+            [(0, [11, 251, 31]), (1, [11, 240, 36]), (2, [166, 230, 86]), (3, [217, 235, 61]), (4, [166, 240, 36])]
         {
-            let rows = [&[0, 100, 20, 200, filter][..], &bytes].concat();
-            let right: Vec<u8> = [100, 20, 200].iter().chain(&row).flat_map(|grey| [*grey; 3]).collect();
+            let rows = [&[0, 101, 21, 201, filter][..], &bytes].concat();
+            let right: Vec<u8> = [101, 21, 201, 11, 251, 31].iter().flat_map(|grey| [*grey; 3]).collect();
             assert_eq!(read(&png(0, 2, 3, &rows)), Ok((2, 3, right)), "{filter}");
         }
         let rows = [1, 1, 2, 3, 1, 1, 1, 4, 0, 0, 0, 0, 0, 0];
