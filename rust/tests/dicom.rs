@@ -85,6 +85,20 @@ fn all_frames_through_a_pipe() {
     assert!(String::from_utf8(output.stderr).unwrap().starts_with("kz: -: is a DICOM file; "));
 }
 
+/// A picture may have any samples, those too that stand where a DICOM file says what it is.
+#[test]
+fn a_picture_is_no_dicom_file() {
+    let folder = Folder::new("dicom-not");
+    let front = b"P5 16 16 255\n";
+    let mut file = [&front[..], &[7; 256]].concat();
+    file[128..132].copy_from_slice(b"DICM");
+    folder.put("a.pgm", &file);
+    assert_eq!(folder.done(&format!("patches a.pgm -o out {LIST}")), "out/a.patches.npy: 8x8 patches of 12 floats\n");
+    file[0] = 0;
+    folder.put("a.pgm", &file);
+    folder.fails(1, &format!("patches a.pgm -o out --force {LIST}"), &["a.pgm: is a DICOM file; "]);
+}
+
 /// A single frame, and one that is compressed without loss.
 #[test]
 fn one_frame_and_a_compressed_one() {

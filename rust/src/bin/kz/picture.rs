@@ -24,31 +24,22 @@ pub fn find(file: &Path) -> (Picture, Result<(), Fail>) {
 }
 
 fn parse(source: &mut Source<impl Read>, picture: &mut Picture) -> Result<(), String> {
-    other(source.look(DICOM.end).map_err(unread)?)?;
     if png_read::begins(source).map_err(unread)? {
-        png_read::parse(source, picture)
-    } else {
-        netpbm::parse(source, picture)
+        return png_read::parse(source, picture);
+    }
+    match source.look(DICOM.end).map_err(unread)? {
+        [] => Err("is empty; look at what was to write it".into()),
+        // A netpbm may have any bytes where a DICOM file says what it is.
+        [b'P', ..] => netpbm::parse(source, picture),
+        front if front.get(DICOM) == Some(b"DICM") => Err(format!("is a DICOM file; {FRAMES}")),
+        _ => netpbm::parse(source, picture),
     }
 }
 
 /// Where a DICOM file says what it is.
 const DICOM: Range<usize> = 128..132;
-
-/// Refuses by its first bytes what is no picture, but what a sweep often comes in.
-fn other(front: &[u8]) -> Result<(), String> {
-    if front.is_empty() {
-        return Err("is empty; look at what was to write it".into());
-    }
-    if front.get(DICOM) == Some(b"DICM") {
-        return Err(
-            "is a DICOM file; send its frames to standard input (-), as with `dcm2pnm --all-frames --no-overlays \
-                    --write-raw-pnm FILE`"
-                .into(),
-        );
-    }
-    Ok(())
-}
+const FRAMES: &str =
+    "send its frames to standard input (-), as with `dcm2pnm --all-frames --no-overlays --write-raw-pnm`";
 
 /// A picture, and why it is not taken.
 pub type Found = (Picture, Result<(), String>);

@@ -19,14 +19,15 @@ kz restore --tiles SWEEP.HxW.rRcC.patches.npy .. -o OUT.ppm
            [--settings LIST] [--force]
 
 The first form writes the picture that gave the patches, as it was resized
-before it was cut. A .npy file, as `kz patches` writes it, says its grid
-itself: its shape is grid rows x grid columns x 3 patch^2, and another is
-refused. A file of plain floats (f32, little-endian) needs --grid. --settings
-are to be those that the patches were cut with: patch, merge, image, mean and
-deviation (`kz encode --help`). The file does not hold the last two: with
-others than its own most files are refused with 8. So is a damaged one, of
-which `kz salvage` brings back what is left. The resize rule may be left out:
-the grid says which sides it gave.
+before it was cut: as PNG if OUT ends in .png, and else as PPM. A .npy file, as
+`kz patches` writes it, says its grid itself: its shape is grid rows x grid
+columns x 3 patch^2, and another is refused. FILE - is standard input. A file
+of plain floats (f32, little-endian) needs --grid. --settings are to be those
+that the patches were cut with: patch, merge, image, mean and deviation (`kz
+encode --help`). The file does not hold the last two: with others than its own
+most files are refused with 8. So is a damaged one, of which `kz salvage`
+brings back what is left. The resize rule may be left out: the grid says which
+sides it gave.
 
 The second form joins the tiles that `kz patches --tiles` wrote to the sweep,
 byte for byte, as in kz restore --tiles out/a.*.patches.npy -o a.ppm. It needs
