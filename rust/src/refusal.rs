@@ -77,7 +77,7 @@ pub enum Refusal {
 
 impl Refusal {
     /// Every refusal, by number.
-    pub const ALL: [Refusal; 27] = [
+    pub const ALL: &[Refusal] = &[
         Refusal::Setting,
         Refusal::Side,
         Refusal::RgbLength,
@@ -173,7 +173,7 @@ mod tests {
     fn a_number_is_found_wherever_it_stands() {
         assert_eq!(Refusal::check(0), Ok(()));
         for refusal in Refusal::ALL {
-            assert_eq!(Refusal::check(refusal.number()), Err(refusal));
+            assert_eq!(Refusal::check(refusal.number()), Err(*refusal));
         }
     }
 
