@@ -51,7 +51,8 @@ fn names_are_bytes() {
     }
     let mut out = OsString::from("--out=");
     out.push(OsStr::from_bytes(b"out\xfd"));
-    let output = folder.command("patches").args([a, b, &out]).args(LIST.split(' ')).output().unwrap();
+    let output =
+        folder.command("patches").args([a, b, &out]).args(["--settings", "patch=2,merge=2,image=16"]).output().unwrap();
     let said = String::from_utf8(output.stdout).unwrap();
     assert_eq!(output.status.code(), Some(0), "{}", String::from_utf8_lossy(&output.stderr));
     assert!(said.contains("out\\xfd/x\\xff.") && said.contains("out\\xfd/x\\xfe."), "{said}");

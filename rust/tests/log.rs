@@ -2,7 +2,7 @@
 
 mod common;
 
-use common::tool::{p6, plain, sweep, Folder, LIST, TABLE, TINY, WEIGHTS};
+use common::tool::{list_with, p6, plain, sweep, Folder, LIST, TABLE, TINY, WEIGHTS};
 use common::{alike, Random};
 use kyzgultam::{cut, pixtral_preprocess, preprocess_tile, PictureSettings, Refusal};
 use std::fs::{self, Permissions};
@@ -210,7 +210,7 @@ fn a_log_has_only_the_words_of_its_form() {
             ["", ",rule=2", ",mean=-0.5/1e-3/3,deviation=1e38", ",mean=inf", ",merge=5"].iter().enumerate()
         {
             let log = format!("job{tiles}{i}.log");
-            let words = format!("encode {tiles} {list} -o clinic{tiles}{i} --log {log} {LIST}{settings}");
+            let words = format!("encode {tiles} {list} -o clinic{tiles}{i} --log {log} {}", list_with(settings));
             assert_eq!(outcome(folder.command(&words)).0, Some(1));
             let log = folder.get(&log);
             assert!(in_form(&log, form) && !in_form(&log, other), "{}", String::from_utf8_lossy(&log));
@@ -353,7 +353,8 @@ fn refused_settings_have_their_number() {
     {
         for command in ["patches", "encode"] {
             let log = format!("{command}{i}.log");
-            let run = |rest: &str| format!("{command} {rest} a.ppm b.ppm c.ppm -o out{i} {LIST},{list}");
+            let list = list_with(&format!(",{list}"));
+            let run = |rest: &str| format!("{command} {rest} a.ppm b.ppm c.ppm -o out{i} {list}");
             folder.fails(1, &run(&format!("--log {log}")), &[words]);
             // Where the settings are refused, so is what is no picture.
             let none = if number == 4 { 2 } else { number };
@@ -372,7 +373,8 @@ fn refused_settings_have_their_number() {
         assert!(folder.names(&format!("out{i}")).is_empty());
     }
     // What the encoder alone refuses is refused before there is a list, and no log is begun.
-    folder.fails(1, &format!("encode a.ppm -o out --log no.log {LIST},heads=3"), &["--settings: refused, number 1"]);
+    let list = list_with(",heads=3");
+    folder.fails(1, &format!("encode a.ppm -o out --log no.log {list}"), &["--settings: refused, number 1"]);
     folder.fails(1, &format!("encode a.ppm -o out --log no.log --weights none {LIST}"), &["none: cannot be read"]);
     assert!(!folder.path("no.log").exists());
 }

@@ -4,7 +4,7 @@ mod common;
 
 use common::png::png;
 use common::tensors::Tensors;
-use common::tool::{npy, p6, plain, sweep, Folder, CONFIG, LIST, TABLE, WEIGHTS};
+use common::tool::{list_with, npy, p6, plain, sweep, Folder, CONFIG, LIST, TABLE, WEIGHTS};
 use common::Random;
 use std::fs;
 
@@ -29,13 +29,14 @@ fn a_sweep_from_standard_input() {
     folder.put("a.png", &png(2, 8, 12, &rgb));
     folder.put("later", &[b"four".to_vec(), folder.get("a.ppm")].concat());
     folder.done(&format!("patches a.ppm -o right {LIST}"));
-    folder.done(&format!("patches --tiles a.ppm -o right {LIST},image=8"));
+    let small = list_with(",image=8");
+    folder.done(&format!("patches --tiles a.ppm -o right {small}"));
     let later = "(dd bs=4 count=1 2>/dev/null >/dev/null; exec \"$@\") < later";
     for script in ["cat a.ppm | \"$@\"", "exec \"$@\" < a.ppm", "cat a.png | \"$@\"", "exec \"$@\" < a.png", later] {
         let words = said(&folder, script, &format!("patches - -o out --force {LIST}"));
         assert_eq!(words, "out/stdin.patches.npy: 4x6 patches of 12 floats\n");
         assert_eq!(folder.get("out/stdin.patches.npy"), folder.get("right/a.patches.npy"), "{script}");
-        said(&folder, script, &format!("patches --tiles - -o out --force {LIST},image=8"));
+        said(&folder, script, &format!("patches --tiles - -o out --force {small}"));
         for name in ["8x12.r00c00.patches.npy", "8x12.r00c01.patches.npy"] {
             assert_eq!(folder.get(&format!("out/stdin.{name}")), folder.get(&format!("right/a.{name}")));
         }
@@ -129,7 +130,7 @@ fn one_file_to_standard_output() {
     // From one to the next, and back.
     let back = "cat a.ppm | \"$1\" patches - -o - $2 $3 2>/dev/null | \"$1\" restore - -o - $2 $3";
     if std::env::var_os("KZ_EMULATOR").is_none() {
-        let (status, found, _) = run(&folder, back, LIST);
+        let (status, found, _) = run(&folder, back, "--settings patch=2,merge=2,image=16");
         assert_eq!((status, found), (Some(0), folder.get("a.ppm")));
     }
     // Where standard output takes nothing, that is said.

@@ -2,7 +2,7 @@
 
 mod common;
 
-use common::tool::{npy, p6, plain, sweep, Folder, LIST, TABLE, TINY, WEIGHTS};
+use common::tool::{list_with, npy, p6, plain, sweep, Folder, LIST, TABLE, TINY, WEIGHTS};
 use common::Random;
 use kyzgultam::{cut, forward, preprocess_tile, EncoderSettings, PictureSettings, Tile};
 use std::ffi::OsStr;
@@ -191,7 +191,7 @@ fn a_sweep_is_joined_from_all_of_its_tiles() {
     let folder = Folder::new("join");
     let (_, names) = six(&folder);
     let fails = |files: &[String], list: &str, parts: &[&str]| {
-        let words = format!("restore --tiles {} -o back.ppm {LIST}{list}", files.join(" "));
+        let words = format!("restore --tiles {} -o back.ppm {}", files.join(" "), list_with(list));
         folder.fails(1, &words, parts);
         assert!(!folder.path("back.ppm").exists());
     };
@@ -360,7 +360,8 @@ fn a_sweep_goes_on_after_a_crash() {
         assert_eq!(names.iter().map(|name| folder.get(name)).collect::<Vec<_>>(), before);
         assert_eq!(places(), kept);
         // A tile of another cut has the same name and another grid.
-        let output = folder.kz(&format!("{words},image=12 --skip-existing"));
+        let list = list_with(",image=12");
+        let output = folder.kz(&format!("{command} --tiles a.ppm b.ppm -o {kind} {list} --skip-existing"));
         let errors = String::from_utf8(output.stderr).unwrap();
         assert_eq!(output.status.code(), Some(1), "{errors}");
         let (was, is) = if kind == "patches" { ("8x8", "6x6") } else { ("4x4", "3x3") };

@@ -41,14 +41,14 @@ impl Folder {
     pub fn command(&self, words: &str) -> Command {
         let kz = kz();
         let mut command = Command::new(&kz[0]);
-        command.args(&kz[1..]).args(words.split_whitespace()).current_dir(&self.0);
+        command.args(&kz[1..]).args(used(words).split_whitespace()).current_dir(&self.0);
         command
     }
 
     /// A script of the shell, in which `exec "$@"` runs kz with the words in the shell's place.
     pub fn shell(&self, script: &str, words: &str) -> Command {
         let mut command = Command::new("sh");
-        command.args(["-c", script, "sh"]).args(kz()).args(words.split_whitespace()).current_dir(&self.0);
+        command.args(["-c", script, "sh"]).args(kz()).args(used(words).split_whitespace()).current_dir(&self.0);
         command
     }
 
@@ -81,6 +81,16 @@ impl Folder {
         for part in parts {
             assert!(said.contains(part), "{words}: {part:?} is not in {said:?}");
         }
+    }
+}
+
+/// The words, but for the sizes of `LIST` where the command uses a picture's settings alone.
+fn used(words: &str) -> String {
+    let picture = ["patches", "restore", "salvage", "compare"].iter().any(|command| words.starts_with(command));
+    if picture {
+        words.replace(SIZES, "")
+    } else {
+        words.into()
     }
 }
 
@@ -127,6 +137,16 @@ pub fn plain(floats: &[f32]) -> Vec<u8> {
 
 /// The tests' model: small in everything.
 pub const LIST: &str = "--settings patch=2,merge=2,image=16,hidden=8,heads=2,layers=1,intermediate=5,text=3";
+/// `LIST` with other pairs behind it, as `,image=20`, and without its own of their keys.
+pub fn list_with(pairs: &str) -> String {
+    let keys: Vec<&str> = pairs.split(',').filter_map(|pair| pair.split_once('=')).map(|(key, _)| key).collect();
+    let (option, list) = LIST.split_once(' ').unwrap();
+    let kept = list.split(',').filter(|pair| !keys.contains(&pair.split_once('=').unwrap().0));
+    format!("{option} {}{pairs}", kept.collect::<Vec<_>>().join(","))
+}
+
+/// The end of `LIST`: what it says of a model.
+const SIZES: &str = ",hidden=8,heads=2,layers=1,intermediate=5,text=3";
 pub const TINY: PictureSettings = PictureSettings::new(2, 2, 16);
 pub const WEIGHTS: usize = 8 * 12 + 8 + (2 * 8 + 4 * 64 + 3 * 8 * 5) + 8 + 8 * 32 + 3 * 8 + 9;
 pub const TABLE: usize = 8 * 8 * 4;

@@ -3,6 +3,7 @@
 use crate::answer;
 use crate::fail::{numbered, Fail};
 use crate::given::Given;
+use crate::ranges;
 use crate::source::{unread, Source};
 use crate::spot::{followers, Spot};
 use kyzgultam::{config, ConfigRefusal, EncoderSettings, Refusal};
@@ -73,7 +74,8 @@ fn explained(lent: &EncoderSettings, text: &[u8], refused: ConfigRefusal) -> Str
         Refusal::ConfigText => expected(lent, &text[..place]),
         Refusal::ConfigDepth => "this bracket opens level 33".into(),
         Refusal::ConfigVision => return numbered(refusal, "give the config.json of a model with a Pixtral encoder"),
-        _ => return numbered(refusal, "`kz encode --help` has the ranges"),
+        // What it says is not handed over with a refusal; what is lent is known.
+        _ => return numbered(refusal, ranges::encoder(lent).unwrap_or(ranges::OF_CONFIG.into())),
     };
     let spot = Spot::of(text, place);
     let advice = format!("line {}, column {}, byte {place}", spot.line, spot.column);

@@ -1,11 +1,10 @@
 //! What stands on the command line after the command.
 
-use crate::config;
 use crate::fail::Fail;
-use crate::files;
-use crate::model::refused_settings;
+use crate::model::refused_setting;
 use crate::shown::shown;
-use kyzgultam::{EncoderSettings, PictureSettings, Refusal};
+use crate::{config, files, keys};
+use kyzgultam::{EncoderSettings, PictureSettings};
 use std::cell::OnceCell;
 use std::ffi::{OsStr, OsString};
 use std::os::unix::ffi::OsStrExt;
@@ -47,6 +46,7 @@ fn value_of(name: &str, value: Option<&OsStr>) -> Result<OsString, Fail> {
 /// Files, and options with their values. An option with a value is given once.
 #[derive(Default)]
 pub struct Given {
+    command: &'static str,
     pub files: Vec<PathBuf>,
     pub all: bool,
     pub bf16: bool,
@@ -67,8 +67,9 @@ fn scale_of(head: usize) -> f32 {
 }
 
 impl Given {
-    pub fn read(words: &[OsString], known: &[&'static str]) -> Result<Given, Fail> {
-        let mut given = Given::default();
+    /// What stands behind a command, which knows these options.
+    pub fn read(command: &'static str, words: &[OsString], known: &[&'static str]) -> Result<Given, Fail> {
+        let mut given = Given { command, ..Given::default() };
         let mut words = words.iter();
         while let Some(word) = words.next() {
             if word == "--" {
@@ -180,11 +181,10 @@ impl Given {
         let mut size = None;
         let (mut head, mut bias, mut scale) = (None, None, None);
         let list = self.option("--settings").map(|v| v.to_string_lossy().into_owned()).unwrap_or_default();
-        for pair in list.split(',').filter(|pair| !pair.is_empty()) {
-            let (key, value) = pair.split_once('=').unwrap_or((pair, ""));
-            let bad = || Fail::usage(format!("--settings: {}: {KEYS}", shown(pair)));
+        for (pair, key, value) in keys::pairs(&list, self.command)? {
+            let bad = || keys::unread(pair);
             let number = || decimal(value).ok_or_else(bad);
-            if !["rule", "mean", "deviation", "bias", "scale"].contains(&key) {
+            if keys::configured(key) {
                 size = Some(key.to_string());
             }
             match key {
@@ -209,7 +209,7 @@ impl Given {
         s.head_dim = head.unwrap_or(s.hidden_size.checked_div(s.num_heads).unwrap_or(0));
         let bias = match bias {
             Some(number @ (0 | 1)) => Some(number == 1),
-            Some(_) => return Err(refused_settings(Refusal::Setting)),
+            Some(number) => return Err(refused_setting(Some(format!("bias={number} is neither 0 nor 1")))),
             None => None,
         };
         s.projector_bias = bias.unwrap_or(false);
@@ -225,9 +225,6 @@ struct Listed {
     size: Option<String>,
     bias: Option<bool>,
 }
-
-const KEYS: &str = "a list of KEY=NUMBER, parted by commas; keys: patch merge image rule mean deviation hidden heads \
-                    head layers intermediate text bias scale; mean and deviation take one number, or three as 0.5/0.4/0.3";
 
 /// The model that is built in.
 pub const SMALL: EncoderSettings = EncoderSettings {

@@ -5,11 +5,11 @@ use crate::given::Given;
 use crate::model::{allowed, refused_settings};
 use crate::netpbm::Picture;
 use crate::progress::Progress;
-use crate::restore::{floats, DAMAGED, ELSEWHERE};
+use crate::restore::{bytes, damaged, floats, ELSEWHERE};
 use crate::shown::shown;
 use crate::source::Source;
 use crate::tiles::{label, named, place, Named};
-use crate::{beside, files, npy, png, room};
+use crate::{beside, files, npy, png, room, spoilt};
 use kyzgultam::{cut, restore_tile, Cut, PictureSettings, Refusal};
 use std::collections::BTreeMap;
 use std::ffi::OsStr;
@@ -105,22 +105,28 @@ fn join(file: &Path, index: usize, name: &str, settings: &PictureSettings, sweep
     let mut source = Source::open(file)?;
     let [h, w, depth] = npy::shape(&mut source, npy::Element::Float).map_err(|why| Fail::file(file, why))?;
     let right = [tile.grid_h, tile.grid_w, tile.floats / (tile.grid_h * tile.grid_w)];
-    let unlike = |found: String| {
+    let unlike = |found: String, bytes: String| {
         let of = format!("tile {name} of a sweep of {}x{} has {}x{}", sweep.height, sweep.width, right[0], right[1]);
-        Fail::file(file, format!("{found}: {of} patches of {} floats by these --settings; {OWN}", right[2]))
+        Fail::file(file, format!("{found}: {of} patches of {} floats by these --settings{bytes}; {OWN}", right[2]))
     };
+    let numbered = |found| numbered(Refusal::PatchesLength, found);
     if [h, w, depth] != right {
         let found = format!("it has {h}x{w} patches of {depth} floats");
-        let length = h * w * depth != tile.floats;
-        return Err(unlike(if length { numbered(Refusal::PatchesLength, found) } else { found }));
+        return Err(match h * w * depth {
+            len if len == tile.floats => unlike(found, String::new()),
+            len => unlike(numbered(found), format!("; {}", bytes(4 * len, tile.floats))),
+        });
     }
     let of = format!("of tile {name} (patch={}, image={})", settings.patch_size, settings.image_size);
     let patches = floats(file, source, tile.floats, &of)?;
     // From a pipe, whose length shows at its end.
-    let patches = patches.ok_or_else(|| unlike(numbered(Refusal::PatchesLength, "it has more or fewer floats")))?;
+    let patches = patches.map_err(|bytes| unlike(numbered(bytes), String::new()))?;
     let done = restore_tile(&patches, sweep.height, sweep.width, index, settings, &mut sweep.rgb);
     done.map(drop).map_err(|refusal| match refusal {
-        Refusal::Sample => Fail::call(file, refusal, format!("{DAMAGED}, or is not tile {name} of its sweep")),
+        Refusal::Sample => {
+            let which = spoilt::first(&patches, tile.grid_w, (tile.height, tile.width), settings);
+            damaged(file, which, &format!(", or is not tile {name} of its sweep"))
+        }
         _ => Fail::call(file, refusal, OWN),
     })
 }

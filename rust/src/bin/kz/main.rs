@@ -10,6 +10,7 @@ mod files;
 mod given;
 mod inflate;
 mod join;
+mod keys;
 mod log;
 mod model;
 mod nearest;
@@ -20,11 +21,13 @@ mod picture;
 mod png;
 mod png_read;
 mod progress;
+mod ranges;
 mod restore;
 mod room;
 mod salvage;
 mod shown;
 mod source;
+mod spoilt;
 mod spot;
 mod sums;
 mod sweep;
@@ -141,12 +144,13 @@ fn run(words: &[OsString]) -> Result<(), Fail> {
         return answer(format_args!("{}", version::lines()));
     }
     let command = COMMANDS.iter().find(|(name, ..)| first == name);
-    let (_, help, known, work) = command.ok_or_else(|| Fail::usage(format!("no command {}", shown::shown(first))))?;
+    let (name, help, known, work) =
+        command.ok_or_else(|| Fail::usage(format!("no command {}", shown::shown(first))))?;
     if rest.iter().take_while(|w| *w != "--").any(|w| is(w, &["--help", "-h"])) {
         say(format_args!("{}", help.trim_end()));
         return Ok(());
     }
-    work(&Given::read(rest, known)?)
+    work(&Given::read(name, rest, known)?)
 }
 
 fn main() -> ExitCode {

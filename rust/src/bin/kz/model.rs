@@ -2,6 +2,7 @@
 
 use crate::fail::{numbered, Fail};
 use crate::given::Given;
+use crate::ranges;
 use crate::room;
 use crate::shown::shown;
 use crate::source::{unread, Source};
@@ -85,6 +86,7 @@ impl Model {
                 let tables = Tables::Axes(RopeAxes::default());
                 return Ok(Model { settings, weights: vec![], tables, origin, file });
             }
+            Err(Refusal::Setting) => return Err(refused_setting(ranges::encoder(&settings))),
             lengths => lengths.map_err(refused_settings)?,
         };
         let room = || weights_room(&settings, lengths.weights);
@@ -196,10 +198,17 @@ pub fn refused_settings(refusal: Refusal) -> Fail {
     Fail::Refused(format!("--settings: {}", numbered(refusal, advice)))
 }
 
+/// Settings that are refused with 1, and which of them is not allowed, where that is known.
+pub fn refused_setting(which: Option<String>) -> Fail {
+    let advice = which.map_or(RANGES.into(), |which| format!("{which}; {RANGES}"));
+    Fail::Refused(format!("--settings: {}", numbered(Refusal::Setting, advice)))
+}
+
 /// Refuses what no picture is cut or restored with. 1 and 19 come before the number of sides that no picture has.
 pub fn allowed(settings: &PictureSettings) -> Result<(), Fail> {
     match pixtral_preprocess(&[], 0, 0, settings, &mut []) {
-        Err(refusal @ (Refusal::Setting | Refusal::Channel)) => Err(refused_settings(refusal)),
+        Err(Refusal::Setting) => Err(refused_setting(ranges::picture(settings))),
+        Err(Refusal::Channel) => Err(refused_settings(Refusal::Channel)),
         _ => Ok(()),
     }
 }

@@ -6,8 +6,9 @@ use crate::model::allowed;
 use crate::netpbm::Picture;
 use crate::shown::shown;
 use crate::source::{unread, Source};
-use crate::{beside, files, join, npy, png, room};
+use crate::{beside, files, join, npy, png, room, spoilt};
 use kyzgultam::{PictureSettings, Refusal};
+use std::fmt;
 use std::fs::File;
 use std::io::Write;
 use std::path::Path;
@@ -51,18 +52,29 @@ pub fn run(given: &Given) -> Result<(), Fail> {
     let mut read = Patches::read(file, asked, &settings)?;
     let (grid_h, grid_w) = read.grid;
     let size = kyzgultam::restore(&read.floats, grid_h, grid_w, &settings, &mut read.rgb);
-    let size = size.map_err(|refusal| read.refused(refusal))?;
+    let size = size.map_err(|refusal| match refusal {
+        Refusal::Sample => damaged(file, spoilt::first(&read.floats, grid_w, WHOLE, &settings), ""),
+        refusal => read.refused(refusal),
+    })?;
     let picture = Picture { height: size.height, width: size.width, rgb: read.rgb };
     files::write(&out, given.force, |to| png::or_ppm(to, &out, &picture))?;
     let _ = writeln!(beside(&[&out]), "{}: {}x{}", shown(&out), size.height, size.width);
     Ok(())
 }
 
-pub const DAMAGED: &str =
-    "the file is damaged (`kz salvage` brings back what is not), or was cut with another mean= or \
-                           deviation= than these --settings have, or was not written by `kz patches`";
+/// A picture has no padding, whatever its sides are.
+const WHOLE: (usize, usize) = (usize::MAX, usize::MAX);
+
+const DAMAGED: &str = "the file is damaged (`kz salvage` brings back what is not), or was cut with another mean= or \
+                       deviation= than these --settings have, or was not written by `kz patches`";
 const OWN: &str = "give the --settings, and of plain floats the --grid, that it was written with";
 pub const ELSEWHERE: &str = "try it again where there is more";
+
+/// Patches that no picture gives: which float says so, and why the file may have it.
+pub fn damaged(file: &Path, which: Option<String>, or: &str) -> Fail {
+    let which = which.map_or(String::new(), |which| format!("{which}; "));
+    Fail::call(file, Refusal::Sample, format!("{which}{DAMAGED}{or}"))
+}
 
 /// A file's patches, and room for the picture that they bring back.
 pub struct Patches<'a> {
@@ -88,11 +100,11 @@ impl<'a> Patches<'a> {
         let mut read = Patches { file, grid: (grid_h, grid_w), floats: vec![], rgb: vec![], advice };
         let len = settings.restored_len(grid_h, grid_w).map_err(|refusal| read.refused(refusal))?;
         if len != grid_h * grid_w * depth {
-            return Err(read.refused(Refusal::PatchesLength));
+            return Err(read.unlike(&bytes(4 * grid_h * grid_w * depth, len)));
         }
         let of = format!("of its grid of {grid_h}x{grid_w} (patch={})", settings.patch_size);
         let found = floats(file, source, len, &of)?;
-        read.floats = found.ok_or_else(|| read.refused(Refusal::PatchesLength))?;
+        read.floats = found.map_err(|words| read.unlike(&words))?;
         let rgb = room::zeros(len, &format!("the picture {of}"), ELSEWHERE);
         read.rgb = rgb.map_err(|words| Fail::file(file, words))?;
         Ok(read)
@@ -100,11 +112,18 @@ impl<'a> Patches<'a> {
 
     /// What is said where a call refuses them.
     pub fn refused(&self, refusal: Refusal) -> Fail {
-        match refusal {
-            Refusal::Sample => Fail::call(self.file, refusal, DAMAGED),
-            _ => Fail::call(self.file, refusal, &self.advice),
-        }
+        Fail::call(self.file, refusal, &self.advice)
     }
+
+    /// What is said where they have another length.
+    fn unlike(&self, bytes: &str) -> Fail {
+        Fail::call(self.file, Refusal::PatchesLength, format!("{bytes}; {}", self.advice))
+    }
+}
+
+/// How many bytes there are, and how many a count of floats has.
+pub fn bytes(found: impl fmt::Display, floats: usize) -> String {
+    format!("it has {found} bytes of floats, and {} are expected", 4 * floats)
 }
 
 /// Grid and floats a patch: of a .npy file its shape, of plain floats what is asked for.
@@ -130,13 +149,17 @@ fn grid(
     Ok((h, w, depth))
 }
 
-/// A count of floats, which is all that is left of the file; None where it is not. Its length is tested first.
-pub fn floats(file: &Path, mut source: Source<File>, len: usize, of: &str) -> Result<Option<Vec<f32>>, Fail> {
-    if source.left().is_some_and(|left| left != 4 * len as u64) {
-        return Ok(None);
+/// A count of floats, which is all that is left of the file; where it is not, words say so. Its length is tested first.
+pub fn floats(file: &Path, mut source: Source<File>, len: usize, of: &str) -> Result<Result<Vec<f32>, String>, Fail> {
+    if let Some(left) = source.left().filter(|left| *left != 4 * len as u64) {
+        return Ok(Err(bytes(left, len)));
     }
     let floats = room::zeros(len, &format!("the patches {of}"), ELSEWHERE);
     let mut floats = floats.map_err(|words| Fail::file(file, words))?;
-    let whole = source.floats(&mut floats).map_err(unread(file))? == 4 * len && source.ended().map_err(unread(file))?;
-    Ok(whole.then_some(floats))
+    let found = source.floats(&mut floats).map_err(unread(file))?;
+    if found < 4 * len {
+        return Ok(Err(bytes(found, len)));
+    }
+    let ended = source.ended().map_err(unread(file))?;
+    Ok(if ended { Ok(floats) } else { Err(bytes(format!("more than {found}"), len)) })
 }

@@ -24,9 +24,9 @@ and reads DIR/config.json and DIR/model.safetensors.
 
 Read are the tensors that herbert-rs asks for (vision_tower.patch_conv.weight
 and so on), of dtype F32, BF16 or F16, and all others are skipped. Sizes are
-those of the config.json or of --settings (`kz encode --help`), in which rule,
-mean, deviation and scale change nothing here. Where --settings has no bias=,
-it is 1 if the file has a multi_modal_projector.linear_1.bias, and what is said
+those of the config.json or of --settings (`kz encode --help`), of which rule,
+mean, deviation and scale are not used here. Where --settings has no bias=, it
+is 1 if the file has a multi_modal_projector.linear_1.bias, and what is said
 of OUT names it. The file is read whole: it needs memory beside the weights.
 
 A file that is refused is shown where it is wrong, with its number: 16 it is
