@@ -2,6 +2,7 @@
 
 mod bench;
 mod compare;
+mod completions;
 mod config;
 mod demo;
 mod encode;
@@ -67,13 +68,13 @@ of include/kyzgultam.h. Sizes are HEIGHTxWIDTH; - is standard input or output.
   --log FILE        for encode and patches: a line a sweep that shows no pixel
   --force           write over plain files that are there already
   --skip-existing   for encode and patches: take such files for done
-`kz COMMAND --help` says more; `kz --version`. Exit status: 0 done, 1 refused
-(file, number and what to do are said), 2 no command line of kz, 3 not equal.
+`kz help COMMAND` says more; also `kz --version` and `kz completions bash`.
+Exit status: 0 done, 1 refused (and why), 2 not understood, 3 not equal.
 ";
 
 type Command = (&'static str, &'static str, &'static [&'static str], fn(&Given) -> Result<(), Fail>);
 
-const COMMANDS: [Command; 9] = [
+const COMMANDS: [Command; 10] = [
     ("demo", demo::HELP, &["-o", "--force"], demo::run),
     (
         "encode",
@@ -105,6 +106,7 @@ const COMMANDS: [Command; 9] = [
     ("config", config::HELP, &["--settings"], config::run),
     ("weights", weights::HELP, &["-o", "--config", "--settings", "--force"], weights::run),
     ("bench", bench::HELP, &["--quick", "--large", "--size", "--weights", "--tables", "--settings"], bench::run),
+    ("completions", completions::HELP, &[], completions::run),
 ];
 
 /// A line on standard output. That nobody reads it is no reason to stop.
@@ -130,14 +132,29 @@ fn unsaid(e: io::Error) -> Fail {
     Fail::Refused(format!("standard output cannot be written: {e}"))
 }
 
+fn command(name: &OsString) -> Result<&'static Command, Fail> {
+    let found = COMMANDS.iter().find(|(other, ..)| name == other);
+    found.ok_or_else(|| Fail::usage(format!("no command {}", shown::shown(name))))
+}
+
+/// What kz is, or a command.
+fn help(words: &[OsString]) -> Result<(), Fail> {
+    let text = match words {
+        [] => HELP,
+        [name] => command(name)?.1,
+        _ => return Err(Fail::usage("help takes one command")),
+    };
+    say(format_args!("{}", text.trim_end()));
+    Ok(())
+}
+
 fn run(words: &[OsString]) -> Result<(), Fail> {
     let is = |word: &OsString, texts: &[&str]| texts.iter().any(|t| word == t);
     let Some((first, rest)) = words.split_first() else {
         return Err(Fail::usage("no command is given"));
     };
     if is(first, &["--help", "-h", "help"]) {
-        say(format_args!("{}", HELP.trim_end()));
-        return Ok(());
+        return help(rest);
     }
     kyzgultam::level().map_err(|unknown| Fail::Refused(unknown.to_string()))?;
     if is(first, &["--version", "-V"]) {
