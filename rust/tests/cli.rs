@@ -874,13 +874,20 @@ fn demo() {
     assert_eq!(folder.get("d/restored.png"), folder.get("d/resized.png"));
     assert_eq!(png_head(&folder.get("d/similarity.png")), (504, 672, 2));
     folder.fails(1, "demo -o d", &["d/sweep.png", "--force"]);
-    // Two pictures of one width, each below a label.
+    // Three panels of half the size, each below two lines and above one.
+    let (one, two) = (27, 49);
+    assert_eq!(png_head(&folder.get("d/overview.png")), (two + 252 + one, 3 * 336 + 2 * 6, 2));
+    // Two pictures of one width, each below a line.
     assert!(said.contains("by rule 1 420x560, squashed; by rule 2 140x560, in its shape"), "{said}");
-    let label = 26;
-    assert_eq!(png_head(&folder.get("d/rules.png")), (label + 420 + label + 140, 560, 0));
+    assert_eq!(png_head(&folder.get("d/rules.png")), (one + 420 + one + 140, 560, 0));
     // A sweep cut into tiles, with its padding, and joined again, which is narrower by the padding.
     assert!(said.contains("2x4 tiles of at most 168x168, joined again: identical to oversize.ppm"), "{said}");
-    assert_eq!(png_head(&folder.get("d/tiles.png")), (label + 308 + label + 286, 560, 2));
+    assert_eq!(png_head(&folder.get("d/tiles.png")), (two + 308 + one + 286, 560, 2));
+    // What it says last can be done.
+    let (_, next) = said.trim_end().rsplit_once("try next: kz ").unwrap();
+    assert_eq!(folder.done(next), "d/out/sweep.tokens.npy: 18x24 tokens of 64 floats\n");
+    let output = folder.command("demo -o d --force").env("KZ_CALLED", "./kz").output().unwrap();
+    assert!(String::from_utf8(output.stdout).unwrap().ends_with("try next: ./kz encode d/sweep.ppm -o d/out\n"));
     // Its sweeps are some for the other commands.
     folder.done("patches d/sweep.ppm -o d");
     assert!(Path::new(&folder.path("d/sweep.patches.npy")).exists());

@@ -8,7 +8,8 @@ const SIZES: [&str; 9] = ["patch", "merge", "image", "hidden", "heads", "head", 
 const LENT: [&str; 5] = ["rule", "mean", "deviation", "bias", "scale"];
 
 const FORM: &str = "a list of KEY=NUMBER, parted by commas; keys: patch merge image rule mean deviation hidden heads \
-                    head layers intermediate text bias scale; mean and deviation take one number, or three as 0.5/0.4/0.3";
+                    head layers intermediate text bias scale; mean and deviation take one number, or three as \
+                    0.5/0.4/0.3";
 
 /// What is said of a part of the list that kz cannot read.
 pub fn unread(pair: &str) -> Fail {

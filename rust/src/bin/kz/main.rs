@@ -1,6 +1,7 @@
 //! kz: sweeps to patches and token vectors, and back, from the command line.
 
 mod bench;
+mod caption;
 mod compare;
 mod completions;
 mod config;

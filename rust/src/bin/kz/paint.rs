@@ -1,5 +1,6 @@
 //! Pictures of answers.
 
+use crate::caption;
 use crate::netpbm::Picture;
 use kyzgultam::{BadSample, Tile};
 use std::iter::repeat_n;
@@ -27,8 +28,13 @@ pub fn heat(picture: Picture, grid: (usize, usize), values: &[f32]) -> Picture {
     let (low, high) = values.iter().fold((f32::MAX, f32::MIN), |(l, h), v| (l.min(*v), h.max(*v)));
     cells(picture, grid, |i, grey| {
         let value = (values[i] - low) / (high - low).max(1e-9);
-        colour(value).map(|x| 0.78 * x + 0.22 * grey)
+        shade(value, grey)
     })
+}
+
+/// A colour through which a grey shows.
+fn shade(x: f32, grey: f32) -> [f32; 3] {
+    colour(x).map(|x| 0.78 * x + 0.22 * grey)
 }
 
 /// The cells that are marked in red, over the picture, which is dimmed elsewhere.
@@ -66,24 +72,31 @@ pub fn frame(picture: &mut Picture, grid: (usize, usize), cell: (usize, usize)) 
     }
 }
 
-/// Pictures of one size side by side at half their size.
-pub fn strip(pictures: &[&Picture]) -> Picture {
+/// A picture at half its size.
+pub fn half(picture: &Picture) -> Picture {
+    let (height, width) = (picture.height / 2, picture.width / 2);
+    let mut rgb = Vec::with_capacity(height * width * 3);
+    for (y, x) in (0..height).flat_map(|y| (0..width).map(move |x| (y, x))) {
+        rgb.extend((0..3).map(|c| {
+            let at = |dy, dx| u32::from(picture.rgb[((2 * y + dy) * picture.width + 2 * x + dx) * 3 + c]);
+            ((at(0, 0) + at(0, 1) + at(1, 0) + at(1, 1) + 2) / 4) as u8
+        }));
+    }
+    Picture { height, width, rgb }
+}
+
+/// Pictures of one height side by side, with a gap.
+pub fn strip(pictures: &[Picture]) -> Picture {
     const GAP: usize = 6;
-    let (height, width) = (pictures[0].height / 2, pictures[0].width / 2);
-    let across = pictures.len() * (width + GAP) - GAP;
-    let mut rgb = vec![255; height * across * 3];
-    for (i, picture) in pictures.iter().enumerate() {
-        for y in 0..height {
-            for x in 0..width {
-                for c in 0..3 {
-                    let at = |dy, dx| u32::from(picture.rgb[((2 * y + dy) * picture.width + 2 * x + dx) * 3 + c]);
-                    let sum = at(0, 0) + at(0, 1) + at(1, 0) + at(1, 1);
-                    rgb[(y * across + i * (width + GAP) + x) * 3 + c] = ((sum + 2) / 4) as u8;
-                }
-            }
+    let mut rgb = vec![];
+    for y in 0..pictures[0].height {
+        for (i, picture) in pictures.iter().enumerate() {
+            rgb.resize(rgb.len() + if i > 0 { 3 * GAP } else { 0 }, 255);
+            rgb.extend(&picture.rgb[3 * y * picture.width..][..3 * picture.width]);
         }
     }
-    Picture { height, width: across, rgb }
+    let width = pictures.iter().map(|picture| picture.width + GAP).sum::<usize>() - GAP;
+    Picture { height: pictures[0].height, width, rgb }
 }
 
 /// Bad samples on the picture without them: their pixels magenta, which no ultrasound picture has, their patches framed
@@ -145,30 +158,6 @@ const BAD: [u8; 3] = [255, 0, 255];
 /// The least side of a mark.
 const DOT: usize = 5;
 
-/// The letters and digits of labels, five by seven: a number a row, its highest bit at the left.
-const SIGNS: [(char, [u8; 7]); 20] = [
-    ('1', [0b00100, 0b01100, 0b00100, 0b00100, 0b00100, 0b00100, 0b01110]),
-    ('2', [0b01110, 0b10001, 0b00001, 0b00110, 0b01000, 0b10000, 0b11111]),
-    ('a', [0, 0, 0b01110, 0b00001, 0b01111, 0b10001, 0b01111]),
-    ('c', [0, 0, 0b01110, 0b10000, 0b10000, 0b10001, 0b01110]),
-    ('d', [0b00001, 0b00001, 0b01101, 0b10011, 0b10001, 0b10001, 0b01111]),
-    ('e', [0, 0, 0b01110, 0b10001, 0b11111, 0b10000, 0b01110]),
-    ('g', [0, 0, 0b01111, 0b10001, 0b01111, 0b00001, 0b01110]),
-    ('h', [0b10000, 0b10000, 0b10110, 0b11001, 0b10001, 0b10001, 0b10001]),
-    ('i', [0b00100, 0, 0b01100, 0b00100, 0b00100, 0b00100, 0b01110]),
-    ('j', [0b00010, 0, 0b00110, 0b00010, 0b00010, 0b10010, 0b01100]),
-    ('k', [0b10000, 0b10000, 0b10010, 0b10100, 0b11000, 0b10100, 0b10010]),
-    ('l', [0b01100, 0b00100, 0b00100, 0b00100, 0b00100, 0b00100, 0b01110]),
-    ('n', [0, 0, 0b10110, 0b11001, 0b10001, 0b10001, 0b10001]),
-    ('o', [0, 0, 0b01110, 0b10001, 0b10001, 0b10001, 0b01110]),
-    ('p', [0, 0, 0b11110, 0b10001, 0b11110, 0b10000, 0b10000]),
-    ('q', [0, 0, 0b01101, 0b10011, 0b01111, 0b00001, 0b00001]),
-    ('r', [0, 0, 0b10110, 0b11001, 0b10000, 0b10000, 0b10000]),
-    ('s', [0, 0, 0b01111, 0b10000, 0b01110, 0b00001, 0b11110]),
-    ('t', [0b01000, 0b01000, 0b11100, 0b01000, 0b01000, 0b01001, 0b00110]),
-    ('u', [0, 0, 0b10001, 0b10001, 0b10001, 0b10011, 0b01101]),
-];
-
 /// A sweep and its tiles, of patches of a side: a line around each, and the padding hatched.
 pub fn tiles(sweep: &Picture, tiles: &[Tile], patch: usize) -> Picture {
     let end = |tile: &Tile| (tile.top + tile.grid_h * patch, tile.left + tile.grid_w * patch);
@@ -193,25 +182,44 @@ pub fn tiles(sweep: &Picture, tiles: &[Tile], patch: usize) -> Picture {
 const LINE: [u8; 3] = [249, 188, 40];
 const HATCH: [[u8; 3]; 2] = [[0; 3], [203, 65, 73]];
 
-/// Pictures under each other, each below its label, whose other signs stay blank. What is narrower leaves a white rest.
-pub fn stack(pictures: &[(&str, &Picture)]) -> Picture {
-    const BAND: usize = 26;
-    let width = pictures.iter().map(|(_, picture)| picture.width).max().unwrap_or(0);
+/// Pictures under each other. What is narrower leaves a white rest.
+pub fn stack(pictures: &[&Picture]) -> Picture {
+    let width = pictures.iter().map(|picture| picture.width).max().unwrap_or(0);
     let mut rgb = vec![];
-    for (label, picture) in pictures {
-        let signs: Vec<_> = label.chars().map(|c| SIGNS.iter().find(|(sign, _)| *sign == c)).collect();
-        // A dot of a sign is two by two pixels, and a sign is six dots apart from the next.
-        let ink = |y: usize, x: usize| {
-            let (row, column) = (y.checked_sub(6)? / 2, x.checked_sub(4)? / 2);
-            let (_, rows) = signs.get(column / 6).copied().flatten()?;
-            (rows.get(row)? << (column % 6) & 0b10000 != 0).then_some(0)
-        };
-        let band = (0..BAND * width).map(|k| ink(k / width, k % width).unwrap_or(255));
-        rgb.extend(band.flat_map(|grey| [grey; 3]));
+    for picture in pictures {
         for row in picture.rgb.chunks_exact(3 * picture.width) {
             rgb.extend(row);
             rgb.resize(rgb.len() + 3 * (width - picture.width), 255);
         }
     }
     Picture { height: rgb.len() / 3 / width, width, rgb }
+}
+
+/// Thin lines over a picture, so many pixels apart, through which it shows.
+pub fn lines(picture: &mut Picture, apart: usize) {
+    let width = picture.width;
+    for (k, pixel) in picture.rgb.chunks_exact_mut(3).enumerate() {
+        if k / width % apart == 0 || k % width % apart == 0 {
+            for (byte, line) in pixel.iter_mut().zip(LINE) {
+                *byte = ((3 * u16::from(*byte) + u16::from(line)) / 4) as u8;
+            }
+        }
+    }
+}
+
+/// The colours of `heat`, from the least value to the largest, between two texts that say them.
+pub fn scale(width: usize, low: &str, high: &str) -> Picture {
+    let mut band = caption::band(width, low, 1);
+    let end = width - caption::width(high);
+    let bar = caption::width(low)..end;
+    for (k, pixel) in band.rgb.chunks_exact_mut(3).enumerate() {
+        let (y, x) = (k / width, k % width);
+        if bar.contains(&x) && (4..20).contains(&y) {
+            let part = (x - bar.start) as f32 / (bar.len() - 1) as f32;
+            pixel.copy_from_slice(&shade(part, 128.0).map(|x| x.round() as u8));
+        }
+    }
+    let top = 5;
+    caption::write(&mut band, (top, end + top), high);
+    band
 }

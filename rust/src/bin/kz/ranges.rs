@@ -34,8 +34,9 @@ pub fn encoder(s: &EncoderSettings) -> Option<String> {
 }
 
 /// The ranges of what a config.json says, by the keys that `--settings` has for it.
-pub const OF_CONFIG: &str = "patch is to be in 1..32, merge in 1..4, image in 1..2048, hidden in 4..2048 and heads x head, \
-                             heads in 1..64, head a multiple of 4 in 4..256, layers in 0..48, intermediate and text in 1..8192";
+pub const OF_CONFIG: &str = "patch is to be in 1..32, merge in 1..4, image in 1..2048, hidden in 4..2048 and heads x \
+                             head, heads in 1..64, head a multiple of 4 in 4..256, layers in 0..48, intermediate and \
+                             text in 1..8192";
 
 #[cfg(test)]
 mod tests {

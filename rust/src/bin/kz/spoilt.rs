@@ -30,7 +30,7 @@ pub fn first(floats: &[f32], grid_w: usize, own: (usize, usize), settings: &Pict
     None
 }
 
-/// The first byte of a row of patches, in their order, that is not 0 and lies outside so many rows and columns of pixels.
+/// The first byte of a row of patches, in their order, that is not 0 and lies outside so many rows and columns.
 fn padding(rgb: &[u8], width: usize, own: (usize, usize), p: usize) -> Option<Place> {
     let found = rgb.iter().enumerate().filter(|(_, byte)| **byte != 0);
     let places = found.map(|(k, _)| (k / 3 / width, k / 3 % width, k % 3));
