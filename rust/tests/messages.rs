@@ -43,7 +43,7 @@ fn which_setting() {
         folder.fails(1, &format!("encode a.ppm -o out --settings {list}"), &["--settings: refused, number 1: ", part]);
     }
     folder.put("c.json", br#"{"vision_config": {"patch_size": 33}}"#);
-    folder.fails(1, "config c.json", &["c.json: refused, number 1: ", "patch is to be in 1..32, merge in 1..4"]);
+    folder.fails(1, "config c.json", &["c.json: refused, number 1: ", "patch_size is not in 1..32"]);
     folder.fails(1, "config c.json --settings rule=9", &["c.json: refused, number 1: ", "rule=9 is neither 1 nor 2"]);
     assert_eq!(folder.names("."), ["a.ppm", "c.json", "plain"]);
 }

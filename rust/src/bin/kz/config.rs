@@ -74,12 +74,27 @@ fn explained(lent: &EncoderSettings, text: &[u8], refused: ConfigRefusal) -> Str
         Refusal::ConfigText => expected(lent, &text[..place]),
         Refusal::ConfigDepth => "this bracket opens level 33".into(),
         Refusal::ConfigVision => return numbered(refusal, "give the config.json of a model with a Pixtral encoder"),
-        // What it says is not handed over with a refusal; what is lent is known.
-        _ => return numbered(refusal, ranges::encoder(lent).unwrap_or(ranges::OF_CONFIG.into())),
+        _ => return numbered(refusal, ranges::encoder(lent).unwrap_or_else(|| at_fault(lent, text).into())),
     };
     let spot = Spot::of(text, place);
     let advice = format!("line {}, column {}, byte {place}", spot.line, spot.column);
     numbered(refusal, advice) + &spot.pointed(&what)
+}
+
+/// Which size is not allowed. A refusal does not hand the sizes over, so the reader itself is asked: it is the one without
+/// which, by its default, the others are allowed. Where two are not, all ranges are said.
+fn at_fault(lent: &EncoderSettings, text: &[u8]) -> &'static str {
+    let found = ranges::OF_CONFIG.iter().find(|(key, _)| config(lent, &without(text, key)).is_ok());
+    found.map_or(ranges::ALL_OF_CONFIG, |(_, words)| words)
+}
+
+/// A text in which a key has another name, of the same length.
+fn without(text: &[u8], key: &str) -> Vec<u8> {
+    let quoted = format!("\"{key}\"");
+    let mut text = text.to_vec();
+    let places = (0..text.len()).filter(|at| text[*at..].starts_with(quoted.as_bytes())).collect::<Vec<_>>();
+    places.into_iter().for_each(|at| text[at + 1] = b'?');
+    text
 }
 
 /// What may stand behind the front of a text.
@@ -145,6 +160,30 @@ mod tests {
     fn control_bytes_do_not_reach_a_terminal() {
         let words = said(b"{\"a\": \"\x1b[31m\"}");
         assert!(words.contains("\\u{1b}[31m") && !words.contains('\x1b'), "{words}");
+    }
+
+    #[test]
+    fn the_size_that_is_not_allowed() {
+        for (text, words) in [
+            (r#""patch_size": 33"#, "patch_size is not in 1..32"),
+            (r#""spatial_merge_size":5, "patch_size": 16"#, "spatial_merge_size is not in 1..4"),
+            (r#""image_size" : 4096"#, "image_size is not in 1..2048"),
+            (r#""num_hidden_layers": 49, "hidden_size": 512"#, "num_hidden_layers is not in 0..48"),
+            (r#""intermediate_size": 16384"#, "intermediate_size is not in 1..8192"),
+            (r#""hidden_size": 5120"#, "hidden_size of vision_config is not in 4..2048"),
+            (
+                r#""num_attention_heads": 3"#,
+                "num_attention_heads is not in 1..64, or hidden_size / num_attention_heads",
+            ),
+            (r#""patch_size": 33, "image_size": 4096"#, "patch is to be in 1..32, merge in 1..4"),
+            (r#""patch\u005fsize": 33"#, "patch is to be in 1..32, merge in 1..4"),
+        ] {
+            let words = format!("a setting is not allowed; {words}");
+            let said = said(format!("{{\"vision_config\": {{{text}}}}}").as_bytes());
+            assert!(said.contains(&words), "{said}");
+        }
+        let text = br#"{"vision_config": {}, "text_config": {"hidden_size": 8193}}"#;
+        assert!(said(text).contains("or that of text_config not in 1..8192"));
     }
 
     #[test]

@@ -33,10 +33,25 @@ pub fn encoder(s: &EncoderSettings) -> Option<String> {
         .or((!scale).then(|| format!("scale={} is not finite and above 0", s.scaling)))
 }
 
-/// The ranges of what a config.json says, by the keys that `--settings` has for it.
-pub const OF_CONFIG: &str = "patch is to be in 1..32, merge in 1..4, image in 1..2048, hidden in 4..2048 and heads x \
-                             head, heads in 1..64, head a multiple of 4 in 4..256, layers in 0..48, intermediate and \
-                             text in 1..8192";
+/// What is said of a size of a config.json, by its key.
+pub const OF_CONFIG: [(&str, &str); 7] = [
+    ("patch_size", "patch_size is not in 1..32"),
+    ("spatial_merge_size", "spatial_merge_size is not in 1..4"),
+    ("image_size", "image_size is not in 1..2048"),
+    ("num_hidden_layers", "num_hidden_layers is not in 0..48"),
+    ("intermediate_size", "intermediate_size is not in 1..8192"),
+    ("hidden_size", "hidden_size of vision_config is not in 4..2048, or that of text_config not in 1..8192"),
+    (
+        "num_attention_heads",
+        "num_attention_heads is not in 1..64, or hidden_size / num_attention_heads no multiple of 4 in 4..256",
+    ),
+];
+
+/// The same of all, by the keys that `--settings` has for them.
+pub const ALL_OF_CONFIG: &str =
+    "patch is to be in 1..32, merge in 1..4, image in 1..2048, hidden in 4..2048 and heads \
+                                 x head, heads in 1..64, head a multiple of 4 in 4..256, layers in 0..48, \
+                                 intermediate and text in 1..8192";
 
 #[cfg(test)]
 mod tests {
