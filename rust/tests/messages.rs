@@ -56,13 +56,19 @@ fn keys_of_settings() {
     for (words, part) in [
         ("patches a.ppm -o out --settings patch=2,image=16,patch=2", "--settings: patch is given twice"),
         ("encode a.ppm -o out --settings mean=0.2,mean=0.3", "--settings: mean is given twice"),
-        ("patches a.ppm -o out --settings hidden=8", "hidden is nothing that patches uses"),
-        ("patches a.ppm -o out --settings bias=1", "which is patch merge image rule mean deviation"),
-        ("restore a.npy -o out.ppm --settings layers=1", "layers is nothing that restore uses"),
-        ("salvage a.npy -o out.ppm --settings text=1", "text is nothing that salvage uses"),
-        ("compare a.ppm a.ppm --settings scale=1", "scale is nothing that compare uses"),
-        ("weights a -o out --settings mean=1", "mean is nothing that weights uses"),
-        ("weights a -o out --settings rule=1", "which is patch merge image hidden heads head layers"),
+        ("patches a.ppm -o out --settings hidden=8", "hidden is not used by patches, which takes patch merge image"),
+        ("patches a.ppm -o out --settings bias=1", "which takes patch merge image rule mean deviation;"),
+        (
+            "restore a.npy -o out.ppm --settings layers=1",
+            "layers is not used by restore, which takes patch merge image",
+        ),
+        ("salvage a.npy -o out.ppm --settings text=1", "text is not used by salvage, which takes patch merge image"),
+        ("compare a.ppm a.ppm --settings scale=1", "scale is not used by compare, which takes patch merge image"),
+        ("weights a -o out --settings mean=1", "mean is not used by weights, which takes patch merge image"),
+        (
+            "weights a -o out --settings rule=1",
+            "which takes patch merge image hidden heads head layers intermediate text bias;",
+        ),
     ] {
         folder.fails(2, words, &[part, "`kz --help`"]);
     }

@@ -52,7 +52,9 @@ const DOT: usize = 2;
 const STEP: usize = 6 * DOT;
 const LINE: usize = 11 * DOT;
 /// Above the first line, and left of it.
-const MARGIN: usize = 5;
+pub const MARGIN: usize = 5;
+/// Of a digit.
+pub const HEIGHT: usize = 7 * DOT;
 
 /// How many pixels a line of text needs.
 pub fn width(text: &str) -> usize {

@@ -81,8 +81,8 @@ fn explained(lent: &EncoderSettings, text: &[u8], refused: ConfigRefusal) -> Str
     numbered(refusal, advice) + &spot.pointed(&what)
 }
 
-/// Which size is not allowed. A refusal does not hand the sizes over, so the reader itself is asked: it is the one without
-/// which, by its default, the others are allowed. Where two are not, all ranges are said.
+/// Which size is not allowed. A refusal does not hand the sizes over, so the reader itself is asked: it is the one
+/// without which, by its default, the others are allowed. Where two are not, all ranges are said.
 fn at_fault(lent: &EncoderSettings, text: &[u8]) -> &'static str {
     let found = ranges::OF_CONFIG.iter().find(|(key, _)| config(lent, &without(text, key)).is_ok());
     found.map_or(ranges::ALL_OF_CONFIG, |(_, words)| words)

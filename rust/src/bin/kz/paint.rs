@@ -210,16 +210,13 @@ pub fn lines(picture: &mut Picture, apart: usize) {
 /// The colours of `heat`, from the least value to the largest, between two texts that say them.
 pub fn scale(width: usize, low: &str, high: &str) -> Picture {
     let mut band = caption::band(width, low, 1);
-    let end = width - caption::width(high);
-    let bar = caption::width(low)..end;
-    for (k, pixel) in band.rgb.chunks_exact_mut(3).enumerate() {
-        let (y, x) = (k / width, k % width);
-        if bar.contains(&x) && (4..20).contains(&y) {
-            let part = (x - bar.start) as f32 / (bar.len() - 1) as f32;
-            pixel.copy_from_slice(&shade(part, 128.0).map(|x| x.round() as u8));
-        }
+    let bar = caption::width(low)..width - caption::width(high);
+    let (top, bottom) = (caption::MARGIN, caption::MARGIN + caption::HEIGHT);
+    for (y, x) in (top..bottom).flat_map(|y| bar.clone().map(move |x| (y, x))) {
+        let part = (x - bar.start) as f32 / (bar.len() - 1) as f32;
+        let pixel = shade(part, 128.0).map(|x| x.round() as u8);
+        band.rgb[(y * width + x) * 3..][..3].copy_from_slice(&pixel);
     }
-    let top = 5;
-    caption::write(&mut band, (top, end + top), high);
+    caption::write(&mut band, (top, bar.end + caption::MARGIN), high);
     band
 }
