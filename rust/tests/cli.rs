@@ -15,6 +15,7 @@ fn help_fits_a_screen() {
         ["--help", "-h", "help", "demo --help", "encode -h", "patches --help", "restore --help"].into_iter().chain([
             "salvage --help",
             "compare --help",
+            "copies --help",
             "config --help",
             "weights --help",
             "bench --help",

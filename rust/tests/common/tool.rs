@@ -86,7 +86,8 @@ impl Folder {
 
 /// The words, but for the sizes of `LIST` where the command uses a picture's settings alone.
 fn used(words: &str) -> String {
-    let picture = ["patches", "restore", "salvage", "compare"].iter().any(|command| words.starts_with(command));
+    let picture =
+        ["patches", "restore", "salvage", "compare", "copies"].iter().any(|command| words.starts_with(command));
     if picture {
         words.replace(SIZES, "")
     } else {

@@ -60,7 +60,7 @@ pub fn run(given: &Given) -> Result<(), Fail> {
         writeln!(to, "{}: the patches that differ are red", shown(&out)).map_err(unsaid)?;
     }
     if marks.contains(&true) {
-        return Err(Fail::Differ);
+        return Err(Fail::Found);
     }
     Ok(())
 }

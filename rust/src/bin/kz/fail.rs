@@ -16,8 +16,8 @@ pub enum Fail {
     Unlogged(String),
     /// Exit status 2: the command line is not one that kz knows.
     Usage(String),
-    /// Exit status 3: nothing failed, but what was compared differs, and that is said already.
-    Differ,
+    /// Exit status 3: nothing is wrong, and the answer, which was said, is the one that is looked for.
+    Found,
 }
 
 impl Fail {
@@ -27,6 +27,15 @@ impl Fail {
 
     pub fn file(file: &Path, words: impl fmt::Display) -> Fail {
         Fail::Refused(format!("{}: {words}", shown(file)))
+    }
+
+    /// What is said.
+    pub fn words(&self) -> &str {
+        match self {
+            Fail::Refused(words) | Fail::Taken(words) | Fail::Stopped(words) => words,
+            Fail::Unlogged(words) | Fail::Usage(words) => words,
+            Fail::Found => "",
+        }
     }
 
     /// A call's refusal, about a file.

@@ -11,7 +11,8 @@ use std::os::unix::ffi::OsStrExt;
 use std::path::{Path, PathBuf};
 
 /// The options without a value.
-const BARE: [&str; 8] = ["--all", "--bf16", "--force", "--large", "--quick", "--skip-existing", "--tiles", "--tokens"];
+const BARE: [&str; 9] =
+    ["--all", "--bf16", "--force", "--json", "--large", "--quick", "--skip-existing", "--tiles", "--tokens"];
 
 /// Whether a word is an option, known or not. A single - is a name.
 fn dashed(word: &OsStr) -> bool {
@@ -51,6 +52,7 @@ pub struct Given {
     pub all: bool,
     pub bf16: bool,
     pub force: bool,
+    pub json: bool,
     pub large: bool,
     pub quick: bool,
     pub skip: bool,
@@ -80,6 +82,7 @@ impl Given {
                 given.all |= word == "--all";
                 given.bf16 |= word == "--bf16";
                 given.force |= word == "--force";
+                given.json |= word == "--json";
                 given.large |= word == "--large";
                 given.quick |= word == "--quick";
                 given.skip |= word == "--skip-existing";

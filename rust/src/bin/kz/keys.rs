@@ -24,7 +24,7 @@ pub fn configured(key: &str) -> bool {
 /// Whether a command uses a key. What `kz config` and others read in a config.json is told of there.
 fn uses(command: &str, key: &str) -> bool {
     match command {
-        "patches" | "restore" | "salvage" | "compare" => PICTURE.contains(&key),
+        "patches" | "restore" | "salvage" | "compare" | "copies" => PICTURE.contains(&key),
         "weights" => configured(key) || key == "bias",
         _ => true,
     }
@@ -68,7 +68,7 @@ mod tests {
         assert_eq!(said("patch=2, merge=4 ,,\tmean=1/2/3,", "patches"), "patch:2 merge:4 mean:1/2/3 ");
         assert!(said("patch=2,merge=4,patch=2", "encode").contains("patch is given twice"));
         assert!(said("rule=1,scale=1", "weights").contains("rule is not used by weights, which takes patch"));
-        for command in ["patches", "restore", "salvage", "compare"] {
+        for command in ["patches", "restore", "salvage", "compare", "copies"] {
             let words = said("image=28,hidden=8", command);
             let used = format!("hidden is not used by {command}, which takes patch merge image rule mean deviation;");
             assert!(words.contains(&used), "{words}");

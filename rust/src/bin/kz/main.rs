@@ -1,17 +1,22 @@
 //! kz: sweeps to patches and token vectors, and back, from the command line.
 
+mod alike;
 mod bench;
 mod caption;
 mod compare;
 mod completions;
 mod config;
+mod copies;
 mod demo;
 mod encode;
 mod fail;
 mod files;
+mod found;
+mod gather;
 mod given;
 mod inflate;
 mod join;
+mod json;
 mod keys;
 mod log;
 mod model;
@@ -34,6 +39,7 @@ mod spot;
 mod sums;
 mod sweep;
 mod sweeps;
+mod table;
 mod tiles;
 mod version;
 mod weights;
@@ -55,13 +61,12 @@ kz: the Pixtral image encoder, proved; from the command line
   kz restore FILE.npy -o OUT.ppm        the picture that gave the patches
   kz salvage FILE.npy -o OUT.ppm        the picture of damaged patches
   kz compare A.ppm B.ppm [-o OUT.png]   equal patches; --tokens: nearest sweeps
+  kz copies DIR                         which sweeps are copies of which
   kz config CONFIG.json                 the settings that a config.json says
   kz weights FILE.safetensors -o OUT    a model's weights as plain floats
   kz bench                              how long each call takes
-Pictures that are read are PNG or binary netpbm (P5, P6), patches and tokens
-NumPy's .npy, which says its shape, weights and tables plain f32 in the order
-of include/kyzgultam.h. Sizes are HEIGHTxWIDTH; - is standard input or output.
-
+Pictures read are PNG or netpbm (P5, P6), patches and tokens .npy, weights and
+tables plain f32. Sizes are HEIGHTxWIDTH; - is standard input or output.
   --settings LIST   as rule=2,mean=0.2,deviation=0.25 (`kz encode --help`)
   --model DIR, or --config, --weights, --tables FILE: encode's; else built in
   --tiles           for encode, patches and restore: not resized, but tiles
@@ -70,12 +75,12 @@ of include/kyzgultam.h. Sizes are HEIGHTxWIDTH; - is standard input or output.
   --force           write over plain files that are there already
   --skip-existing   for encode and patches: take such files for done
 `kz help COMMAND` says more; also `kz --version` and `kz completions bash`.
-Exit status: 0 done, 1 refused (and why), 2 not understood, 3 not equal.
+Exit status: 0 done, 1 refused (and why), 2 not understood, 3 unlike or copies.
 ";
 
 type Command = (&'static str, &'static str, &'static [&'static str], fn(&Given) -> Result<(), Fail>);
 
-const COMMANDS: [Command; 10] = [
+const COMMANDS: [Command; 11] = [
     ("demo", demo::HELP, &["-o", "--force"], demo::run),
     (
         "encode",
@@ -104,6 +109,7 @@ const COMMANDS: [Command; 10] = [
     ("restore", restore::HELP, &["-o", "--tiles", "--grid", "--settings", "--force"], restore::run),
     ("salvage", salvage::HELP, &["-o", "--map", "--all", "--grid", "--settings", "--force"], salvage::run),
     ("compare", compare::HELP, &["-o", "--tokens", "--settings", "--force"], compare::run),
+    ("copies", copies::HELP, &["-o", "--all", "--json", "--settings", "--force"], copies::run),
     ("config", config::HELP, &["--settings"], config::run),
     ("weights", weights::HELP, &["-o", "--config", "--settings", "--force"], weights::run),
     ("bench", bench::HELP, &["--quick", "--large", "--size", "--weights", "--tables", "--settings"], bench::run),
@@ -176,8 +182,8 @@ fn main() -> ExitCode {
     let (words, status) = match run(&words) {
         Ok(()) => return ExitCode::SUCCESS,
         Err(Fail::Refused(words) | Fail::Taken(words) | Fail::Stopped(words) | Fail::Unlogged(words)) => (words, 1),
+        Err(Fail::Found) => return ExitCode::from(3),
         Err(Fail::Usage(words)) => (format!("{words}; `kz --help` shows what there is"), 2),
-        Err(Fail::Differ) => return ExitCode::from(3),
     };
     let _ = writeln!(stderr(), "kz: {words}");
     ExitCode::from(status)

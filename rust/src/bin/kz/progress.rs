@@ -59,8 +59,13 @@ impl Progress {
 
     pub fn warn(&self, words: &str) {
         self.clear();
-        let _ = writeln!(stderr(), "kz: {words}");
+        warn(words);
     }
+}
+
+/// A line on standard error.
+pub fn warn(words: &str) {
+    let _ = writeln!(stderr(), "kz: {words}");
 }
 
 fn time(seconds: f64) -> String {
