@@ -16,6 +16,7 @@ fn help_fits_a_screen() {
             "salvage --help",
             "compare --help",
             "copies --help",
+            "nearest --help",
             "config --help",
             "weights --help",
             "bench --help",

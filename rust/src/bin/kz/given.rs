@@ -141,6 +141,13 @@ impl Given {
         self.path(name).ok_or_else(|| Fail::usage(format!("{name} {what} is missing")))
     }
 
+    /// A number from 1 on.
+    pub fn number(&self, name: &str) -> Result<Option<usize>, Fail> {
+        let Some(value) = self.option(name) else { return Ok(None) };
+        let number = value.to_str().and_then(decimal).filter(|number| *number > 0);
+        number.map(Some).ok_or_else(|| Fail::usage(format!("{name} takes a number from 1 on, not {}", shown(value))))
+    }
+
     /// Two sides, as `2x4`.
     pub fn sides(&self, name: &str) -> Result<Option<(usize, usize)>, Fail> {
         let Some(value) = self.option(name) else { return Ok(None) };

@@ -21,6 +21,7 @@ mod keys;
 mod log;
 mod model;
 mod nearest;
+mod neighbours;
 mod netpbm;
 mod npy;
 mod paint;
@@ -62,6 +63,7 @@ kz: the Pixtral image encoder, proved; from the command line
   kz salvage FILE.npy -o OUT.ppm        the picture of damaged patches
   kz compare A.ppm B.ppm [-o OUT.png]   equal patches; --tokens: nearest sweeps
   kz copies DIR                         which sweeps are copies of which
+  kz nearest FILE.tokens.npy DIR        those most alike by their token vectors
   kz config CONFIG.json                 the settings that a config.json says
   kz weights FILE.safetensors -o OUT    a model's weights as plain floats
   kz bench                              how long each call takes
@@ -80,7 +82,7 @@ Exit status: 0 done, 1 refused (and why), 2 not understood, 3 unlike or copies.
 
 type Command = (&'static str, &'static str, &'static [&'static str], fn(&Given) -> Result<(), Fail>);
 
-const COMMANDS: [Command; 11] = [
+const COMMANDS: [Command; 12] = [
     ("demo", demo::HELP, &["-o", "--force"], demo::run),
     (
         "encode",
@@ -110,6 +112,7 @@ const COMMANDS: [Command; 11] = [
     ("salvage", salvage::HELP, &["-o", "--map", "--all", "--grid", "--settings", "--force"], salvage::run),
     ("compare", compare::HELP, &["-o", "--tokens", "--settings", "--force"], compare::run),
     ("copies", copies::HELP, &["-o", "--all", "--json", "--settings", "--force"], copies::run),
+    ("nearest", neighbours::HELP, &["--count", "--json"], neighbours::run),
     ("config", config::HELP, &["--settings"], config::run),
     ("weights", weights::HELP, &["-o", "--config", "--settings", "--force"], weights::run),
     ("bench", bench::HELP, &["--quick", "--large", "--size", "--weights", "--tables", "--settings"], bench::run),

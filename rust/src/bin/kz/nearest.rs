@@ -50,14 +50,14 @@ pub fn run(given: &Given) -> Result<(), Fail> {
 }
 
 /// A file of token vectors, by its header.
-struct Tokens<'a> {
-    file: &'a PathBuf,
+pub struct Tokens<'a> {
+    pub file: &'a PathBuf,
     element: Element,
-    shape: Shape,
+    pub shape: Shape,
 }
 
 impl<'a> Tokens<'a> {
-    fn open(file: &'a PathBuf) -> Result<Tokens<'a>, Fail> {
+    pub fn open(file: &'a PathBuf) -> Result<Tokens<'a>, Fail> {
         let mut source = Source::open(file)?;
         if source.left().is_none() || files::standard(file) {
             return Err(Fail::file(file, "is no plain file, and is to be read twice; write it to one"));
@@ -69,12 +69,12 @@ impl<'a> Tokens<'a> {
         }
     }
 
-    fn len(&self) -> usize {
+    pub fn len(&self) -> usize {
         self.shape.iter().product()
     }
 
     /// The same header again, and all floats.
-    fn read(&self, floats: &mut [f32]) -> Result<(), Fail> {
+    pub fn read(&self, floats: &mut [f32]) -> Result<(), Fail> {
         let changed = || Fail::file(self.file, "was changed while it was read; try again");
         let mut source = Source::open(self.file)?;
         if npy::any(&mut source).map_err(|why| Fail::file(self.file, why))? != (self.element, self.shape) {
@@ -114,7 +114,7 @@ fn nearest(pool: &Pool, found: &[Tokens], shape: Shape, now: &[f32]) -> Result<O
 
 /// The mean, over all places of the grid, of the cosine of the two token vectors there; 0 where one of them has no
 /// direction.
-fn mean_cosine(a: &[f32], b: &[f32], len: usize) -> f64 {
+pub fn mean_cosine(a: &[f32], b: &[f32], len: usize) -> f64 {
     let cosines = a.chunks_exact(len).zip(b.chunks_exact(len)).map(|(a, b)| {
         let sum = |x: &[f32], y: &[f32]| x.iter().zip(y).map(|(x, y)| f64::from(*x) * f64::from(*y)).sum::<f64>();
         let cosine = sum(a, b) / (sum(a, a).sqrt() * sum(b, b).sqrt());
