@@ -284,7 +284,8 @@ fn as_json() {
     let (answer, _) = refused(&folder, &format!("x.ppm y.ppm z.ppm gone.ppm -o p --json {LIST}"));
     assert!(is_json(&answer), "{answer}");
     for part in [
-        r#"{"files": ["x.ppm", "y.ppm"], "differ": 1, "patches": 16, "row": 0, "column": 0, "picture": "p/pair-001.png"}"#,
+        r#"{"files": ["x.ppm", "y.ppm"], "differ": 1, "patches": 16, "row": 0, "column": 0, "#,
+        r#" "picture": "p/pair-001.png"}"#,
         r#""same_file": [
     {"file": "z.ppm", "of": "x.ppm"}
   ]"#,
@@ -319,8 +320,8 @@ fn many_pairs() {
     assert!(answer.contains("\"more_pairs\": 20,") && is_json(&answer));
 }
 
-/// A thousand sweeps: 50 of the last hundred are copies of the first, the other 50 second views of them, with another last
-/// pixel.
+/// A thousand sweeps: 50 of the last hundred are copies of the first, the other 50 second views of them, with another
+/// last pixel.
 #[test]
 fn a_thousand_sweeps() {
     let folder = Folder::new("copies-thousand");

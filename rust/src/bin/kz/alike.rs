@@ -1,5 +1,5 @@
-//! Which sweeps have the same patches, and which most of them. A hash of each patch tells whom to compare; what is said is
-//! found by comparing every patch of the two in full, bit by bit.
+//! Which sweeps have the same patches, and which most of them. A hash of each patch tells whom to compare; what is said
+//! is found by comparing every patch of the two in full, bit by bit.
 
 use crate::fail::Fail;
 use crate::npy::Shape;
@@ -137,8 +137,8 @@ impl<'a, P: Patches> Compared<'a, P> {
             && self.differing(a, b).is_some_and(|differ| !differ.contains(&true))
     }
 
-    /// Pairs that seem by their hashes to share most of their patches, those with the fewest differing ones first. A copy
-    /// is left out: what is said of it is said of the sweep that it is a copy of.
+    /// Pairs that seem by their hashes to share most of their patches, those with the fewest differing ones first. A
+    /// copy is left out: what is said of it is said of the sweep that it is a copy of.
     pub fn likely(&self, copies: &[Option<usize>]) -> Vec<Pair> {
         let mut shapes: BTreeMap<Shape, Vec<(usize, &Print)>> = BTreeMap::new();
         for (i, print) in self.prints.iter().enumerate() {
@@ -247,7 +247,8 @@ mod tests {
         (copies, pairs, compared.lost.into_keys().collect())
     }
 
-    /// By any hash, also one that tells nothing apart: −0 is not 0, a NaN is the same by its bits, another grid is no copy.
+    /// By any hash, also one that tells nothing apart: −0 is not 0, a NaN is the same by its bits, another grid is no
+    /// copy.
     #[test]
     fn hashes_decide_nothing() {
         let (none, weak): (Hash, Hash) = (|_| 0, |patch| u64::from(patch[0] > 4.0));

@@ -119,7 +119,7 @@ fn read(file: &Path, mut source: Source<File>, floats: &mut Vec<f32>) -> Result<
 
 /// What is kept of each file's patches. A file that is refused is left out.
 fn prints(sweeps: &mut Sweeps, found: &mut Found) -> Vec<Option<Print>> {
-    let mut progress = Progress::new(sweeps.files.len(), false);
+    let mut progress = Progress::new(sweeps.files.len());
     let mut floats = vec![];
     let mut prints = vec![];
     for (index, file) in sweeps.files.clone().iter().enumerate() {
@@ -146,13 +146,13 @@ fn compare(compared: &mut Compared<Sweeps>, found: &mut Found, most: usize) {
     let files = found.gathered.files.clone();
     let at = |progress: &mut Progress, index: usize| progress.at(files[index].as_os_str());
     let classes = compared.classes();
-    let mut progress = Progress::new(classes.iter().map(Vec::len).sum(), false);
+    let mut progress = Progress::new(classes.iter().map(Vec::len).sum());
     found.copies = compared.copies(classes, |index| at(&mut progress, index));
     progress.clear();
     let mut likely = compared.likely(&found.copies);
     found.more = likely.len().saturating_sub(most);
     likely.truncate(most);
-    let mut progress = Progress::new(likely.len(), false);
+    let mut progress = Progress::new(likely.len());
     found.pairs = compared.pairs(likely, |index| at(&mut progress, index));
     progress.clear();
 }

@@ -1,35 +1,39 @@
 //! `kz encode` and `kz patches`: sweeps to files of floats.
 
+use crate::alive::Alive;
 use crate::fail::{numbered, Fail};
 use crate::given::Given;
 use crate::log::{self, Log};
 use crate::model::{allowed, refused_settings, Lent, Model};
 use crate::netpbm::Picture;
 use crate::npy::Element;
-use crate::progress::Progress;
+use crate::pace::Pace;
+use crate::progress::warn;
 use crate::shown::shown;
 use crate::source::Source;
 use crate::sweeps::{self, Sweep};
+use crate::turns::Turns;
 use crate::{beside, files, npy, room, tiles};
 use kyzgultam::{pixtral_preprocess, preprocess_tile, PictureSettings, Refusal, Tile};
 use std::borrow::Cow;
 use std::ffi::OsStr;
 use std::fs;
-use std::io::Write;
 use std::path::{Path, PathBuf};
+use std::thread::{self, Builder};
+use std::time::Instant;
 
 pub const ENCODE: &str = "\
 kz encode SWEEP.ppm .. -o DIR [--tiles] [--model DIR] [--weights FILE]
           [--tables FILE] [--config FILE] [--settings LIST] [--bf16]
-          [--log FILE] [--force | --skip-existing]
+          [--jobs N] [--log FILE] [--force | --skip-existing]
 Writes the token vectors of a SWEEP (PNG, P5, P6) to DIR/SWEEP.tokens.npy, an
-array of NumPy: rows x columns x text; with --tiles those of each tile, not
-resized (this and --log: `kz patches --help`); with --bf16 rounded to bf16, as
-'<u2', in half the room. --skip-existing goes on with a list that was cut off.
+array of NumPy: rows x columns x text; with --bf16 rounded to bf16, as '<u2',
+in half the room. `kz patches --help` has -, --tiles, --jobs and all behind it.
 --model is a folder with config.json and model.safetensors (`kz weights
 --help`). Else weights are those of --weights or from a seed; tables those of
 --tables or small ones for theta 10000. Both are plain f32, little-endian, in
 the order of include/kyzgultam.h; full tables: all cosines, then all sines.
+Runs share the memory of --weights: replace that file, do not write over it.
 With --model or --config sizes are a config.json's (`kz config --help`), and
 --settings names none. It is a list as patch=14,image=560; built in are:
   patch 14 (1..32)   hidden 64 (4..2048)  layers 2 (0..48)
@@ -41,31 +45,27 @@ Rule 1, as in the Rust and in all that was archived before there was a choice,
 cuts each side to image by itself and so squashes a longer sweep; 2 keeps its
 shape, and is named where it does. With bias 1 linear_1 and linear_2 have one.
 A byte becomes (byte / 255 - mean) / deviation, no two alike: one number for
-all channels or three, as mean=0.2,deviation=0.3/0.25/0.3. The file has no
-settings, so go on with --skip-existing by those that the list was begun with.
+all channels or three, as mean=0.2,deviation=0.3/0.25/0.3.
 ";
 
 pub const PATCHES: &str = "\
-kz patches SWEEP.ppm .. -o DIR [--tiles] [--settings LIST] [--log FILE]
-           [--force | --skip-existing]
-
+kz patches SWEEP.ppm .. -o DIR [--tiles] [--settings LIST] [--jobs N]
+           [--log FILE] [--force | --skip-existing]
 Writes the patches of a SWEEP (PNG, P5, P6) to DIR/SWEEP.patches.npy, an array
 of NumPy: grid rows x grid columns x 3 patch^2, a patch's samples by channel,
-row and column. SWEEP - is standard input, which may have several P5 and P6,
-one behind the other: stdin.f0000 and so on; -o - is standard output, for one.
---skip-existing, with a list that was cut off, takes files that are there for
-done. Of --settings (`kz encode --help`) patch, merge, image, rule, mean and
-deviation are used. What is said of a file names the rule where a side is above
-image. The file says neither the rule nor means and deviations: note them
-beside it and go on by the same, and `kz restore` brings the picture back.
-
+row and column. SWEEP - is standard input, with one or several P5 and P6, one
+behind the other: stdin.f0000 and so on; -o - is standard output, for one file.
+Of --settings (`kz help encode`) patch, merge, image, rule, mean and deviation
+are used, and the rule is named where a side is above image. The file has no
+settings: note them beside it, since `kz restore` needs the same to go back.
 With --tiles nothing is resized: each sweep is cut by row into square tiles,
-whose side is the largest multiple of patch x merge not above image. The last
-ones are smaller, and padded on the right and below with bytes of 0 to such a
-multiple. A tile's file says in its name the sweep's sides and the tile's row
-and column, from 0: DIR/SWEEP.3000x2000.r00c01.patches.npy. Nothing else says
-them, so keep the names. `kz restore --tiles` joins the tiles to the sweep.
-
+whose side is the largest multiple of patch x merge not above image; the last
+ones are smaller, and padded on the right and below with bytes of 0. A tile's
+name says the sweep's sides and the tile's row and column, from 0, and nothing
+else does: DIR/SWEEP.3000x2000.r00c01.patches.npy. `kz restore --tiles` joins.
+--jobs does N sweeps at once; what is said, log and exit status are as with 1.
+--skip-existing takes files that are there for done, so that a list goes on
+that was cut off: do that by the --settings that it was begun with.
 With --log each sweep, or tile, has a line in FILE: its index in the list, the
 settings, the sides, and preprocess's number, grid and count of floats. It has
 no name and no time, and no pixel changes it: it says nothing of forward's 12,
@@ -148,8 +148,19 @@ trait Vectors {
     /// How many there are for a grid of patches, down and across, and the floats of each.
     fn shape(&self, grid: (usize, usize)) -> npy::Shape;
 
-    /// Those of patches; words where there are none.
-    fn of<'a>(&'a mut self, patches: &'a [f32], grid: (usize, usize)) -> Result<&'a [f32], String>;
+    /// How many seconds it will take to make them, about, where that is long.
+    fn about(&self, grid: (usize, usize)) -> Option<f64>;
+
+    /// Those of patches.
+    fn of<'a>(&'a mut self, patches: &'a [f32], grid: (usize, usize)) -> Result<&'a [f32], Trouble>;
+}
+
+/// Why there are no vectors.
+enum Trouble {
+    /// Of these patches.
+    These(String),
+    /// Of any.
+    Any(String),
 }
 
 /// The patches themselves, of so many floats.
@@ -162,18 +173,23 @@ impl Vectors for Patches {
         [grid.0, grid.1, self.0]
     }
 
-    fn of<'a>(&'a mut self, patches: &'a [f32], _: (usize, usize)) -> Result<&'a [f32], String> {
+    fn about(&self, _: (usize, usize)) -> Option<f64> {
+        None
+    }
+
+    fn of<'a>(&'a mut self, patches: &'a [f32], _: (usize, usize)) -> Result<&'a [f32], Trouble> {
         Ok(patches)
     }
 }
 
-/// The token vectors that a model gives for them.
-struct Tokens {
-    model: Model,
+/// The token vectors that a model gives for them. Threads share the model, and each has what it is lent.
+struct Tokens<'m> {
+    model: &'m Model,
+    pace: &'m Pace,
     lent: Lent,
 }
 
-impl Vectors for Tokens {
+impl Vectors for Tokens<'_> {
     const NAME: &'static str = "tokens";
 
     fn shape(&self, grid: (usize, usize)) -> npy::Shape {
@@ -181,10 +197,25 @@ impl Vectors for Tokens {
         [grid.0 / merge, grid.1 / merge, self.model.settings.text_hidden_size]
     }
 
-    fn of<'a>(&'a mut self, patches: &'a [f32], grid: (usize, usize)) -> Result<&'a [f32], String> {
-        self.model.lend(grid, &mut self.lent)?;
+    fn about(&self, grid: (usize, usize)) -> Option<f64> {
+        self.pace.about(self.model, grid)
+    }
+
+    fn of<'a>(&'a mut self, patches: &'a [f32], grid: (usize, usize)) -> Result<&'a [f32], Trouble> {
+        self.model.lend(grid, &mut self.lent).map_err(Trouble::These)?;
+        let begun = Instant::now();
         let done = self.model.forward(patches, grid, &mut self.lent);
-        done.map_err(|refusal| numbered(refusal, self.model.advice(refusal)))?;
+        // Weights that changed meanwhile are no model's.
+        self.model.unchanged().map_err(Trouble::Any)?;
+        done.map_err(|refusal| {
+            let words = numbered(refusal, self.model.advice(refusal));
+            if self.model.is_finite() {
+                Trouble::These(words)
+            } else {
+                Trouble::Any(words)
+            }
+        })?;
+        self.pace.took(&self.model.settings, grid, begun);
         Ok(&self.lent.tokens)
     }
 }
@@ -193,15 +224,15 @@ pub fn encode(given: &Given) -> Result<(), Fail> {
     let list = List::read(given)?;
     let settings = given.settings()?.picture;
     list.allowed(&settings)?;
-    let model = Model::read(given)?;
-    list.write(&settings, Tokens { model, lent: Lent::default() })
+    let (model, pace) = (Model::read(given)?, Pace::default());
+    list.write(&settings, || Tokens { model: &model, pace: &pace, lent: Lent::default() })
 }
 
 pub fn patches(given: &Given) -> Result<(), Fail> {
     let list = List::read(given)?;
     let settings = given.settings()?.picture;
     list.allowed(&settings)?;
-    list.write(&settings, Patches(3 * settings.patch_size.pow(2)))
+    list.write(&settings, || Patches(3 * settings.patch_size.pow(2)))
 }
 
 /// Sweeps, and the folder to which what becomes of each is written.
@@ -209,12 +240,22 @@ struct List<'a> {
     given: &'a Given,
     folder: PathBuf,
     log: Option<PathBuf>,
+    jobs: usize,
     sweeps: Vec<Sweep>,
+}
+
+/// What one thread works with.
+struct Hand<'a, V> {
+    settings: &'a PictureSettings,
+    turns: &'a Turns,
+    cutter: Cutter,
+    vectors: V,
 }
 
 impl List<'_> {
     fn read(given: &Given) -> Result<List<'_>, Fail> {
         let folder = given.needed("-o", "DIR")?;
+        let jobs = given.number("--jobs")?.unwrap_or(1);
         if given.files.is_empty() {
             return Err(Fail::usage("no SWEEP.ppm is given"));
         }
@@ -223,7 +264,7 @@ impl List<'_> {
             apart(log, &given.files)?;
             log::vacant(log, given.force)?;
         }
-        let list = List { given, folder, log, sweeps: sweeps::listed(&given.files)? };
+        let list = List { given, folder, log, jobs, sweeps: sweeps::listed(&given.files)? };
         list.one_file()?;
         Ok(list)
     }
@@ -256,27 +297,46 @@ impl List<'_> {
         allowed
     }
 
-    /// Writes what is made of each sweep, or of its tiles.
-    fn write<V: Vectors>(&self, settings: &PictureSettings, mut vectors: V) -> Result<(), Fail> {
-        let mut log = self.begin()?;
-        let mut cutter = Cutter::default();
-        let mut begun = 0;
-        let done = self.each(|index, progress| {
-            begun = index + 1;
-            if self.given.tiles {
-                self.tiles(index, settings, &mut cutter, &mut vectors, &mut log, progress)
-            } else {
-                let words = self.whole(index, settings, &mut cutter, &mut vectors, &mut log)?;
-                progress.clear();
-                let _ = writeln!(beside(&[&self.folder]), "{words}");
-                Ok(())
-            }
+    /// Writes what is made of each sweep, or of its tiles, by as many threads as there are jobs. Where one cannot be
+    /// started, there are fewer.
+    fn write<V: Vectors>(&self, settings: &PictureSettings, vectors: impl Fn() -> V + Sync) -> Result<(), Fail> {
+        let log = self.begin()?;
+        for part in files::parts(&self.folder) {
+            warn(&format!("{}: {LEFT}", shown(&part)));
+        }
+        let total = self.sweeps.len();
+        let turns = Turns::new(total, log, Alive::new(total), beside(&[&self.folder]));
+        let work = || self.work(Hand { settings, turns: &turns, cutter: Cutter::default(), vectors: vectors() });
+        thread::scope(|scope| {
+            let alive = turns.alive.shown().then(|| Builder::new().spawn_scoped(scope, || turns.alive.run()));
+            let others: Vec<_> =
+                (1..self.jobs.min(total)).map_while(|_| Builder::new().spawn_scoped(scope, work).ok()).collect();
+            work();
+            let joined = others.into_iter().try_for_each(|other| other.join());
+            turns.alive.stop();
+            drop(alive);
+            joined.unwrap_or_else(|panic| std::panic::resume_unwind(panic));
         });
+        let (done, log, lines) = turns.ended();
         if let Err(Fail::Unlogged(_)) = done {
             return done;
         }
-        self.finish(log, begun, settings, &mut cutter)?;
+        self.finish(log, lines, settings, &mut Cutter::default())?;
         done
+    }
+
+    /// Does one sweep after the other, as long as there are any. One that is refused is named, and the others are still
+    /// done, unless nothing can be written any more.
+    fn work<V: Vectors>(&self, mut hand: Hand<V>) {
+        while let Some(index) = hand.turns.begin() {
+            hand.turns.alive.begin(index, &self.sweeps[index].stem);
+            let done = match self.given.tiles {
+                true => self.tiles(index, &mut hand),
+                false => self.whole(index, &mut hand),
+            };
+            hand.turns.alive.end(index);
+            hand.turns.end(index, done);
+        }
     }
 
     /// Reads a sweep, cuts it and writes its line: what became of it. Its patches are in the buffer.
@@ -317,12 +377,12 @@ impl List<'_> {
     fn finish(
         &self,
         log: Option<Log>,
-        begun: usize,
+        lines: usize,
         settings: &PictureSettings,
         cutter: &mut Cutter,
     ) -> Result<(), Fail> {
         let Some(mut log) = log else { return Ok(()) };
-        for index in begun..self.sweeps.len() {
+        for index in lines..self.sweeps.len() {
             if self.given.tiles {
                 self.logged_tiles(&mut log, index, settings, cutter).map(drop)?;
             } else {
@@ -334,42 +394,29 @@ impl List<'_> {
 
     /// With a log the sweep is cut and its line written before its file is asked for: that one is there may say that an
     /// earlier forward did not refuse the sweep with 12.
-    fn whole<V: Vectors>(
-        &self,
-        index: usize,
-        settings: &PictureSettings,
-        cutter: &mut Cutter,
-        vectors: &mut V,
-        log: &mut Option<Log>,
-    ) -> Result<String, Fail> {
+    fn whole<V: Vectors>(&self, index: usize, hand: &mut Hand<V>) -> Result<(), Fail> {
         let sweep = &self.sweeps[index];
         let file = &sweep.file;
         let out = self.out::<V>(&sweep.stem);
-        let [.., floats] = vectors.shape((0, 0));
-        let cut = log.as_mut().map(|log| self.logged(log, index, settings, cutter)).transpose()?;
-        self.unless_done(&out, None, floats, || {
-            let (grid, rule) = cut.unwrap_or_else(|| cutter.cut(file, &*sweep.read()?, settings))?;
-            let words = self.put(&out, vectors, &cutter.patches, grid, |words| Fail::file(file, words))?;
+        let [.., floats] = hand.vectors.shape((0, 0));
+        let (settings, turns) = (hand.settings, hand.turns);
+        let cut = turns.log(index, |log| self.logged(log, index, settings, &mut hand.cutter))?;
+        let words = self.unless_done(&out, None, floats, || {
+            let (grid, rule) = cut.unwrap_or_else(|| hand.cutter.cut(file, &*sweep.read()?, settings))?;
+            let words = self.put(index, &out, hand, grid, |words| format!("{}: {words}", shown(file)))?;
             Ok(format!("{words}{}", by_rule(rule)))
-        })
+        })?;
+        turns.say(index, words);
+        Ok(())
     }
 
     /// Each tile has a file of its own. Where one is there and is not to be skipped, none is written. With a log the
     /// lines of all tiles are written before the first of them is done, and before their files are asked for.
-    fn tiles<V: Vectors>(
-        &self,
-        sweep: usize,
-        settings: &PictureSettings,
-        cutter: &mut Cutter,
-        vectors: &mut V,
-        log: &mut Option<Log>,
-        progress: &Progress,
-    ) -> Result<(), Fail> {
+    fn tiles<V: Vectors>(&self, sweep: usize, hand: &mut Hand<V>) -> Result<(), Fail> {
         let Sweep { file, stem, .. } = &self.sweeps[sweep];
-        let picture = match log {
-            Some(log) => self.logged_tiles(log, sweep, settings, cutter)?,
-            None => self.sweeps[sweep].read(),
-        }?;
+        let (settings, turns) = (hand.settings, hand.turns);
+        let logged = turns.log(sweep, |log| self.logged_tiles(log, sweep, settings, &mut hand.cutter))?;
+        let picture = logged.unwrap_or_else(|| self.sweeps[sweep].read())?;
         let (height, width) = (picture.height, picture.width);
         let refused = |refusal| refused(file, refusal);
         let cut = kyzgultam::cut(height, width, settings).map_err(refused)?;
@@ -380,18 +427,18 @@ impl List<'_> {
             (0..count).try_for_each(|index| files::vacant(&out(index), self.given.force))?;
         }
         for index in 0..count {
-            progress.part(stem, index, count);
+            turns.alive.part(sweep, index, count);
             let tile = settings.tile(height, width, index).map_err(refused)?;
-            let [h, w, floats] = vectors.shape((tile.grid_h, tile.grid_w));
+            let [h, w, floats] = hand.vectors.shape((tile.grid_h, tile.grid_w));
             let out = out(index);
             let words = self.unless_done(&out, Some((h, w)), floats, || {
-                let tile = cutter.tile(&picture, index, settings).of(file)?;
+                let tile = hand.cutter.tile(&picture, index, settings).of(file)?;
                 let Tile { grid_h, grid_w, top, left, height, width, .. } = tile;
-                let fail = |words| Fail::file(file, format!("tile {}: {words}", label(index)));
-                let words = self.put(&out, vectors, &cutter.patches, (grid_h, grid_w), fail)?;
+                let of_tile = |words: &str| format!("{}: tile {}: {words}", shown(file), label(index));
+                let words = self.put(sweep, &out, hand, (grid_h, grid_w), of_tile)?;
                 Ok(format!("{words}; {height}x{width} pixels from row {top}, column {left}"))
             })?;
-            progress.say(&words);
+            turns.say(sweep, words);
         }
         Ok(())
     }
@@ -428,17 +475,24 @@ impl List<'_> {
         }
     }
 
-    /// Writes the vectors of patches: what is said of the file.
+    /// Writes the vectors of the patches in the buffer: what is said of the file.
     fn put<V: Vectors>(
         &self,
+        index: usize,
         out: &Path,
-        vectors: &mut V,
-        patches: &[f32],
+        hand: &mut Hand<V>,
         grid: (usize, usize),
-        fail: impl FnOnce(String) -> Fail,
+        of: impl Fn(&str) -> String,
     ) -> Result<String, Fail> {
-        let [h, w, len] = vectors.shape(grid);
-        let floats = vectors.of(patches, grid).map_err(fail)?;
+        let [h, w, len] = hand.vectors.shape(grid);
+        let alive = &hand.turns.alive;
+        if alive.shown() {
+            alive.expect(index, hand.vectors.about(grid));
+        }
+        let floats = hand.vectors.of(&hand.cutter.patches, grid).map_err(|trouble| match trouble {
+            Trouble::These(words) => Fail::Refused(of(&words)),
+            Trouble::Any(words) => Fail::Unfit(of(&words)),
+        })?;
         let element = self.element();
         files::write(out, self.given.force, |to| {
             npy::head(to, element, [h, w, len])?;
@@ -449,54 +503,9 @@ impl List<'_> {
         })?;
         Ok(format!("{}: {h}x{w} {} of {len} {}", shown(out), V::NAME, element.name()))
     }
-
-    /// Does the work for each sweep. One that is refused is named, and the others are still done, unless nothing can be
-    /// written any more.
-    fn each(&self, mut work: impl FnMut(usize, &Progress) -> Result<(), Fail>) -> Result<(), Fail> {
-        let total = self.sweeps.len();
-        let mut progress = Progress::new(total, self.given.tiles);
-        for part in files::parts(&self.folder) {
-            progress.warn(&format!("{}: {LEFT}", shown(&part)));
-        }
-        let (mut refused, mut there) = (0, 0);
-        for (i, sweep) in self.sweeps.iter().enumerate() {
-            progress.at(&sweep.stem);
-            match work(i, &progress) {
-                Ok(()) => {}
-                Err(Fail::Refused(words)) if total > 1 => {
-                    refused += 1;
-                    progress.warn(&words);
-                }
-                Err(Fail::Taken(words)) if total > 1 => {
-                    there += 1;
-                    progress.warn(&words);
-                }
-                Err(Fail::Stopped(words)) if total > 1 => {
-                    progress.warn(&words);
-                    let left = total - i;
-                    return Err(Fail::Refused(format!("stopped, with {left} of {total} sweeps still to do; {AGAIN}")));
-                }
-                Err(fail) => {
-                    progress.clear();
-                    return Err(fail);
-                }
-            }
-        }
-        progress.clear();
-        match (refused, there) {
-            (0, 0) => Ok(()),
-            (n, 0) => Err(Fail::Refused(format!("{n} of {total} sweeps were refused"))),
-            (0, n) => Err(Fail::Refused(format!("{n} of {total} sweeps had their file already; {SKIP}"))),
-            (n, m) => {
-                Err(Fail::Refused(format!("{n} of {total} sweeps were refused, {m} had their file already; {SKIP}")))
-            }
-        }
-    }
 }
 
 const LEFT: &str = "was begun by a run that is at work now, or was killed; if none is at work here, remove it";
-const AGAIN: &str = "make room, or give another -o, and go on with --skip-existing";
-const SKIP: &str = "--skip-existing takes such files for done";
 
 /// Refuses a log that has the name of a sweep, or one of those under which vectors are written.
 fn apart(log: &Path, sweeps: &[PathBuf]) -> Result<(), Fail> {

@@ -14,6 +14,8 @@ pub enum Fail {
     Stopped(String),
     /// Exit status 1: the log cannot be written, so nothing more is done.
     Unlogged(String),
+    /// Exit status 1: weights or tables are at fault, so no sweep can be encoded.
+    Unfit(String),
     /// Exit status 2: the command line is not one that kz knows.
     Usage(String),
     /// Exit status 3: nothing is wrong, and the answer, which was said, is the one that is looked for.
@@ -33,7 +35,7 @@ impl Fail {
     pub fn words(&self) -> &str {
         match self {
             Fail::Refused(words) | Fail::Taken(words) | Fail::Stopped(words) => words,
-            Fail::Unlogged(words) | Fail::Usage(words) => words,
+            Fail::Unlogged(words) | Fail::Unfit(words) | Fail::Usage(words) => words,
             Fail::Found => "",
         }
     }

@@ -5,10 +5,10 @@ use crate::model::refused_setting;
 use crate::shown::shown;
 use crate::{config, files, keys};
 use kyzgultam::{EncoderSettings, PictureSettings};
-use std::cell::OnceCell;
 use std::ffi::{OsStr, OsString};
 use std::os::unix::ffi::OsStrExt;
 use std::path::{Path, PathBuf};
+use std::sync::OnceLock;
 
 /// The options without a value.
 const BARE: [&str; 9] =
@@ -60,7 +60,7 @@ pub struct Given {
     pub tokens: bool,
     options: Vec<(&'static str, OsString)>,
     /// The settings, once they were asked for: a config.json may come from a pipe.
-    known: OnceCell<EncoderSettings>,
+    known: OnceLock<EncoderSettings>,
 }
 
 /// The f32 nearest to 1 / root of head, for every head that is allowed, as is the Rust's powf with glibc's.

@@ -38,7 +38,7 @@ pub fn run(given: &Given) -> Result<(), Fail> {
     let tiles = in_order(&tiles, &cut)?;
     let rgb = room::zeros(height * width * 3, &format!("the sweep of {height}x{width} pixels"), ELSEWHERE);
     let mut sweep = Picture { height, width, rgb: rgb.map_err(|words| Fail::file(first, words))? };
-    let mut progress = Progress::new(tiles.len(), false);
+    let mut progress = Progress::new(tiles.len());
     for (index, file) in tiles.iter().enumerate() {
         let name = label(&cut, place(&cut, index));
         progress.at(OsStr::new(&name));

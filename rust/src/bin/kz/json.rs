@@ -4,8 +4,8 @@ use std::ffi::OsStr;
 use std::fmt::Write;
 use std::os::unix::ffi::OsStrExt;
 
-/// A name as a string of JSON. A byte that is not UTF-8 is written as \udc80 to \udcff, as Python's `os.fsencode` takes it
-/// back, so that no two names are written alike.
+/// A name as a string of JSON. A byte that is not UTF-8 is written as \udc80 to \udcff, as Python's `os.fsencode` takes
+/// it back, so that no two names are written alike.
 pub fn string<T: AsRef<OsStr> + ?Sized>(name: &T) -> String {
     let mut text = String::from("\"");
     for chunk in name.as_ref().as_bytes().utf8_chunks() {

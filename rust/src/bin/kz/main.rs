@@ -1,6 +1,7 @@
 //! kz: sweeps to patches and token vectors, and back, from the command line.
 
 mod alike;
+mod alive;
 mod bench;
 mod caption;
 mod compare;
@@ -19,11 +20,13 @@ mod join;
 mod json;
 mod keys;
 mod log;
+mod mapped;
 mod model;
 mod nearest;
 mod neighbours;
 mod netpbm;
 mod npy;
+mod pace;
 mod paint;
 mod picture;
 mod png;
@@ -42,6 +45,7 @@ mod sweep;
 mod sweeps;
 mod table;
 mod tiles;
+mod turns;
 mod version;
 mod weights;
 
@@ -73,7 +77,7 @@ tables plain f32. Sizes are HEIGHTxWIDTH; - is standard input or output.
   --model DIR, or --config, --weights, --tables FILE: encode's; else built in
   --tiles           for encode, patches and restore: not resized, but tiles
   --grid HxW        for restore and salvage of plain floats
-  --log FILE        for encode and patches: a line a sweep that shows no pixel
+  --jobs, --log     for encode and patches: N sweeps at once, a line a sweep
   --force           write over plain files that are there already
   --skip-existing   for encode and patches: take such files for done
 `kz help COMMAND` says more; also `kz --version` and `kz completions bash`.
@@ -96,6 +100,7 @@ const COMMANDS: [Command; 12] = [
             "--config",
             "--settings",
             "--bf16",
+            "--jobs",
             "--log",
             "--force",
             "--skip-existing",
@@ -105,7 +110,7 @@ const COMMANDS: [Command; 12] = [
     (
         "patches",
         encode::PATCHES,
-        &["-o", "--tiles", "--settings", "--log", "--force", "--skip-existing"],
+        &["-o", "--tiles", "--settings", "--jobs", "--log", "--force", "--skip-existing"],
         encode::patches,
     ),
     ("restore", restore::HELP, &["-o", "--tiles", "--grid", "--settings", "--force"], restore::run),
@@ -130,7 +135,7 @@ fn answer(line: fmt::Arguments) -> Result<(), Fail> {
 }
 
 /// Where words about files go: to standard output, but to standard error where one of them is written there.
-fn beside(files: &[&Path]) -> Box<dyn Write> {
+fn beside(files: &[&Path]) -> Box<dyn Write + Send> {
     if files.iter().any(|file| files::standard(file)) {
         Box::new(stderr())
     } else {
@@ -184,9 +189,9 @@ fn main() -> ExitCode {
     let words: Vec<OsString> = std::env::args_os().skip(1).collect();
     let (words, status) = match run(&words) {
         Ok(()) => return ExitCode::SUCCESS,
-        Err(Fail::Refused(words) | Fail::Taken(words) | Fail::Stopped(words) | Fail::Unlogged(words)) => (words, 1),
         Err(Fail::Found) => return ExitCode::from(3),
         Err(Fail::Usage(words)) => (format!("{words}; `kz --help` shows what there is"), 2),
+        Err(fail) => (fail.words().to_string(), 1),
     };
     let _ = writeln!(stderr(), "kz: {words}");
     ExitCode::from(status)

@@ -2,6 +2,7 @@
 
 use crate::fail::{numbered, Fail};
 use crate::given::Given;
+use crate::mapped::{Floats, Mapped};
 use crate::ranges;
 use crate::room;
 use crate::shown::shown;
@@ -37,7 +38,7 @@ pub enum Origin {
 
 pub struct Model {
     pub settings: EncoderSettings,
-    pub weights: Vec<f32>,
+    weights: Floats,
     pub tables: Tables,
     origin: Origin,
     /// The tables' file.
@@ -63,6 +64,19 @@ impl Tables {
             sin: expand(&axes.row_sin, &axes.column_sin)?,
         })
     }
+
+    /// The first float of a file that is not finite. Those built in are.
+    fn odd(&self) -> Option<usize> {
+        match self {
+            Tables::Full { cos, sin } => odd(cos).or(odd(sin).map(|i| cos.len() + i)),
+            Tables::Axes(_) => None,
+        }
+    }
+}
+
+/// The first float that is not finite.
+fn odd(floats: &[f32]) -> Option<usize> {
+    floats.iter().position(|x| !x.is_finite())
 }
 
 impl Model {
@@ -84,19 +98,19 @@ impl Model {
             // No grid is allowed: each picture is refused with 4, before the model is used.
             Err(Refusal::Grid) => {
                 let tables = Tables::Axes(RopeAxes::default());
-                return Ok(Model { settings, weights: vec![], tables, origin, file });
+                return Ok(Model { settings, weights: Floats::Held(vec![]), tables, origin, file });
             }
             Err(Refusal::Setting) => return Err(refused_setting(ranges::encoder(&settings))),
             lengths => lengths.map_err(refused_settings)?,
         };
         let room = || weights_room(&settings, lengths.weights);
         let (settings, weights) = match &origin {
-            Origin::Seed => (settings, seeded(&settings, room()?)),
-            Origin::Floats(file) => {
-                let [weights] = floats(file, lengths.weights, room, Refusal::WeightsLength, "")?;
-                (settings, weights)
+            Origin::Seed => (settings, Floats::Held(seeded(&settings, room()?))),
+            Origin::Floats(file) => (settings, plain_weights(file, lengths.weights, room)?),
+            Origin::Tensors(file, bias) => {
+                let (settings, weights) = weights::read(settings, *bias, file)?;
+                (settings, Floats::Held(weights))
             }
-            Origin::Tensors(file, bias) => weights::read(settings, *bias, file)?,
         };
         let room = || table_room(&settings, lengths.tables);
         let order = ", the cosines and then the sines";
@@ -143,13 +157,24 @@ impl Model {
         done.map(drop)
     }
 
+    /// Whether all weights and the tables of a file are finite. If not, every sweep is refused with 12.
+    pub fn is_finite(&self) -> bool {
+        odd(&self.weights).is_none() && self.tables.odd().is_none()
+    }
+
+    /// Whether the weights are still those that were read; words where they are not.
+    pub fn unchanged(&self) -> Result<(), String> {
+        match (&self.weights, &self.origin) {
+            (Floats::Mapped(mapped), Origin::Floats(file)) if !mapped.unchanged() => {
+                Err(format!("{} was changed while it was in use; {REPLACE}", shown(file)))
+            }
+            _ => Ok(()),
+        }
+    }
+
     /// What to do about a refusal of `forward`.
     pub fn advice(&self, refusal: Refusal) -> String {
-        let odd = |floats: &[f32]| floats.iter().position(|x| !x.is_finite());
-        let tables = match &self.tables {
-            Tables::Full { cos, sin } => odd(cos).or(odd(sin).map(|i| cos.len() + i)),
-            Tables::Axes(_) => None,
-        };
+        let tables = self.tables.odd();
         let plain = |file: &Path, i: usize| format!("float {i} of {} is not; write that file again", shown(file));
         match (refusal, odd(&self.weights), tables) {
             (Refusal::NotFinite, Some(i), _) => match &self.origin {
@@ -189,6 +214,7 @@ fn single(folder: &Path) -> Result<PathBuf, Fail> {
     Ok(file)
 }
 
+const REPLACE: &str = "replace such a file, as by `mv`, and do not write over it";
 const RANGES: &str = "`kz encode --help` has the ranges";
 const CHANNELS: &str = "give another mean= or deviation=, as mean=0.2,deviation=0.25, or leave both out";
 const SMALLER: &str = "give smaller --settings";
@@ -229,6 +255,15 @@ fn table_room(s: &EncoderSettings, len: usize) -> Result<Vec<f32>, Fail> {
     let (image, patch, head) = (s.picture.image_size, s.picture.patch_size, s.head_dim);
     let what = format!("a rotary table (image={image}, patch={patch}, head={head})");
     room::empty(len, &what, SMALLER).map_err(|words| Fail::Refused(format!("--settings: {words}")))
+}
+
+/// The weights of a plain file: mapped, so that all runs on a machine share them, or read where that cannot be.
+fn plain_weights(file: &Path, len: usize, room: impl Fn() -> Result<Vec<f32>, Fail>) -> Result<Floats, Fail> {
+    if let Some(mapped) = Mapped::new(file, len) {
+        return Ok(Floats::Mapped(mapped));
+    }
+    let [weights] = floats(file, len, room, Refusal::WeightsLength, "")?;
+    Ok(Floats::Held(weights))
 }
 
 /// The floats of a file, in parts of one length, which is to have just these. Its length is tested first.

@@ -74,7 +74,7 @@ impl<'a> Near<'a> {
         let mut near = Near { sweep, shape: tokens.shape, gathered, cosines: vec![], others: 0, itself: false };
         let place = |file: &Path| fs::metadata(file).map(|found| (found.dev(), found.ino())).ok();
         let (itself, files) = (place(sweep), near.gathered.files.clone());
-        let mut progress = Progress::new(files.len(), false);
+        let mut progress = Progress::new(files.len());
         let mut buffer = vec![];
         for (index, file) in files.iter().enumerate() {
             progress.at(file.as_os_str());
