@@ -3,6 +3,7 @@
 use crate::alive::Alive;
 use crate::fail::{numbered, Fail};
 use crate::given::Given;
+use crate::lists::{self, Shard};
 use crate::log::{self, Log};
 use crate::model::{allowed, refused_settings, Lent, Model};
 use crate::netpbm::Picture;
@@ -18,6 +19,7 @@ use kyzgultam::{pixtral_preprocess, preprocess_tile, PictureSettings, Refusal, T
 use std::borrow::Cow;
 use std::ffi::OsStr;
 use std::fs;
+use std::io::Write;
 use std::path::{Path, PathBuf};
 use std::thread::{self, Builder};
 use std::time::Instant;
@@ -25,7 +27,8 @@ use std::time::Instant;
 pub const ENCODE: &str = "\
 kz encode SWEEP.ppm .. -o DIR [--tiles] [--model DIR] [--weights FILE]
           [--tables FILE] [--config FILE] [--settings LIST] [--bf16]
-          [--jobs N] [--log FILE] [--force | --skip-existing]
+          [--jobs N] [--list FILE [--null]] [--shard I/N] [--log FILE]
+          [--force | --skip-existing]
 Writes the token vectors of a SWEEP (PNG, P5, P6) to DIR/SWEEP.tokens.npy, an
 array of NumPy: rows x columns x text; with --bf16 rounded to bf16, as '<u2',
 in half the room. `kz patches --help` has -, --tiles, --jobs and all behind it.
@@ -50,7 +53,8 @@ all channels or three, as mean=0.2,deviation=0.3/0.25/0.3.
 
 pub const PATCHES: &str = "\
 kz patches SWEEP.ppm .. -o DIR [--tiles] [--settings LIST] [--jobs N]
-           [--log FILE] [--force | --skip-existing]
+           [--list FILE [--null]] [--shard I/N] [--log FILE]
+           [--force | --skip-existing]
 Writes the patches of a SWEEP (PNG, P5, P6) to DIR/SWEEP.patches.npy, an array
 of NumPy: grid rows x grid columns x 3 patch^2, a patch's samples by channel,
 row and column. SWEEP - is standard input, with one or several P5 and P6, one
@@ -64,6 +68,8 @@ ones are smaller, and padded on the right and below with bytes of 0. A tile's
 name says the sweep's sides and the tile's row and column, from 0, and nothing
 else does: DIR/SWEEP.3000x2000.r00c01.patches.npy. `kz restore --tiles` joins.
 --jobs does N sweeps at once; what is said, log and exit status are as with 1.
+--list has the names in FILE (-: standard input), one a line, or with --null
+each before a byte 0; --shard, I from 1 to N, takes every N-th from the I-th.
 --skip-existing takes files that are there for done, so that a list goes on
 that was cut off: do that by the --settings that it was begun with.
 With --log each sweep, or tile, has a line in FILE: its index in the list, the
@@ -241,6 +247,7 @@ struct List<'a> {
     folder: PathBuf,
     log: Option<PathBuf>,
     jobs: usize,
+    /// Those of the shard.
     sweeps: Vec<Sweep>,
 }
 
@@ -253,18 +260,23 @@ struct Hand<'a, V> {
 }
 
 impl List<'_> {
+    /// A file is named after its sweep in the whole list, so that its name does not hang on the shard.
     fn read(given: &Given) -> Result<List<'_>, Fail> {
         let folder = given.needed("-o", "DIR")?;
-        let jobs = given.number("--jobs")?.unwrap_or(1);
-        if given.files.is_empty() {
-            return Err(Fail::usage("no SWEEP.ppm is given"));
-        }
+        let (jobs, shard) = (given.number("--jobs")?.unwrap_or(1), Shard::read(given)?);
+        let names = lists::names(given)?;
         let log = given.path("--log");
         if let Some(log) = &log {
-            apart(log, &given.files)?;
+            apart(log, &names)?;
             log::vacant(log, given.force)?;
         }
-        let list = List { given, folder, log, jobs, sweeps: sweeps::listed(&given.files)? };
+        let mut sweeps = sweeps::listed(&names)?;
+        let total = sweeps.len();
+        sweeps.retain(|sweep| shard.has(sweep.place));
+        if sweeps.is_empty() {
+            let _ = writeln!(beside(&[&folder]), "{}", shard.empty(total));
+        }
+        let list = List { given, folder, log, jobs, sweeps };
         list.one_file()?;
         Ok(list)
     }
@@ -273,6 +285,7 @@ impl List<'_> {
     fn one_file(&self) -> Result<(), Fail> {
         match (self.sweeps.len(), self.given.tiles, self.given.skip) {
             _ if !files::standard(&self.folder) => Ok(()),
+            (0, ..) => Ok(()),
             (1, false, false) => files::vacant(&self.folder, false),
             (1, true, _) => Err(Fail::usage("-o - is for one file, and each tile has one; give a folder")),
             (1, _, true) => Err(Fail::usage("-o - has no file that --skip-existing could find; give a folder")),
@@ -350,7 +363,7 @@ impl List<'_> {
         let sweep = &self.sweeps[index];
         let (picture, taken) = sweep.find();
         let cut = cutter.whole(&picture, settings);
-        log.sweep(index, settings, (picture.height, picture.width), cut.report)?;
+        log.sweep(sweep.place, settings, (picture.height, picture.width), cut.report)?;
         Ok(taken.and_then(|()| cut.of(&sweep.file)).map(|cut| resized(&picture, settings, cut)))
     }
 
@@ -363,11 +376,12 @@ impl List<'_> {
         settings: &PictureSettings,
         cutter: &mut Cutter,
     ) -> Result<Result<Cow<'_, Picture>, Fail>, Fail> {
-        let (picture, taken) = self.sweeps[index].find();
+        let sweep = &self.sweeps[index];
+        let (picture, taken) = sweep.find();
         let (height, width) = (picture.height, picture.width);
         let count = kyzgultam::cut(height, width, settings).map_or(1, |cut| cut.rows * cut.columns);
         for tile in 0..count {
-            log.tile(index, tile, settings, (height, width), cutter.tile(&picture, tile, settings).report)?;
+            log.tile(sweep.place, tile, settings, (height, width), cutter.tile(&picture, tile, settings).report)?;
         }
         Ok(taken.map(|()| picture))
     }

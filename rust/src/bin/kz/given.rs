@@ -11,8 +11,8 @@ use std::path::{Path, PathBuf};
 use std::sync::OnceLock;
 
 /// The options without a value.
-const BARE: [&str; 9] =
-    ["--all", "--bf16", "--force", "--json", "--large", "--quick", "--skip-existing", "--tiles", "--tokens"];
+const BARE: [&str; 10] =
+    ["--all", "--bf16", "--force", "--json", "--large", "--null", "--quick", "--skip-existing", "--tiles", "--tokens"];
 
 /// Whether a word is an option, known or not. A single - is a name.
 fn dashed(word: &OsStr) -> bool {
@@ -54,6 +54,7 @@ pub struct Given {
     pub force: bool,
     pub json: bool,
     pub large: bool,
+    pub null: bool,
     pub quick: bool,
     pub skip: bool,
     pub tiles: bool,
@@ -84,6 +85,7 @@ impl Given {
                 given.force |= word == "--force";
                 given.json |= word == "--json";
                 given.large |= word == "--large";
+                given.null |= word == "--null";
                 given.quick |= word == "--quick";
                 given.skip |= word == "--skip-existing";
                 given.tiles |= word == "--tiles";
@@ -111,7 +113,7 @@ impl Given {
     fn once(&self) -> Result<(), Fail> {
         let of = |names: &[&str]| names.iter().filter(|name| self.option(name).is_some_and(|v| v == "-")).count();
         let read = self.files.iter().filter(|file| files::standard(file)).count();
-        if read + of(&["--weights", "--tables", "--config"]) > 1 {
+        if read + of(&["--weights", "--tables", "--config", "--list"]) > 1 {
             return Err(Fail::usage("- is standard input, which is read once, and it is given twice"));
         }
         if of(&["-o", "--map"]) > 1 {

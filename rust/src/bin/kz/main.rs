@@ -19,6 +19,7 @@ mod inflate;
 mod join;
 mod json;
 mod keys;
+mod lists;
 mod log;
 mod mapped;
 mod model;
@@ -77,7 +78,7 @@ tables plain f32. Sizes are HEIGHTxWIDTH; - is standard input or output.
   --model DIR, or --config, --weights, --tables FILE: encode's; else built in
   --tiles           for encode, patches and restore: not resized, but tiles
   --grid HxW        for restore and salvage of plain floats
-  --jobs, --log     for encode and patches: N sweeps at once, a line a sweep
+  --jobs, --list, --shard, --log: many sweeps, for encode and patches
   --force           write over plain files that are there already
   --skip-existing   for encode and patches: take such files for done
 `kz help COMMAND` says more; also `kz --version` and `kz completions bash`.
@@ -101,6 +102,9 @@ const COMMANDS: [Command; 12] = [
             "--settings",
             "--bf16",
             "--jobs",
+            "--list",
+            "--null",
+            "--shard",
             "--log",
             "--force",
             "--skip-existing",
@@ -110,7 +114,18 @@ const COMMANDS: [Command; 12] = [
     (
         "patches",
         encode::PATCHES,
-        &["-o", "--tiles", "--settings", "--jobs", "--log", "--force", "--skip-existing"],
+        &[
+            "-o",
+            "--tiles",
+            "--settings",
+            "--jobs",
+            "--list",
+            "--null",
+            "--shard",
+            "--log",
+            "--force",
+            "--skip-existing",
+        ],
         encode::patches,
     ),
     ("restore", restore::HELP, &["-o", "--tiles", "--grid", "--settings", "--force"], restore::run),

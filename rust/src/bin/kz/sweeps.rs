@@ -11,6 +11,8 @@ use std::ffi::{OsStr, OsString};
 use std::path::{Component, Path, PathBuf};
 
 pub struct Sweep {
+    /// In the whole list, from 0.
+    pub place: usize,
     /// What it is called in what is said.
     pub file: PathBuf,
     pub stem: OsString,
@@ -43,12 +45,13 @@ impl Sweep {
 pub fn listed(list: &[PathBuf]) -> Result<Vec<Sweep>, Fail> {
     let mut sweeps = Vec::new();
     for file in list {
+        let place = sweeps.len();
         if files::standard(file) {
-            sweeps.extend(came()?);
+            sweeps.extend(came(place)?);
         } else {
             let stem = file.file_stem();
             let stem = stem.ok_or_else(|| Fail::usage(format!("{}: is no name of a file", shown(file))))?;
-            sweeps.push(Sweep { file: file.clone(), stem: stem.to_os_string(), held: None });
+            sweeps.push(Sweep { place, file: file.clone(), stem: stem.to_os_string(), held: None });
         }
     }
     tell_apart(&mut sweeps);
@@ -85,14 +88,15 @@ fn in_folders(sweep: &Sweep, count: usize) -> OsString {
     inner.iter().copied().chain([sweep.stem.as_os_str()]).collect::<Vec<_>>().join(OsStr::new("."))
 }
 
-/// The pictures of standard input: `stdin`, or, of several, `stdin.f0000` and so on.
-fn came() -> Result<Vec<Sweep>, Fail> {
+/// The pictures of standard input, from a place on: `stdin`, or, of several, `stdin.f0000` and so on.
+fn came(place: usize) -> Result<Vec<Sweep>, Fail> {
     let mut found = picture::all(Path::new("-"))?;
     if found.len() == 1 {
         let held = found.pop();
-        return Ok(vec![Sweep { file: "-".into(), stem: "stdin".into(), held }]);
+        return Ok(vec![Sweep { place, file: "-".into(), stem: "stdin".into(), held }]);
     }
     let sweep = |(i, held)| Sweep {
+        place: place + i,
         file: format!("-, picture {i}").into(),
         stem: format!("stdin.f{i:04}").into(),
         held: Some(held),
