@@ -259,6 +259,14 @@ struct Hand<'a, V> {
     vectors: V,
 }
 
+impl<V> Drop for Hand<'_, V> {
+    fn drop(&mut self) {
+        if thread::panicking() {
+            self.turns.give_up();
+        }
+    }
+}
+
 impl List<'_> {
     /// A file is named after its sweep in the whole list, so that its name does not hang on the shard.
     fn read(given: &Given) -> Result<List<'_>, Fail> {

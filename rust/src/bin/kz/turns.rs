@@ -126,6 +126,15 @@ impl Turns {
         self.alive.quietly(|| state.go_on(self.total));
     }
 
+    /// Nothing more is begun or written, and nobody waits: a thread panicked, which is a fault of kz.
+    pub fn give_up(&self) {
+        let mut state = self.state();
+        state.closed = true;
+        state.unlogged = Some("stopped, by a fault of kz: report it".into());
+        self.written.notify_all();
+        self.alive.stop();
+    }
+
     /// How the list ended; and the log, with how many sweeps have their lines, unless it could not be written.
     pub fn ended(self) -> (Result<(), Fail>, Option<Log>, usize) {
         let state = self.state.into_inner().unwrap_or_else(PoisonError::into_inner);
