@@ -73,8 +73,14 @@ fn copies_and_second_views() {
     assert_eq!(rows(&answer, "differ")[0][6], "pictures/pair-001.png");
     folder.kz(&format!("compare d/a.ppm d/b.ppm -o map.png {LIST}"));
     assert_eq!(folder.get("pictures/pair-001.png"), folder.get("map.png"));
-    let parts = ["pair-001.png: is there already"];
-    folder.fails(1, &format!("copies d/a.ppm d/b.ppm -o pictures {LIST}"), &parts);
+    // Where it cannot be written, that is said behind the answer.
+    for (out, part) in
+        [("pictures", "pair-001.png: is there already"), ("map.png", "map.png: this folder cannot be made")]
+    {
+        let (answer, errors) = refused(&folder, &format!("d/a.ppm d/c.pnm d/b.ppm -o {out} {LIST}"));
+        assert_eq!((rows(&answer, "copy").len(), rows(&answer, "differ")[0].len()), (1, 6), "{answer}");
+        assert!(errors.contains(part) && errors.lines().count() == 1, "{errors}");
+    }
     said(&folder, 0, &format!("d/a.ppm d/b.ppm -o pictures --force {LIST}"));
 }
 

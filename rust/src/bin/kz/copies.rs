@@ -57,15 +57,12 @@ pub fn run(given: &Given) -> Result<(), Fail> {
     let prints = prints(&mut sweeps, &mut found);
     let mut compared = Compared::new(&prints, &mut sweeps);
     compare(&mut compared, &mut found, if given.all { usize::MAX } else { PAIRS });
-    if let Some(out) = given.path("-o") {
-        pictures(&mut compared, &mut found, &out, given.force, &settings)?;
-    }
-    for (index, fail) in compared.lost {
-        found.shapes[index] = None;
-        found.gathered.refused.push(fail);
-    }
+    // What was found is said, also where its pictures cannot be written.
+    let painted = given.path("-o").map(|out| pictures(&mut compared, &mut found, &out, given.force, &settings));
+    found.gathered.refused.extend(compared.lost.into_values());
     found.gathered.warn();
     answer(format_args!("{}", if given.json { found.json() } else { found.words() }))?;
+    painted.unwrap_or(Ok(()))?;
     found.status()
 }
 
