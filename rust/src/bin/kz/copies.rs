@@ -34,9 +34,9 @@ copies: they are said with how many differ and the first place that does, rows
 and columns from 0. These are the 100 nearest pairs, and every one with --all.
 With -o each such pair has a picture in OUT: the first of the two, resized,
 with the patches that differ in red. --json gives the answer as a JSON text.
-It holds 8 bytes a patch and the floats of two sweeps. What cannot be read is
-named, and the others are still compared. Exit status 0 no copies, 3 copies
-found, 1 the answer is not whole or cannot be said, 2 no command line of kz.
+It holds 8 bytes a patch, 32 a pair and the floats of two sweeps. What cannot
+be read is named, and the others are still compared. Exit status 0 no copies, 3
+copies found, 1 the answer is not whole or cannot be said, 2 no command line.
 ";
 
 /// So many pairs are said without --all.

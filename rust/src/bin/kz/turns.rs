@@ -211,3 +211,40 @@ impl Tally {
 const ROOM: &str = "make room, or give another -o, and go on with --skip-existing";
 const MEND: &str = "mend that, and go on with --skip-existing";
 const SKIP: &str = "--skip-existing takes such files for done";
+
+#[cfg(test)]
+mod tests {
+    use super::*;
+    use std::thread;
+    use std::time::Duration;
+
+    /// Lines are written in the order of the list, whoever comes first; after one that cannot be, none is.
+    #[test]
+    fn lines_in_order() {
+        let folder = std::env::temp_dir().join(format!("kz-turns-{}", std::process::id()));
+        std::fs::create_dir_all(&folder).unwrap();
+        let log = Log::new(&folder.join("log"), true).ok();
+        let turns = Turns::new(4, log, Alive::new(4), Box::new(std::io::sink()));
+        let order = Mutex::new(vec![]);
+        let write = |index: usize| {
+            turns.log(index, |_| {
+                order.lock().unwrap().push(index);
+                if index == 2 {
+                    return Err(Fail::Unlogged("full".into()));
+                }
+                Ok(())
+            })
+        };
+        thread::scope(|scope| {
+            for index in [3, 2, 1] {
+                scope.spawn(move || assert_eq!(write(index).is_ok(), index == 1));
+                thread::sleep(Duration::from_millis(20));
+            }
+            assert!(order.lock().unwrap().is_empty() && write(0).is_ok());
+        });
+        assert_eq!(*order.lock().unwrap(), [0, 1, 2]);
+        let (_, log, lines) = turns.ended();
+        assert_eq!((log.is_none(), lines), (true, 2));
+        std::fs::remove_dir_all(&folder).unwrap();
+    }
+}
