@@ -9,6 +9,7 @@ use crate::progress::Progress;
 use crate::shown::shown;
 use crate::table::table;
 use crate::{answer, room};
+use kyzgultam::{Pool, Refusal};
 use std::fs;
 use std::os::unix::fs::MetadataExt;
 use std::path::{Path, PathBuf};
@@ -30,7 +31,7 @@ name. SWEEP itself is left out, by whatever name it is met, and a file with two
 names is taken once. A sweep of another shape, so of another grid or text size,
 has no such mean: it is not compared, and the last line counts such sweeps.
 Token vectors say neither weights nor rule, mean or deviation: compare what was
-encoded by one choice. It holds the floats of two sweeps.
+encoded by one choice. It holds the floats of three sweeps, two in a pool.
 
 What cannot be read is named, and the others are still compared. Exit status 0
 listed, 1 something could not be read, 2 not a command line of kz.
@@ -69,20 +70,22 @@ struct Near<'a> {
 impl<'a> Near<'a> {
     fn find(sweep: &'a PathBuf, gathered: Gathered) -> Result<Near<'a>, Fail> {
         let tokens = Tokens::open(sweep)?;
-        let mut own = vec![];
-        floats(&tokens, &mut own)?;
+        let (mut slice, mut buffer) = (vec![], vec![]);
+        fit(&mut slice, 2 * tokens.len(), sweep)?;
+        let mut pool = Pool::new(&mut slice);
+        floats(&tokens, &mut buffer)?;
+        pool.add(OWN, &buffer).map_err(refused(sweep))?;
         let mut near = Near { sweep, shape: tokens.shape, gathered, cosines: vec![], others: 0, itself: false };
         let place = |file: &Path| fs::metadata(file).map(|found| (found.dev(), found.ino())).ok();
         let (itself, files) = (place(sweep), near.gathered.files.clone());
         let mut progress = Progress::new(files.len());
-        let mut buffer = vec![];
         for (index, file) in files.iter().enumerate() {
             progress.at(file.as_os_str());
             if place(file) == itself {
                 near.itself = true;
                 continue;
             }
-            match compared(file, near.shape, &own, &mut buffer) {
+            match compared(file, near.shape, &mut pool, &mut buffer) {
                 Ok(Some(cosine)) => near.cosines.push((index, cosine)),
                 Ok(None) => near.others += 1,
                 Err(fail) => near.gathered.refused.push(fail),
@@ -131,19 +134,36 @@ impl<'a> Near<'a> {
     }
 }
 
-/// The mean cosine of a file beside the sweep's own floats; None where it has another shape.
-fn compared(file: &PathBuf, shape: [usize; 3], own: &[f32], buffer: &mut Vec<f32>) -> Result<Option<f64>, Fail> {
+/// The keys under which the pool holds the sweep and the one that is beside it.
+const OWN: u64 = 0;
+const BESIDE: u64 = 1;
+
+/// The mean cosine of a file beside the sweep that the pool holds; None where it has another shape.
+fn compared(file: &PathBuf, shape: [usize; 3], pool: &mut Pool, buffer: &mut Vec<f32>) -> Result<Option<f64>, Fail> {
     let tokens = Tokens::open(file)?;
     if tokens.shape != shape {
         return Ok(None);
     }
     floats(&tokens, buffer)?;
+    pool.add(BESIDE, buffer).map_err(refused(file))?;
+    let own = pool.find(OWN).map_err(refused(file))?;
     // A mean of -0 is written as 0.
-    Ok(Some(mean_cosine(own, buffer, shape[2]) + 0.0))
+    let cosine = mean_cosine(own, pool.find(BESIDE).map_err(refused(file))?, shape[2]) + 0.0;
+    pool.drop_key(BESIDE).map_err(refused(file))?;
+    Ok(Some(cosine))
+}
+
+/// No call of the pool refuses what stands here.
+fn refused(file: &Path) -> impl Fn(Refusal) -> Fail + '_ {
+    move |refusal| Fail::call(file, refusal, "report it")
 }
 
 fn floats(tokens: &Tokens, buffer: &mut Vec<f32>) -> Result<(), Fail> {
-    let room = room::fit(buffer, tokens.len(), "the token vectors", "try it again where there is more");
-    room.map_err(|words| Fail::file(tokens.file, words))?;
+    fit(buffer, tokens.len(), tokens.file)?;
     tokens.read(buffer)
+}
+
+fn fit(buffer: &mut Vec<f32>, len: usize, file: &Path) -> Result<(), Fail> {
+    let room = room::fit(buffer, len, "the token vectors", "try it again where there is more");
+    room.map_err(|words| Fail::file(file, words))
 }
