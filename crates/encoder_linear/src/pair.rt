@@ -7,7 +7,7 @@ ghost use Rattle.buffers.specs.Rows.{tab};
 ghost use Rattle.encoder_linear.specs.Linear.{columnOf};
 ghost use Rattle.encoder_linear.specs.inner.Weighed.{weighedPair};
 ghost use Rattle.encoder_linear.specs.inner.Room.{weighPairFits};
-ghost use Rattle.encoder_linear.specs.inner.Fits.{WideFits, WiderFits, WeighPairFits};
+ghost use Rattle.encoder_linear.specs.inner.Fits.{WideFits, WeighPairFits};
 use crate::lanes::Four;
 use crate::lanes::Two;
 use crate::lanes::add_products;
@@ -19,7 +19,7 @@ use buffers::part;
 
 // Sixteen sums by the weights p and sixteen by r: those at the places o to o + 15.
 pub(crate) fn wide_pair(p: &[f32], r: &[f32], v: &[f32], o: usize, dim: usize) -> Two
-    requires { ⌜ WideFits (length (now p)) (length (now r)) (length (now v)) o dim ⌝ }
+    requires { ⌜ WideFits 16 (length (now p)) (length (now r)) (length (now v)) o dim ⌝ }
     ensures { λ x. ⌜ (x .first ≡ tab 16 (λ l. columnOf (length (now (p .entry))) dim (o + l) (now (p .entry)) (now (v .entry))))
         × (x .second ≡ tab 16 (λ l. columnOf (length (now (p .entry))) dim (o + l) (now (r .entry)) (now (v .entry)))) ⌝ }
 {
@@ -45,7 +45,7 @@ pub(crate) fn wide_pair(p: &[f32], r: &[f32], v: &[f32], o: usize, dim: usize) -
 
 // Thirty-two sums by the weights p and thirty-two by r: those at the places o to o + 31, sixteen and sixteen.
 pub(crate) fn wider_pair(p: &[f32], r: &[f32], v: &[f32], o: usize, dim: usize) -> Four
-    requires { ⌜ WiderFits (length (now p)) (length (now r)) (length (now v)) o dim ⌝ }
+    requires { ⌜ WideFits 32 (length (now p)) (length (now r)) (length (now v)) o dim ⌝ }
     ensures { λ x. ⌜ (x .first ≡ tab 16 (λ l. columnOf (length (now (p .entry))) dim (o + l) (now (p .entry)) (now (v .entry))))
         × (x .second ≡ tab 16 (λ l. columnOf (length (now (p .entry))) dim (o + 16 + l) (now (p .entry)) (now (v .entry))))
         × (x .third ≡ tab 16 (λ l. columnOf (length (now (p .entry))) dim (o + l) (now (r .entry)) (now (v .entry))))

@@ -13,7 +13,7 @@ pub record TwoFit (a b : List Float) (lent lenw lenv : ℕ) : Type 0 where
   pub tin : lenw * 16 ≤ lent
   pub same : lenv ≡ lenw
 
--- lanes of a, b, c and d, by four
+-- lanes of a, b, c and d, by four rows
 pub record FourFit (a b c d : List Float) (lent lenw lenv lenu lenp : ℕ) : Type 0 where
   pub first : length a ≡ 16
   pub second : length b ≡ 16
@@ -145,17 +145,11 @@ pub record WeighFits (len : ℕ) (row v out t dim hd o : ℕ) : Type 0 where
   pub rowout : Apart row t out hd
   pub vout : Apart v (t * dim) out hd
 
--- two rows of weights by as many rows of dim, sixteen places from o on
-pub record WideFits (lenp lenr lenv o dim : ℕ) : Type 0 where
+-- two rows of weights by as many rows of dim, m places from o on
+pub record WideFits (m lenp lenr lenv o dim : ℕ) : Type 0 where
   pub same : lenr ≡ lenp
   pub vIs : lenv ≡ lenp * dim
-  pub places : o + 16 ≤ dim
-
--- thirty-two places
-pub record WiderFits (lenp lenr lenv o dim : ℕ) : Type 0 where
-  pub same : lenr ≡ lenp
-  pub vIs : lenv ≡ lenp * dim
-  pub places : o + 32 ≤ dim
+  pub places : o + m ≤ dim
 
 -- two rows of weights, at a and at b, with sums at x and at y
 pub record WeighPairFits (len : ℕ) (a b v x y t dim hd o : ℕ) : Type 0 where
