@@ -24,7 +24,7 @@ use Rattle.number_floats.proofs.narrow.Wide.{m, top, m-is, wide}
 use Rattle.number_floats.proofs.narrow.Meets.{narrow-meets, narrowed-unique}
 use Rattle.number_exp_lanes.specs.inner.Near.{normal}
 use Rattle.buffers.proofs.Lists.{and-left, and-right}
-use Rattle.number_exp_lanes.proofs.straight.Powers.{below-top}
+use Rattle.number_floats.proofs.whole.Closest.{below-top}
 
 -- ---- patterns of numbers above zero are in the numbers' order
 no-sign : (v : Float) (s : Bool) (a c : ℕ) → T (positive v) → HasValue v s a c → s ≡ false

@@ -1,48 +1,21 @@
 -- A whole number k added to 2 ^ 52 + 1023: the sum's pattern ends in the exponent's field of 2 ^ k. Assumes nothing.
 use mathlib.Core.Path.{_≡_, refl, sym, ap, _∙_, subst}
-use mathlib.Core.Logic.{inl, inr}
 use mathlib.Core.Bool.{Bool, true, false, not, true≢false}
 use Prim.Native.Nat.{ℕ, _+_, _-_, _*_, _/_, _%_, _^_, _≤_, _<_, min}
-use native.Mathlib.Nat.{mul-one, mul-right-comm, mul-div-cancel, mod-eq-of-lt, min-eq-left}
+use native.Mathlib.Nat.{mul-one, mul-div-cancel, mod-eq-of-lt, min-eq-left}
 use native.Mathlib.Omega.{arith}
-use borrow.Author.Tests.{lt-ltb, le-leb}
+use borrow.Author.Tests.{lt-ltb}
 use lib.IntN.{ℤ}
 use lib.Arith.{digits-mod}
-use lib.Dec.{T, leb, lit<}
+use lib.Dec.{T}
 use lib.Ieee.{Float, nan, inf, fin, binary64, up, down, minus, neg, round, sum, add, isNan, nanBits, ofBits, toBits, toUnsigned}
-use lib.Ieee.Fits.{down-pos, round-fits}
+use lib.Ieee.Fits.{down-pos}
 use lib.Ieee.Exact.{HasValue}
 use lib.Ieee.Back.{round-whole}
-use Rattle.number_floats.proofs.Ways.{lt-or-ge}
-use Rattle.number_floats.proofs.Sizes.{size-same, at-kept}
-use Rattle.number_floats.proofs.Values.{pattern-of-number}
+use Rattle.number_floats.proofs.whole.Closest.{number, whole-bits}
 use Rattle.number_exp_tanh.specs.Exp.{twoTo}
 use Rattle.number_exp_tanh.proofs.exp.Twos.{minus-same, power-bits, power-no-nan}
 use Rattle.number_exp_lanes.proofs.straight.Wholes.{add-whole}
-
-number : (z : Float) (s : Bool) (a : ℕ) → HasValue z s a 1 → T (not (isNan z))
-unfolding isNan
-number nan s a v = absurd v
-number (inf t) s a v = tt
-number (fin t m e) s a v = tt
-
--- ---- the pattern of a whole number from 2 ^ 52 on
-scaled : (x : Float) (s : Bool) (a g : ℕ) → HasValue x s a 1 → HasValue x s (a * g) g
-scaled nan s a g v = v
-scaled (inf t) s a g v = v
-scaled (fin t m e) s a g v = (v .0, ap (λ (z : ℕ). z * g) (sym (mul-one (m * up e)) ∙ v .1) ∙ mul-right-comm a (down e) g)
-
-pub below-top : (b : ℕ) → leb (2 ^ 63) b ≡ false → b < 2 ^ 63
-below-top b h = elim (lt-or-ge b (2 ^ 63)) [ inl l ↦ l | inr g ↦ absurd (true≢false (sym (le-leb (2 ^ 63) b g) ∙ h)) ]
-
-whole-bits : (w : ℕ) → 2 ^ 52 ≤ w → w < 2 ^ 53 → toBits binary64 (round binary64 false w 1) ≡ 1074 * 2 ^ 52 + w
-whole-bits w lo hi =
-    let x = round binary64 false w 1 in
-    let b = toBits binary64 x in
-    let v : HasValue x false w 1 = round-whole binary64 false w (omega arith) in
-    let p = pattern-of-number binary64 x false (w * 2 ^ 1074) (round-fits binary64 false w 1) (scaled x false w (2 ^ 1074) v) in
-    sym (mod-eq-of-lt (below-top b (p .0)))
-    ∙ size-same (2 ^ 52) (lit< tt) (b % 2 ^ 63) (1074 * 2 ^ 52 + w) (p .1 ∙ sym (at-kept (2 ^ 52) 1074 w (lit< tt) (inr lo) (omega arith)))
 
 -- ---- k is ±a
 abbrev pub base : Float

@@ -39,7 +39,7 @@ half-of (fin false k d) w W v =
     (round-exact binary64 false (k * up d * 1) (down d * 2) w 1073 (mul-pos (down-pos d) (lit< tt)) W (lt-of-lt-of-le (shl-lt 53 1073 W) (lit≤ tt)) (twice (k * up d) w (down d) (2 ^ 1073) (2 ^ 1074) refl e))
 
 -- ---- a number a / c against w / 2
-below-half : (h : Float) (w m : ℕ) (e : ℤ) → HasValue h false w 2 → lt (fin false m e) h ≡ true → m * up e * 2 < w * down e
+pub below-half : (h : Float) (w m : ℕ) (e : ℤ) → HasValue h false w 2 → lt (fin false m e) h ≡ true → m * up e * 2 < w * down e
 unfolding lt
 below-half nan w m e v t = absurd v
 below-half (inf s) w m e v t = absurd v
@@ -49,7 +49,7 @@ below-half (fin false k d) w m e v t =
     let x : k * up d * 2 * down e ≡ w * down d * down e = ap (λ (n : ℕ). n * down e) (v .1) in
     lt-of-mul-lt-mul-right (down d) (omega arith)
 
-not-below-half : (h : Float) (w m : ℕ) (e : ℤ) → HasValue h false w 2 → lt (fin false m e) h ≡ false → w * down e ≤ m * up e * 2
+pub not-below-half : (h : Float) (w m : ℕ) (e : ℤ) → HasValue h false w 2 → lt (fin false m e) h ≡ false → w * down e ≤ m * up e * 2
 unfolding lt
 not-below-half nan w m e v t = absurd v
 not-below-half (inf s) w m e v t = absurd v
