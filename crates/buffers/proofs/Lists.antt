@@ -93,6 +93,13 @@ module _ {A : Type 0} where
       ∙ ap (λ (l : List A). l ++ f (n + m)) (rows-add n m f)
       ∙ append-assoc (rows n f) (rows m (λ j. f (n + j))) (f (n + m))
 
+  -- a turn that writes k pieces at once
+  pub rows-more : (f : ℕ → List A) (m : ℕ) → ((i : ℕ) → length (f i) ≡ m) → (s t u : List A) (y o r k : ℕ) → t ≡ put s y (rows r f) → o ≡ y + r * m → u ≡ put t o (rows k (λ i. f (r + i))) → u ≡ put s y (rows (r + k) f)
+  rows-more f m len s t u y o r k e g h =
+      h ∙ ap (λ (l : List A). put l o (rows k (λ i. f (r + i)))) e
+      ∙ put-append s y (rows r f) (rows k (λ i. f (r + i))) o (g ∙ ap (λ (n : ℕ). y + n) (sym (length-rows f m len r)))
+      ∙ ap (put s y) (sym (rows-add r k f))
+
   -- n pieces of m each, of which nothing is known behind them: how long they are together, and the one at its place
   pub length-pieces : (n m : ℕ) (f : ℕ → List A) → ((i : ℕ) → i < n → length (f i) ≡ m) → length (rows n f) ≡ n * m
   unfolding rows

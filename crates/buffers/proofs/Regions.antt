@@ -32,6 +32,14 @@ module _ {A : Type 0} where
   unfolding put
   put-one s at y = refl
 
+  -- three stores are one write of three
+  pub put-three : (s : List A) (at : ℕ) (x y z : A) → set (set (set s at x) (at + 1) y) (at + 2) z ≡ put s at (x ∷ y ∷ z ∷ [])
+  unfolding put
+  put-three s at x y z =
+      let e : at + 2 ≡ suc (at + 1) = omega arith in
+      let g : at + 1 ≡ suc at = omega arith in
+      ap (λ (i : ℕ). set (set (set s at x) (at + 1) y) i z) e ∙ ap (λ (i : ℕ). set (set (set s at x) i y) (suc i) z) g
+
   -- one write after another, right behind it, is one write
   pub put-append : (s : List A) (at : ℕ) (ys zs : List A) (n : ℕ) → n ≡ at + length ys → put (put s at ys) n zs ≡ put s at (ys ++ zs)
   unfolding put

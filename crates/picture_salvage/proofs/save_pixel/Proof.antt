@@ -1,20 +1,10 @@
 -- `picture_salvage::save_pixel` meets its contract: three stores are one write of three bytes. Assumes nothing.
-use mathlib.Core.Path.{_≡_, ap, _∙_}
-use mathlib.Core.List.{List, [], _∷_}
-use Prim.Native.Nat.{ℕ, suc, _+_}
 use native.Mathlib.Omega.{arith}
 use borrow.Author.Needs.{needs}
-use lib.ListN.{set, length-set}
-use Rattle.buffers.specs.Region.{put}
+use lib.ListN.{length-set}
+use Rattle.buffers.proofs.Regions.{put-three}
 use Rattle.picture_salvage.proofs.save_pixel.Statement.{statement}
 use Rattle.picture_salvage.proofs.save_pixel.Tie as tie
-
-put-three : (s : List ℕ) (at x y z : ℕ) → set (set (set s at x) (at + 1) y) (at + 2) z ≡ put s at (x ∷ y ∷ z ∷ [])
-unfolding put
-put-three s at x y z =
-    let e : at + 2 ≡ suc (at + 1) = omega arith in
-    let g : at + 1 ≡ suc at = omega arith in
-    ap (λ (i : ℕ). set (set (set s at x) (at + 1) y) i z) e ∙ ap (λ (i : ℕ). set (set (set s at x) i y) (suc i) z) g
 
 saved-byte-requires : tie.Need-saved-byte-requires
 saved-byte-requires c κs = search needs
