@@ -12,6 +12,7 @@ use Rattle.number_floats.proofs.Unique.{one}
 use Rattle.picture_samples.specs.Samples.{channelsAllowed, value, entry, sampleTable}
 use Rattle.picture_resize.specs.declared.Near.{Near}
 use Rattle.picture_resize.specs.Resize.{near, blend, toByte, resizedByte}
+use Rattle.picture_resize.specs.inner.Weighed.{weighed}
 use Rattle.picture_patches.specs.Resized.{patchesOver}
 use Rattle.picture.specs.Part.{patchPart}
 use Rattle.picture.specs.Preprocess.{preprocessed, patchesOut}
@@ -43,6 +44,9 @@ patches-unique k rgb h w th tw p old x y = one _
 
 pub blend-unique : (v00 v01 v10 v11 fy fx : Float) (a b : ℕ) → a ≡ toByte (blend v00 v01 v10 v11 fy fx) → b ≡ toByte (blend v00 v01 v10 v11 fy fx) → a ≡ b
 blend-unique v00 v01 v10 v11 fy fx a b = one _
+
+pub weighed-unique : (a0 b0 a1 b1 g f : Float) (a b : ℕ) → a ≡ toByte (weighed a0 b0 a1 b1 g f) → b ≡ toByte (weighed a0 b0 a1 b1 g f) → a ≡ b
+weighed-unique a0 b0 a1 b1 g f a b = one _
 
 pub near-unique : (from to i : ℕ) (a b : Near) → a ≡ near from to i → b ≡ near from to i → a ≡ b
 near-unique from to i a b = one _

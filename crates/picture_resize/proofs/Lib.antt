@@ -1,3 +1,5 @@
 pub mod Wholes
 pub mod Same
 pub mod Nears
+pub mod Rounds
+pub mod Ends

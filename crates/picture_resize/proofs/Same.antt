@@ -1,21 +1,17 @@
 -- A picture that is not resized keeps its bytes. Assumes nothing.
 use mathlib.Core.Path.{_≡_, refl, sym, ap, _∙_, subst}
-use mathlib.Core.Bool.{Bool, true, false, cond, true≢false}
-use borrow.Author.Tests.{ltb-true}
-use lib.Ieee.Fits.{down-pos}
+use mathlib.Core.Bool.{Bool, cond}
 use lib.Ieee.Casts.{toUnsigned-lt}
 use mathlib.Core.List.{List}
-use Prim.Native.Nat.{ℕ, zero, suc, _+_, _*_, _-_, _/_, _%_, _^_, _≤_, _<_, min}
-use native.Mathlib.Nat.{mul-one, min-eq-left, sub-self, mul-add-div-right, div-eq-of-lt, add-zero, mul-div-cancel, div-add-mod', div-lt-iff-lt-mul}
+use Prim.Native.Nat.{ℕ, _+_, _*_, _-_, _^_, _≤_, _<_, min}
+use native.Mathlib.Nat.{mul-one, min-eq-left, sub-self}
 use native.Mathlib.Omega.{arith}
-use lib.Dec.{lit≤, lit<}
+use lib.Dec.{lit≤}
 use lib.ListN.{length, getD}
-use lib.Ieee.{Float, nan, inf, fin, up, down, binary64, add, sub, mul, div, lt, ofInt, ofBits, toUnsigned}
-use Rattle.number_floats.specs.Whole.{floor}
+use lib.Ieee.{Float, binary64, add, sub, mul, lt, ofBits, toUnsigned}
 use Rattle.number_floats.specs.Whole.{away}
-use Rattle.number_floats.specs.inner.Bounds.{Small}
 use Rattle.picture_resize.specs.declared.Near.{Near}
-use Rattle.buffers.specs.Rows.{tab, rows}
+use Rattle.buffers.specs.Rows.{tab}
 use Rattle.buffers.specs.Lent.{Bytes}
 use Rattle.picture_resize.specs.Resize.{whole, place, lowOf, nearTo, near, blend, clamp, toByte, pixel, mix, resizedAt}
 use Rattle.number_floats.specs.Constants.{one64}
@@ -91,18 +87,6 @@ byte-at x b h e = ap (λ (f : Float). toUnsigned 8 (clamp f)) e ∙ clamp-same b
 
 byte-same : (b : ℕ) → b < 256 → toByte (whole b) ≡ b
 byte-same b h = byte-at (whole b) b h (away-is (whole b) b (is-whole b (omega arith)))
-
--- ---- a value above 0 and below 255 is rounded by its whole part and the middle above it
-pub small : (x : Float) → lt (ofBits binary64 0) x ≡ true → lt x (ofBits binary64 0x406F_E000_0000_0000) ≡ true → Small x × (toUnsigned 64 x < 255)
-unfolding lt ofBits toUnsigned
-small nan h l = absurd (true≢false (sym l))
-small (inf true) h l = absurd (true≢false (sym h))
-small (inf false) h l = absurd (true≢false (sym l))
-small (fin true m e) h l = absurd (true≢false (sym h))
-small (fin false m e) h l =
-    let g : m * up e < 255 * down e = omega (arith, ltb-true (m * up e * 1) (255 * 1 * down e) l) in
-    let q : m * up e / down e < 255 = div-lt-iff-lt-mul (down-pos e) .1 g in
-    (omega (arith, g), omega arith)
 
 -- ---- so a byte of the picture stays
 pub pixel-same : (rgb : List ℕ) (h w y x c : ℕ) → Bytes rgb → h ≤ 2 ^ 53 → w ≤ 2 ^ 53 → y < h → x < w → resizedAt rgb h w h w y x c ≡ pixel rgb w y x c

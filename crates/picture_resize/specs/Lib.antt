@@ -1,1 +1,2 @@
 pub mod Resize
+pub mod inner

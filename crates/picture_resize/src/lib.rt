@@ -1,7 +1,8 @@
 // The numbers of the bilinear resize: where an index lies in the source, and the byte of four neighbours.
 ghost use mathlib.Core.Path.{_≡_};
 ghost use Prim.Native.Nat.{_-_, min};
-ghost use Rattle.picture_resize.specs.Resize.{whole, near, blend, clamp, toByte};
+ghost use Rattle.picture_resize.specs.Resize.{whole, near, blend, toByte};
+ghost use Rattle.picture_resize.specs.inner.Weighed.{weighed, held, Held};
 
 // Where an index of the target lies in the source: two neighbours, and how far from the first.
 pub struct Near {
@@ -50,41 +51,44 @@ pub fn near_of(from: usize, to: usize, i: usize) -> Near
     }
 }
 
-fn clamp_of(x: f64) -> f64
-    ensures { λ r. ⌜ r ≡ clamp x ⌝ }
+// x held from 0 to 255; 0 where it is no number.
+fn held_of(x: f64) -> f64
+    ensures { λ r. ⌜ r ≡ held x ⌝ }
 {
-    if x < 0.0 {
-        return 0.0;
-    }
-    if 255.0 < x {
-        return 255.0;
-    }
-    x
+    let low = if 0.0 < x { x } else { 0.0 };
+    if low < 255.0 { low } else { 255.0 }
 }
 
-// Rounded half away from zero, clamped, as a byte.
-fn byte_of(x: f64) -> u8
-    ensures { λ r. ⌜ r ≡ toByte x ⌝ }
+// Rounded half away from zero, as a byte, without a branch: adding 2^52 leaves the nearest whole number in the low bits, a
+// tie at the even one, which lies a half below z where it is not the one away from zero.
+fn near_byte(z: f64) -> u8
+    requires { ⌜ Held z ⌝ }
+    ensures { λ r. ⌜ r ≡ toByte z ⌝ }
 {
-    if 0.0 < x {
-        if x < 255.0 {
-            let n = std::num::truncating_f64_to_u64(x);
-            let m = (2 * n + 1) as u32;
-            let under = (x < (m as f64) * 0.5) as u64;
-            return (n + 1 - under) as u8;
-        }
-    }
-    number_floats::whole::f64_to_u8(clamp_of(number_floats::whole::round_f64(x)))
+    let s = z + 4503599627370496.0;
+    let t = s - 4503599627370496.0;
+    let up = !(z < t + 0.5) as u64;
+    ((f64::to_bits(s) + up) % 256) as u8
+}
+
+// The resized byte of two neighbours of an upper row and two of a lower one, weighed across already; g and f are the rows'
+// weights.
+pub fn weighed_byte(a0: f64, b0: f64, a1: f64, b1: f64, g: f64, f: f64) -> u8
+    ensures { λ r. ⌜ r ≡ toByte (weighed a0 b0 a1 b1 g f) ⌝ }
+{
+    near_byte(held_of(a0 * g + b0 * g + a1 * f + b1 * f))
 }
 
 // The resized byte of four neighbours, weighed.
 pub fn blend_byte(v00: f64, v01: f64, v10: f64, v11: f64, fy: f64, fx: f64) -> u8
     ensures { λ r. ⌜ r ≡ toByte (blend v00 v01 v10 v11 fy fx) ⌝ }
 {
-    byte_of(
-        v00 * (1.0 - fx) * (1.0 - fy)
-            + v01 * fx * (1.0 - fy)
-            + v10 * (1.0 - fx) * fy
-            + v11 * fx * fy,
+    weighed_byte(
+        v00 * (1.0 - fx),
+        v01 * fx,
+        v10 * (1.0 - fx),
+        v11 * fx,
+        1.0 - fy,
+        fy,
     )
 }
