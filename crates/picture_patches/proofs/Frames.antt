@@ -31,6 +31,7 @@ framed len h w th tw p room b v f i =
       wide-high = t .3;
       target-tall = f .tall;
       target-wide = f .wide;
+      patch-low = f .patch-low;
       patch-high = f .patch-high;
       grid-tall = div-mul-le-self th p;
       grid-wide = div-mul-le-self tw p;

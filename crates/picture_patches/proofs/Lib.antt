@@ -3,3 +3,5 @@ pub mod Views
 pub mod Stored
 pub mod Fits
 pub mod Frames
+pub mod Strips
+pub mod Lines

@@ -1,6 +1,6 @@
 // The patches of a picture resized, and of a view of it: each patch is three channels of p rows of p samples.
-use crate::nest::framed_patches;
 use crate::rows::Frame;
+use crate::strip::framed_patches;
 use picture_limits::View;
 use picture_limits::settings::sides_allowed;
 use picture_limits::settings::view_inside;

@@ -4,4 +4,6 @@ mod nest;
 pub mod pixel;
 mod places;
 mod rows;
+mod strip;
 mod view;
+mod weigh;

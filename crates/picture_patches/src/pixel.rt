@@ -17,7 +17,7 @@ fn pixel_of(rgb: &[u8], w: usize, y: usize, x: usize, c: usize) -> f64
 }
 
 // The resized byte of two neighbours down and two across, in a channel.
-pub(crate) fn mix_of(rgb: &[u8], w: usize, y: Near, x: Near, c: usize) -> u8
+fn mix_of(rgb: &[u8], w: usize, y: Near, x: Near, c: usize) -> u8
     requires { ⌜ ((y .low * w + w) * 3 ≤ length (now rgb)) × ((y .high * w + w) * 3 ≤ length (now rgb)) × (x .low < w) × (x .high < w) × (c < 3) ⌝ }
     ensures { λ r. ⌜ r ≡ mix (now (rgb .entry)) w y x c ⌝ }
 {

@@ -9,7 +9,6 @@ use Rattle.picture_limits.specs.declared.View.{View}
 use Rattle.picture_patches.specs.declared.rows.Frame.{Frame}
 use Rattle.picture_resize.specs.Resize.{resizedAt}
 use Rattle.picture_samples.specs.Samples.{value}
-use Rattle.picture_samples.specs.inner.Clean.{Clean}
 use Rattle.picture_patches.specs.Viewed.{viewAt}
 use Rattle.picture_patches.specs.inner.Places.{columns, Placed}
 
@@ -36,6 +35,7 @@ pub record Framed (f : Frame) (len : ℕ) : Type 0 where
   pub wide-high : f .w ≤ 8192
   pub target-tall : f .th ≤ columns
   pub target-wide : f .tw ≤ columns
+  pub patch-low : 0 < f .p
   pub patch-high : f .p ≤ 32
   pub grid-tall : f .gh * f .p ≤ f .th
   pub grid-wide : f .gw * f .p ≤ f .tw
@@ -43,9 +43,23 @@ pub record Framed (f : Frame) (len : ℕ) : Type 0 where
   pub grid-wide-high : f .gw ≤ columns
   pub plain : f .plain ≡ true → (f .view .top + f .view .height ≤ f .h) × (f .view .left + f .view .width ≤ f .w)
 
--- and the table and the neighbours are in place
-pub record Ready (f : Frame) (len : ℕ) (t : List ℕ) (lows : List ℕ) (parts : List Float) : Type 0 where
+-- and the neighbours of rows and columns are in place
+pub record Ready (f : Frame) (len : ℕ) (lows : List ℕ) (parts : List Float) : Type 0 where
   pub frame : Framed f len
-  pub table : Clean t
   pub down : Placed (f .h) (f .th) 0 lows parts
   pub across : Placed (f .w) (f .tw) columns lows parts
+
+-- a strip of m patches of side p, as a view of a picture of 32 rows of 256 pixels
+abbrev pub stripFrame : ℕ → ℕ → Frame
+stripFrame p m =
+    record {
+      h = 32;
+      w = 256;
+      th = p;
+      tw = m * p;
+      p = p;
+      gh = 1;
+      gw = m;
+      plain = true;
+      view = record { top = 0; left = 0; height = p; width = m * p };
+    }

@@ -9,52 +9,52 @@ use Rattle.buffers.specs.Region.{put}
 use Rattle.buffers.proofs.Lists.{fit, rows-step}
 use Rattle.picture_samples.specs.Samples.{entry}
 use Rattle.picture_patches.specs.Patches.{patchLine}
-use Rattle.picture_patches.specs.inner.Frame.{seen}
+use Rattle.picture_patches.specs.inner.Frame.{viewed}
 use Rattle.picture_limits.proofs.Places.{turn, square}
 use Rattle.picture_patches.proofs.Patches.{length-line}
 use Rattle.picture_patches.proofs.nest.all_patches.Statement.{statement}
 use Rattle.picture_patches.proofs.nest.all_patches.Tie as tie
 
 abbrev Inv-loop : tie.InvT-loop
-Inv-loop rgb f out₀ t lows parts p gh gw n a₀ r₀ o₀ out a r o =
-    (a ≤ gh) × (r ≡ a * p) × (o ≡ 0 + a * n) × (length out ≡ length out₀) × (out ≡ put out₀ 0 (rows a (λ k. patchLine p gw (seen (entry t) f rgb) (k * p))))
+Inv-loop rgb f out₀ t p gh gw n a₀ r₀ o₀ out a r o =
+    (a ≤ gh) × (r ≡ a * p) × (o ≡ 0 + a * n) × (length out ≡ length out₀) × (out ≡ put out₀ 0 (rows a (λ k. patchLine p gw (viewed (entry t) f rgb) (k * p))))
 
 abbrev μ-loop : tie.MeasureT-loop
-μ-loop rgb f out₀ t lows parts p gh gw n a₀ r₀ o₀ out a r o = gh - a
+μ-loop rgb f out₀ t p gh gw n a₀ r₀ o₀ out a r o = gh - a
 
 mul-n : tie.Need-mul-n Inv-loop μ-loop
-mul-n c = omega (arith, square (c .before .before .before .before .args .f .p) (c .before .before .before .before .pre .0 .frame .patch-high))
+mul-n c = omega (arith, square (c .before .before .args .f .p) (c .before .before .pre .0 .patch-high))
 
 mul-n-2 : tie.Need-mul-n-2 Inv-loop μ-loop
-mul-n-2 c = omega (arith, square (c .before .before .before .before .args .f .p) (c .before .before .before .before .pre .0 .frame .patch-high))
+mul-n-2 c = omega (arith, square (c .before .before .args .f .p) (c .before .before .pre .0 .patch-high))
 
 mul-n-3 : tie.Need-mul-n-3 Inv-loop μ-loop
-mul-n-3 c = let s = c .before .before .before .before in let p = s .args .f .p in let q = square p (s .pre .0 .frame .patch-high) in omega (arith, mul-le-mul-right (3 * (p * p)) (s .pre .0 .frame .grid-wide-high))
+mul-n-3 c = let p = c .before .before .args .f .p in let q = square p (c .before .before .pre .0 .patch-high) in omega (arith, mul-le-mul-right (3 * (p * p)) (c .before .before .pre .0 .grid-wide-high))
 
 loop-holds : tie.Need-loop-holds Inv-loop μ-loop
 unfolding put rows
 loop-holds c = (omega arith, omega arith, omega arith, refl, refl)
 
 patch-line-requires : tie.Need-patch-line-requires Inv-loop μ-loop
-patch-line-requires c κs = let s = c .before .before .before .before .before .before .before in let g = s .pre in let l = c .before .before .loop .inv in let h = c .before .loop-test .taken in let p = s .args .f .p in (g .0, omega (arith, g .0 .frame .grid-tall, l .1, fit p h), omega (arith, g .1, l .2, l .3, fit (s .args .f .gw * (3 * (p * p))) h))
+patch-line-requires c κs = let g = c .before .before .before .before .before .pre in let l = c .before .before .loop .inv in let h = c .before .loop-test .taken in let p = c .before .before .before .before .before .args .f .p in (g .0, g .1, g .2, omega (arith, g .0 .grid-tall, l .1, fit p h), omega (arith, g .3, l .2, l .3, fit (c .before .before .before .before .before .args .f .gw * (3 * (p * p))) h))
 
 add-r : tie.Need-add-r Inv-loop μ-loop
-add-r c = let s = c .before .before .before .before .before .before .before .before .before .before in let l = c .before .before .before .before .before .loop .inv in omega (arith, s .pre .0 .frame .grid-tall, s .pre .0 .frame .target-tall, l .1, fit (s .args .f .p) (c .before .before .before .before .loop-test .taken))
+add-r c = omega (arith, c .before .before .before .before .before .before .before .before .pre .0 .grid-tall, c .before .before .before .before .before .before .before .before .pre .0 .target-tall, c .before .before .before .before .before .loop .inv .1, fit (c .before .before .before .before .before .before .before .before .args .f .p) (c .before .before .before .before .loop-test .taken))
 
 add-o : tie.Need-add-o Inv-loop μ-loop
-add-o c = let s = c .before .before .before .before .before .before .before .before .before .before in let l = c .before .before .before .before .before .loop .inv in omega (arith, s .pre .1, s .good, l .2, fit (s .args .f .gw * (3 * (s .args .f .p * s .args .f .p))) (c .before .before .before .before .loop-test .taken))
+add-o c = omega (arith, c .before .before .before .before .before .before .before .before .pre .3, c .before .before .before .before .before .before .before .before .good, c .before .before .before .before .before .loop .inv .2, fit (c .before .before .before .before .before .before .before .before .args .f .gw * (3 * (c .before .before .before .before .before .before .before .before .args .f .p * c .before .before .before .before .before .before .before .before .args .f .p))) (c .before .before .before .before .loop-test .taken))
 
 add-a : tie.Need-add-a Inv-loop μ-loop
-add-a c = omega (arith, c .before .before .before .before .before .before .before .before .before .before .pre .0 .frame .grid-tall-high, c .before .before .before .before .loop-test .taken)
+add-a c = omega (arith, c .before .before .before .before .before .before .before .before .pre .0 .grid-tall-high, c .before .before .before .before .loop-test .taken)
 
 loop-less : tie.Need-loop-less Inv-loop μ-loop
 loop-less c = omega (arith, c .before .before .before .before .loop-test .taken)
 
 loop-again : tie.Need-loop-again Inv-loop μ-loop
 loop-again c =
-    let a = c .before .before .before .before .before .before .before .before .before .before .args in
+    let a = c .before .before .before .before .before .before .before .before .args in
     let l = c .before .before .before .before .before .loop in
-    let v = seen (entry (a .t .now)) (a .f) (a .rgb .now) in
+    let v = viewed (entry (a .t .now)) (a .f) (a .rgb .now) in
     let n = a .f .gw * (3 * (a .f .p * a .f .p)) in (
       omega (arith, c .before .before .before .before .loop-test .taken),
       omega (arith, l .inv .1, turn (l .a) (a .f .p)),
@@ -69,9 +69,9 @@ same-length c = c .before .loop .inv .3
 
 returns : tie.Need-returns Inv-loop μ-loop
 returns c =
-    let a = c .before .before .before .before .before .before .args in
+    let a = c .before .before .before .before .args in
     let e : c .before .loop .a ≡ a .f .gh = omega (arith, c .before .loop .inv .0, c .loop-test .left) in
-    c .before .loop .inv .4 ∙ ap (λ (n : ℕ). put (a .out .now) 0 (rows n (λ k. patchLine (a .f .p) (a .f .gw) (seen (entry (a .t .now)) (a .f) (a .rgb .now)) (k * a .f .p)))) e
+    c .before .loop .inv .4 ∙ ap (λ (n : ℕ). put (a .out .now) 0 (rows n (λ k. patchLine (a .f .p) (a .f .gw) (viewed (entry (a .t .now)) (a .f) (a .rgb .now)) (k * a .f .p)))) e
 
 pub all-patches-spec : {M : Type 1} → statement M
 all-patches-spec =
