@@ -1,13 +1,13 @@
 // Sixteen sums side by side. Each runs upward by itself, so that its bits are those of one sum alone.
 ghost use mathlib.Core.Path.{_≡_};
-ghost use Prim.Native.Nat.{ℕ, _+_, _*_, _≤_, _<_};
+ghost use Prim.Native.Nat.{_+_, _*_, _≤_};
 ghost use lib.ListN.{length, getD, replicate};
 ghost use lib.Ieee.{nan, binary32, add, mul};
 ghost use Rattle.number_floats.specs.Constants.{zero32};
 ghost use Rattle.buffers.specs.Rows.{tab};
 ghost use Rattle.buffers.specs.Region.{put};
 ghost use Rattle.encoder_linear.specs.inner.Lanes.{laneOf, goneSum, spread, filled};
-ghost use Rattle.encoder_linear.specs.inner.Fits.{TwoFit, FourFit, StrideFits, PackFits, ColumnAt, WideAt, SpreadFits};
+ghost use Rattle.encoder_linear.specs.inner.Fits.{TwoFit, FourFit, LanesAt, StrideFits, PackFits, ColumnAt, WideAt, SpreadFits};
 use buffers::part;
 
 // Each lane and its product with t.
@@ -216,14 +216,42 @@ pub(crate) fn two_columns(
     copy_spread(s, to, nout, &g, 0, 1, r);
 }
 
-// Sixteen lanes with the first r floats at at, at + m, ..
-pub(crate) fn lanes_at(s: &[f32], at: usize, m: usize, r: usize) -> [f32; 16]
-    requires { ⌜ (r ≤ 16) × ((i : ℕ) → i < r → at + i * m < length (now s)) ⌝ }
-    ensures { λ a. ⌜ a ≡ spread (replicate 16 zero32) 0 1 r (λ i. getD (now (s .entry)) (at + i * m) nan) ⌝ }
+// Sixteen lanes with the first r floats at a, a + m, .., and as many at b, c and d: row by row, since four columns of a row
+// lie together, and rows whose stride is a power of two drive each other out of the cache.
+pub(crate) fn lanes_at(
+    s: &[f32],
+    a: usize,
+    b: usize,
+    c: usize,
+    d: usize,
+    m: usize,
+    r: usize,
+) -> Four
+    requires { ⌜ LanesAt (length (now s)) a b c d m r ⌝ }
+    ensures { λ f. ⌜ (f .first ≡ spread (replicate 16 zero32) 0 1 r (λ i. getD (now (s .entry)) (a + i * m) nan))
+        × (f .second ≡ spread (replicate 16 zero32) 0 1 r (λ i. getD (now (s .entry)) (b + i * m) nan))
+        × (f .third ≡ spread (replicate 16 zero32) 0 1 r (λ i. getD (now (s .entry)) (c + i * m) nan))
+        × (f .fourth ≡ spread (replicate 16 zero32) 0 1 r (λ i. getD (now (s .entry)) (d + i * m) nan)) ⌝ }
 {
-    let mut a = [0.0f32; 16];
-    copy_spread(&mut a, 0, 1, s, at, m, r);
-    a
+    let mut first = [0.0f32; 16];
+    let mut second = [0.0f32; 16];
+    let mut third = [0.0f32; 16];
+    let mut fourth = [0.0f32; 16];
+    let mut i = 0usize;
+    while i < r {
+        let o = i * m;
+        first[i] = s[a + o];
+        second[i] = s[b + o];
+        third[i] = s[c + o];
+        fourth[i] = s[d + o];
+        i += 1;
+    }
+    Four {
+        first,
+        second,
+        third,
+        fourth,
+    }
 }
 
 // The first r lanes of a, b, c and d to columns at, at + 1, at + 2 and at + 3 of rows of m.
@@ -275,10 +303,11 @@ pub(crate) fn wide_columns(
     let w1 = part(w, d * nin + k, n);
     let w2 = part(w, e * nin + k, n);
     let w3 = part(w, f * nin + k, n);
-    let a0 = lanes_at(s, at, nout, r);
-    let a1 = lanes_at(s, y + d, nout, r);
-    let a2 = lanes_at(s, y + e, nout, r);
-    let a3 = lanes_at(s, y + f, nout, r);
+    let from = lanes_at(s, at, y + d, y + e, y + f, nout, r);
+    let a0 = from.first;
+    let a1 = from.second;
+    let a2 = from.third;
+    let a3 = from.fourth;
     let all = four_lanes(a0, a1, a2, a3, xt, w0, w1, w2, w3);
     let b0 = all.first;
     let b1 = all.second;

@@ -64,6 +64,14 @@ pub record WideAt (lens lenw lent y r nin nout k n c : ℕ) : Type 0 where
   pub fits : ColumnsFits lens lenw lent y r nin nout k n
   pub columns : c + 4 ≤ nout
 
+-- up to sixteen floats, m apart, can be read from each of four places on
+pub record LanesAt (len a b c d m r : ℕ) : Type 0 where
+  pub rows : r ≤ 16
+  pub first : (i : ℕ) → i < r → a + i * m < len
+  pub second : (i : ℕ) → i < r → b + i * m < len
+  pub third : (i : ℕ) → i < r → c + i * m < len
+  pub fourth : (i : ℕ) → i < r → d + i * m < len
+
 -- sixteen cells, by four lanes at j and a weight of each of four rows of nin
 pub record CellFits (lena lent lenw j at nin : ℕ) : Type 0 where
   pub cells : lena ≡ 16
