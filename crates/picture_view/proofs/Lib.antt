@@ -1,3 +1,4 @@
 pub mod Known
+pub mod Columns
 pub mod Written
 pub mod Views

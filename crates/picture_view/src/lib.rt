@@ -8,13 +8,15 @@ use picture_spot::guess;
 use picture_spot::quick_of;
 use picture_spot::spot;
 ghost use mathlib.Core.Path.{_≡_};
-ghost use Prim.Native.Nat.{ℕ, _+_, _*_, _/_, _≤_, _<_};
-ghost use lib.ListN.{length};
+ghost use Prim.Native.Nat.{ℕ, _+_, _*_, _≤_, _<_, min};
+ghost use lib.ListN.{length, getD};
+ghost use lib.Ieee.{nan};
+ghost use Rattle.buffers.specs.Rows.{tab};
 ghost use Rattle.buffers.specs.Region.{put, putRows};
 ghost use Rattle.picture_samples.specs.Samples.{entry};
 ghost use Rattle.picture_view.specs.inner.Known.{knownRun, knownPatch, knownPatches};
-ghost use Rattle.picture_view.specs.inner.Rows.{pixelBy, runBy, lineBy, rowBy, Rows};
-ghost use Rattle.picture_spot.specs.inner.Spot.{guessedBy, spotted, Spots};
+ghost use Rattle.picture_view.specs.inner.Rows.{runBy, patchBy, pixelsOf, pieceBy, lineBy, rowBy, Piece, Line, Rows};
+ghost use Rattle.picture_spot.specs.inner.Spot.{guessed, guessedBy, spotted, Spots};
 
 // As run_known, where bytes are spotted by arithmetic.
 fn run_guessed(patches: &[f32], at: usize, n: usize, c: usize, t: &[u32; 768], w: Way) -> bool
@@ -85,184 +87,175 @@ pub(crate) fn all_known(patches: &[f32], p: usize, n: usize, t: &[u32; 768], w: 
     true
 }
 
-// The three bytes of a pixel, whose samples lie n apart from `from` on.
-fn restore_pixel(
+// As run_bytes, by arithmetic with the channel's slope and shift.
+fn guess_bytes(
     patches: &[f32],
-    n: usize,
     from: usize,
+    n: usize,
+    slope: f32,
+    shift: f32,
     at: usize,
-    out: &mut [u8],
+    bytes: &mut [u8],
+)
+    requires { ⌜ (from + n ≤ length (now patches)) × (at + n ≤ length (now bytes)) ⌝ }
+    ensures { λ _. ⌜ now (bytes .exit) ≡ put (now (bytes .entry)) at (tab n (λ k. guessed slope shift (getD (now (patches .entry)) (from + k) nan))) ⌝ }
+{
+    let mut k = 0usize;
+    while k < n {
+        bytes[at + k] = guess(slope, shift, patches[from + k]) as u8;
+        k += 1;
+    }
+}
+
+// The bytes of the n samples of channel c from `from` on. How bytes are spotted is asked once for all of them.
+fn run_bytes(
+    patches: &[f32],
+    from: usize,
+    n: usize,
+    c: usize,
+    at: usize,
+    bytes: &mut [u8],
     t: &[u32; 768],
     w: Way,
 )
-    requires { ⌜ (from + 2 * n < length (now patches)) × (at + 3 ≤ length (now out)) × Spots (now t) (spotted w (entry (now t))) ⌝ }
-    ensures { λ _. ⌜ now (out .exit) ≡ put (now (out .entry)) at (pixelBy (spotted w (entry (now (t .entry)))) n (now (patches .entry)) from) ⌝ }
+    requires { ⌜ (c < 3) × (from + n ≤ length (now patches)) × (at + n ≤ length (now bytes)) × Spots (now t) (spotted w (entry (now t))) ⌝ }
+    ensures { λ _. ⌜ now (bytes .exit) ≡ put (now (bytes .entry)) at (runBy (spotted w (entry (now (t .entry)))) c n (now (patches .entry)) from) ⌝ }
 {
-    out[at] = spot(t, w, 0, patches[from]) as u8;
-    out[at + 1] = spot(t, w, 1, patches[from + n]) as u8;
-    out[at + 2] = spot(t, w, 2, patches[from + 2 * n]) as u8;
+    if w.right {
+        guess_bytes(patches, from, n, w.slope[c], w.shift[c], at, bytes);
+        return;
+    }
+    let mut k = 0usize;
+    while k < n {
+        bytes[at + k] = spot(t, w, c, patches[from + k]) as u8;
+        k += 1;
+    }
 }
 
-// The same, where bytes are spotted by arithmetic.
-fn guess_pixel(patches: &[f32], n: usize, from: usize, at: usize, out: &mut [u8], w: Way)
-    requires { ⌜ (from + 2 * n < length (now patches)) × (at + 3 ≤ length (now out)) ⌝ }
-    ensures { λ _. ⌜ now (out .exit) ≡ put (now (out .entry)) at (pixelBy (guessedBy w) n (now (patches .entry)) from) ⌝ }
+// The bytes of the patch from `from` on, which has n samples in each channel, as these lie.
+fn patch_bytes(patches: &[f32], from: usize, n: usize, bytes: &mut [u8], t: &[u32; 768], w: Way)
+    requires { ⌜ (n ≤ 1024) × (from + 3 * n ≤ length (now patches)) × (3 * n ≤ length (now bytes)) × Spots (now t) (spotted w (entry (now t))) ⌝ }
+    ensures { λ _. ⌜ now (bytes .exit) ≡ put (now (bytes .entry)) 0 (patchBy (spotted w (entry (now (t .entry)))) n (now (patches .entry)) from) ⌝ }
 {
-    out[at] = guess(w.slope[0], w.shift[0], patches[from]) as u8;
-    out[at + 1] = guess(w.slope[1], w.shift[1], patches[from + n]) as u8;
-    out[at + 2] = guess(w.slope[2], w.shift[2], patches[from + 2 * n]) as u8;
+    let mut c = 0usize;
+    let mut o = 0usize;
+    while c < 3 {
+        run_bytes(patches, from + o, n, c, o, bytes, t, w);
+        o += n;
+        c += 1;
+    }
 }
 
-// The first n pixels of a row of a patch of side p, where bytes are spotted by arithmetic.
-fn guess_run(patches: &[f32], p: usize, n: usize, from: usize, at: usize, out: &mut [u8], w: Way)
-    requires { ⌜ (p ≤ 32) × ((j : ℕ) → j < n → from + j + 2 * (p * p) < length (now patches)) × (at + n * 3 ≤ length (now out)) ⌝ }
-    ensures { λ _. ⌜ now (out .exit) ≡ put (now (out .entry)) at (runBy (guessedBy w) p n (now (patches .entry)) from) ⌝ }
+// n pixels, the first of which has its three bytes m apart from `from` on.
+fn copy_run(bytes: &[u8], m: usize, n: usize, from: usize, at: usize, out: &mut [u8])
+    requires { ⌜ ((j : ℕ) → j < n → from + j + 2 * m < length (now bytes)) × (at + n * 3 ≤ length (now out)) ⌝ }
+    ensures { λ _. ⌜ now (out .exit) ≡ put (now (out .entry)) at (pixelsOf (now (bytes .entry)) m n from) ⌝ }
 {
-    let m = p * p;
     let mut j = 0usize;
     let mut o = at;
     while j < n {
-        guess_pixel(patches, m, from + j, o, out, w);
+        let k = from + j;
+        out[o] = bytes[k];
+        out[o + 1] = bytes[k + m];
+        out[o + 2] = bytes[k + 2 * m];
         o += 3;
         j += 1;
     }
 }
 
-// The same either way.
-fn restore_run(
-    patches: &[f32],
+// The first `wide` pixels of the first `tall` rows of the patch whose bytes these are, from `at` on, with `stride` from row to
+// row.
+fn copy_patch(
+    bytes: &[u8],
     p: usize,
-    n: usize,
-    from: usize,
+    tall: usize,
+    wide: usize,
     at: usize,
+    stride: usize,
     out: &mut [u8],
-    t: &[u32; 768],
-    w: Way,
 )
-    requires { ⌜ (p ≤ 32) × ((j : ℕ) → j < n → from + j + 2 * (p * p) < length (now patches)) × (at + n * 3 ≤ length (now out)) × Spots (now t) (spotted w (entry (now t))) ⌝ }
-    ensures { λ _. ⌜ now (out .exit) ≡ put (now (out .entry)) at (runBy (spotted w (entry (now (t .entry)))) p n (now (patches .entry)) from) ⌝ }
+    requires { ⌜ Piece p tall wide at stride (length (now out)) × (3 * (p * p) ≤ length (now bytes)) ⌝ }
+    ensures { λ _. ⌜ now (out .exit) ≡ putRows (now (out .entry)) tall (λ i. at + i * stride) (λ i. pixelsOf (now (bytes .entry)) (p * p) wide (i * p)) ⌝ }
 {
     let m = p * p;
-    let mut j = 0usize;
-    let mut o = at;
-    while j < n {
-        restore_pixel(patches, m, from + j, o, out, t, w);
-        o += 3;
-        j += 1;
+    let mut i = 0usize;
+    while i < tall {
+        copy_run(bytes, m, wide, i * p, at + i * stride, out);
+        i += 1;
     }
 }
 
-// Row i of each of the gw patches side by side, the first of which starts at `from`.
-fn spot_line(
+// The same of the patch from `from` on: its samples are read as they lie and turned to bytes first, of which the rows are then
+// taken.
+fn restore_patch(
     patches: &[f32],
     p: usize,
-    gw: usize,
-    i: usize,
     from: usize,
+    tall: usize,
+    wide: usize,
     at: usize,
+    stride: usize,
     out: &mut [u8],
+    bytes: &mut [u8],
     t: &[u32; 768],
     w: Way,
 )
-    requires { ⌜ (p ≤ 32) × (i < p) × (from + gw * (3 * (p * p)) ≤ length (now patches)) × (at + gw * (p * 3) ≤ length (now out)) × Spots (now t) (spotted w (entry (now t))) ⌝ }
-    ensures { λ _. ⌜ now (out .exit) ≡ put (now (out .entry)) at (lineBy (spotted w (entry (now (t .entry)))) p gw (now (patches .entry)) from i) ⌝ }
+    requires { ⌜ Piece p tall wide at stride (length (now out)) × (from + 3 * (p * p) ≤ length (now patches)) × (3072 ≤ length (now bytes)) × Spots (now t) (spotted w (entry (now t))) ⌝ }
+    ensures { λ _. ⌜ now (out .exit) ≡ putRows (now (out .entry)) tall (λ i. at + i * stride) (λ i. pieceBy (spotted w (entry (now (t .entry)))) p wide (now (patches .entry)) from i) ⌝ }
 {
-    let m = 3 * (p * p);
-    let d = i * p;
-    let mut b = 0usize;
-    let mut o = at;
-    let mut k = from;
-    while b < gw {
-        restore_run(patches, p, p, k + d, o, out, t, w);
-        o += p * 3;
-        k += m;
-        b += 1;
-    }
+    patch_bytes(patches, from, p * p, bytes, t, w);
+    copy_patch(bytes, p, tall, wide, at, stride, out);
 }
 
-// The same, where bytes are spotted by arithmetic.
-fn guess_line(
-    patches: &[f32],
-    p: usize,
-    gw: usize,
-    i: usize,
-    from: usize,
-    at: usize,
-    out: &mut [u8],
-    w: Way,
-)
-    requires { ⌜ (p ≤ 32) × (i < p) × (from + gw * (3 * (p * p)) ≤ length (now patches)) × (at + gw * (p * 3) ≤ length (now out)) ⌝ }
-    ensures { λ _. ⌜ now (out .exit) ≡ put (now (out .entry)) at (lineBy (guessedBy w) p gw (now (patches .entry)) from i) ⌝ }
+fn smaller(a: usize, b: usize) -> usize
+    ensures { λ r. ⌜ r ≡ min a b ⌝ }
 {
-    let m = 3 * (p * p);
-    let d = i * p;
-    let mut b = 0usize;
-    let mut o = at;
-    let mut k = from;
-    while b < gw {
-        guess_run(patches, p, p, k + d, o, out, w);
-        o += p * 3;
-        k += m;
-        b += 1;
-    }
+    if a <= b { a } else { b }
 }
 
-// The same either way. How bytes are spotted is asked once for the row.
+// The first `wide` pixels of the first `tall` rows of the patches side by side from `from` on: of whole patches, and then of a
+// part of one.
 fn restore_line(
     patches: &[f32],
     p: usize,
-    gw: usize,
-    i: usize,
     from: usize,
-    at: usize,
-    out: &mut [u8],
-    t: &[u32; 768],
-    w: Way,
-)
-    requires { ⌜ (p ≤ 32) × (i < p) × (from + gw * (3 * (p * p)) ≤ length (now patches)) × (at + gw * (p * 3) ≤ length (now out)) × Spots (now t) (spotted w (entry (now t))) ⌝ }
-    ensures { λ _. ⌜ now (out .exit) ≡ put (now (out .entry)) at (lineBy (spotted w (entry (now (t .entry)))) p gw (now (patches .entry)) from i) ⌝ }
-{
-    if w.right {
-        guess_line(patches, p, gw, i, from, at, out, w);
-        return;
-    }
-    spot_line(patches, p, gw, i, from, at, out, t, w);
-}
-
-// The first `wide` pixels of row y of the picture, whose patches stand gw side by side: of whole patches, and then of a part
-// of one.
-fn restore_row(
-    patches: &[f32],
-    p: usize,
-    gw: usize,
-    y: usize,
+    tall: usize,
     wide: usize,
     at: usize,
+    stride: usize,
     out: &mut [u8],
     t: &[u32; 768],
     w: Way,
 )
-    requires { ⌜ (0 < p) × (p ≤ 32) × (y / p * (gw * (3 * (p * p))) + gw * (3 * (p * p)) ≤ length (now patches)) × (wide ≤ gw * p) × (at + wide * 3 ≤ length (now out)) × Spots (now t) (spotted w (entry (now t))) ⌝ }
-    ensures { λ _. ⌜ now (out .exit) ≡ put (now (out .entry)) at (rowBy (spotted w (entry (now (t .entry)))) p gw wide (now (patches .entry)) y) ⌝ }
+    requires { ⌜ Line p from tall wide at stride (length (now patches)) (length (now out)) × Spots (now t) (spotted w (entry (now t))) ⌝ }
+    ensures { λ _. ⌜ now (out .exit) ≡ putRows (now (out .entry)) tall (λ i. at + i * stride) (λ i. lineBy (spotted w (entry (now (t .entry)))) p wide (now (patches .entry)) from i) ⌝ }
 {
+    let mut bytes = [0u8; 3072];
     let m = 3 * (p * p);
-    let q = wide / p;
-    let i = y % p;
-    let from = y / p * (gw * m);
-    restore_line(patches, p, q, i, from, at, out, t, w);
-    restore_run(
-        patches,
-        p,
-        wide % p,
-        from + q * m + i * p,
-        at + q * (p * 3),
-        out,
-        t,
-        w,
-    );
+    let mut b = 0usize;
+    let mut x = 0usize;
+    while x < wide {
+        let n = smaller(p, wide - x);
+        restore_patch(
+            patches,
+            p,
+            from + b * m,
+            tall,
+            n,
+            at + x * 3,
+            stride,
+            out,
+            &mut bytes,
+            t,
+            w,
+        );
+        x += n;
+        b += 1;
+    }
 }
 
-// The first `wide` pixels of the first `tall` rows of the picture, from `at` on, with `stride` from row to row.
+// The first `wide` pixels of the first `tall` rows of the picture, from `at` on, with `stride` from row to row: of whole lines
+// of patches, gw side by side, and then of a part of one.
 pub(crate) fn restore_rows(
     patches: &[f32],
     p: usize,
@@ -278,9 +271,24 @@ pub(crate) fn restore_rows(
     requires { ⌜ Rows p gw tall wide at stride (length (now patches)) (length (now out)) × Spots (now t) (spotted w (entry (now t))) ⌝ }
     ensures { λ _. ⌜ now (out .exit) ≡ putRows (now (out .entry)) tall (λ y. at + y * stride) (λ y. rowBy (spotted w (entry (now (t .entry)))) p gw wide (now (patches .entry)) y) ⌝ }
 {
+    let m = gw * (3 * (p * p));
+    let mut a = 0usize;
     let mut y = 0usize;
     while y < tall {
-        restore_row(patches, p, gw, y, wide, at + y * stride, out, t, w);
-        y += 1;
+        let n = smaller(p, tall - y);
+        restore_line(
+            patches,
+            p,
+            a * m,
+            n,
+            wide,
+            at + y * stride,
+            stride,
+            out,
+            t,
+            w,
+        );
+        y += n;
+        a += 1;
     }
 }
