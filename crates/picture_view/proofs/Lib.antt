@@ -1,4 +1,5 @@
 pub mod Known
+pub mod Exact
 pub mod Columns
 pub mod Written
 pub mod Views

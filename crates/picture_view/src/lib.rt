@@ -5,7 +5,6 @@ use number_floats::pattern::bits_of_f32;
 use picture_spot::Way;
 use picture_spot::byte_of;
 use picture_spot::guess;
-use picture_spot::quick_of;
 use picture_spot::spot;
 ghost use mathlib.Core.Path.{_≡_};
 ghost use Prim.Native.Nat.{ℕ, _+_, _*_, _≤_, _<_, min};
@@ -14,33 +13,100 @@ ghost use lib.Ieee.{nan};
 ghost use Rattle.buffers.specs.Rows.{tab};
 ghost use Rattle.buffers.specs.Region.{put, putRows};
 ghost use Rattle.picture_samples.specs.Samples.{entry};
-ghost use Rattle.picture_view.specs.inner.Known.{knownRun, knownPatch, knownPatches};
+ghost use Rattle.picture_view.specs.inner.Known.{patternBy, channelExact, formulaOf, exactRun, Exact, knownRun, knownPatch, knownPatches};
 ghost use Rattle.picture_view.specs.inner.Rows.{runBy, patchBy, pixelsOf, pieceBy, lineBy, rowBy, Piece, Line, Rows};
-ghost use Rattle.picture_spot.specs.inner.Spot.{guessed, guessedBy, spotted, Spots};
+ghost use Rattle.picture_spot.specs.inner.Spot.{guessed, spotted, Spots};
 
-// As run_known, where bytes are spotted by arithmetic.
-fn run_guessed(patches: &[f32], at: usize, n: usize, c: usize, t: &[u32; 768], w: Way) -> bool
-    requires { ⌜ (c < 3) × (at + n ≤ length (now patches)) × Spots (now t) (guessedBy w) ⌝ }
-    ensures { λ r. ⌜ r ≡ knownRun (entry (now (t .entry))) n (now (patches .entry)) at c ⌝ }
+// The numbers of the formula, and whether the table has its patterns.
+pub(crate) struct Formula {
+    pub exact: bool,
+    pub mean: [f32; 3],
+    pub deviation: [f32; 3],
+}
+
+// The formula's pattern of byte b.
+fn pattern_of(mean: f32, deviation: f32, b: u8) -> u32
+    ensures { λ r. ⌜ r ≡ patternBy mean deviation b ⌝ }
 {
+    bits_of_f32((b as f32 / 255.0 - mean) / deviation)
+}
+
+// Whether the table has the formula's patterns in channel c.
+fn channel_exact(t: &[u32; 768], c: usize, mean: f32, deviation: f32) -> bool
+    requires { ⌜ c < 3 ⌝ }
+    ensures { λ r. ⌜ r ≡ channelExact (now (t .entry)) c mean deviation ⌝ }
+{
+    let mut ok = true;
+    let mut b = 0usize;
+    while b < 256 {
+        ok = ok & (t[c * 256 + b] == pattern_of(mean, deviation, b as u8));
+        b += 1;
+    }
+    ok
+}
+
+pub(crate) fn formula_of(t: &[u32; 768], mean: [f32; 3], deviation: [f32; 3]) -> Formula
+    ensures { λ r. ⌜ r ≡ formulaOf (now (t .entry)) mean deviation ⌝ }
+{
+    let exact = channel_exact(t, 0, mean[0], deviation[0])
+        & channel_exact(t, 1, mean[1], deviation[1])
+        & channel_exact(t, 2, mean[2], deviation[2]);
+    Formula {
+        exact,
+        mean,
+        deviation,
+    }
+}
+
+// Whether each of the n samples from `at` on is the formula's of the byte that is guessed of it. All are looked at, so that
+// several are at once.
+fn run_exact(
+    patches: &[f32],
+    at: usize,
+    n: usize,
+    slope: f32,
+    shift: f32,
+    mean: f32,
+    deviation: f32,
+) -> bool
+    requires { ⌜ at + n ≤ length (now patches) ⌝ }
+    ensures { λ r. ⌜ r ≡ exactRun slope shift mean deviation n (now (patches .entry)) at ⌝ }
+{
+    let mut ok = true;
     let mut k = 0usize;
     while k < n {
-        if 256 <= quick_of(t, w, c, patches[at + k]) {
-            return false;
-        }
+        let v = patches[at + k];
+        let b = guess(slope, shift, v) as u8;
+        ok = ok & (pattern_of(mean, deviation, b) == bits_of_f32(v));
         k += 1;
     }
-    true
+    ok
 }
 
 // Whether each of the n samples from `at` on has the bits of a byte in channel c. How bytes are spotted is asked once for
 // all of them.
-fn run_known(patches: &[f32], at: usize, n: usize, c: usize, t: &[u32; 768], w: Way) -> bool
-    requires { ⌜ (c < 3) × (at + n ≤ length (now patches)) × Spots (now t) (spotted w (entry (now t))) ⌝ }
+fn run_known(
+    patches: &[f32],
+    at: usize,
+    n: usize,
+    c: usize,
+    t: &[u32; 768],
+    w: Way,
+    f: Formula,
+) -> bool
+    requires { ⌜ (c < 3) × (at + n ≤ length (now patches)) × Spots (now t) (spotted w (entry (now t))) × Exact (now t) f ⌝ }
     ensures { λ r. ⌜ r ≡ knownRun (entry (now (t .entry))) n (now (patches .entry)) at c ⌝ }
 {
-    if w.right {
-        return run_guessed(patches, at, n, c, t, w);
+    if w.right & f.exact {
+        return run_exact(
+            patches,
+            at,
+            n,
+            w.slope[c],
+            w.shift[c],
+            f.mean[c],
+            f.deviation[c],
+        );
     }
     let mut k = 0usize;
     while k < n {
@@ -52,15 +118,15 @@ fn run_known(patches: &[f32], at: usize, n: usize, c: usize, t: &[u32; 768], w: 
     true
 }
 
-fn patch_known(patches: &[f32], at: usize, p: usize, t: &[u32; 768], w: Way) -> bool
-    requires { ⌜ (p ≤ 32) × (at + 3 * (p * p) ≤ length (now patches)) × Spots (now t) (spotted w (entry (now t))) ⌝ }
+fn patch_known(patches: &[f32], at: usize, p: usize, t: &[u32; 768], w: Way, f: Formula) -> bool
+    requires { ⌜ (p ≤ 32) × (at + 3 * (p * p) ≤ length (now patches)) × Spots (now t) (spotted w (entry (now t))) × Exact (now t) f ⌝ }
     ensures { λ r. ⌜ r ≡ knownPatch (entry (now (t .entry))) p (now (patches .entry)) at ⌝ }
 {
     let n = p * p;
     let mut c = 0usize;
     let mut o = at;
     while c < 3 {
-        if !run_known(patches, o, n, c, t, w) {
+        if !run_known(patches, o, n, c, t, w, f) {
             return false;
         }
         o += n;
@@ -70,15 +136,22 @@ fn patch_known(patches: &[f32], at: usize, p: usize, t: &[u32; 768], w: Way) -> 
 }
 
 // Whether every sample of n patches has the bits of a byte in its channel.
-pub(crate) fn all_known(patches: &[f32], p: usize, n: usize, t: &[u32; 768], w: Way) -> bool
-    requires { ⌜ (p ≤ 32) × (n * (3 * (p * p)) ≤ length (now patches)) × Spots (now t) (spotted w (entry (now t))) ⌝ }
+pub(crate) fn all_known(
+    patches: &[f32],
+    p: usize,
+    n: usize,
+    t: &[u32; 768],
+    w: Way,
+    f: Formula,
+) -> bool
+    requires { ⌜ (p ≤ 32) × (n * (3 * (p * p)) ≤ length (now patches)) × Spots (now t) (spotted w (entry (now t))) × Exact (now t) f ⌝ }
     ensures { λ r. ⌜ r ≡ knownPatches (entry (now (t .entry))) p n (now (patches .entry)) ⌝ }
 {
     let m = 3 * (p * p);
     let mut q = 0usize;
     let mut o = 0usize;
     while q < n {
-        if !patch_known(patches, o, p, t, w) {
+        if !patch_known(patches, o, p, t, w, f) {
             return false;
         }
         o += m;

@@ -1,5 +1,6 @@
 // Patches back to a view of a picture.
 use crate::all_known;
+use crate::formula_of;
 use crate::restore_rows;
 use picture_limits::PictureSettings;
 use picture_limits::View;
@@ -65,7 +66,8 @@ pub fn restore_view(
     let mean = s.mean;
     let deviation = s.deviation;
     let way = way_of(t, mean, deviation);
-    if !all_known(patches, p, grid_h * grid_w, t, way) {
+    let formula = formula_of(t, mean, deviation);
+    if !all_known(patches, p, grid_h * grid_w, t, way, formula) {
         return false;
     }
     let at = (v.top * w + v.left) * 3;

@@ -21,10 +21,10 @@ abbrev seen : List ℕ → ℕ → List Float → ℕ → Bool
 seen t p l q = knownPatch (entry t) p l (q * patchFloats p)
 
 abbrev Inv-loop : tie.InvT-loop
-Inv-loop patches p n t w m q₀ o₀ q o = (q ≤ n) × (o ≡ q * patchFloats p) × (all q (seen t p patches) ≡ true)
+Inv-loop patches p n t w f m q₀ o₀ q o = (q ≤ n) × (o ≡ q * patchFloats p) × (all q (seen t p patches) ≡ true)
 
 abbrev μ-loop : tie.MeasureT-loop
-μ-loop patches p n t w m q₀ o₀ q o = n - q
+μ-loop patches p n t w f m q₀ o₀ q o = n - q
 
 answer : (c : tie.After-patch-known Inv-loop μ-loop) → let a = c .before .before .before .before .args in c .patch-known .result ≡ seen (a .t .now) (a .p) (a .patches .now) (c .before .before .loop .q)
 answer c =
@@ -42,7 +42,7 @@ unfolding all
 loop-holds c = search needs
 
 patch-known-requires : tie.Need-patch-known-requires Inv-loop μ-loop
-patch-known-requires c κs = let s = c .before .before .before in (s .pre .0, omega (arith, fit (patchFloats (s .args .p)) (c .loop-test .taken)), s .pre .2)
+patch-known-requires c κs = let s = c .before .before .before in (s .pre .0, omega (arith, fit (patchFloats (s .args .p)) (c .loop-test .taken)), s .pre .2, s .pre .3)
 
 returns : tie.Need-returns Inv-loop μ-loop
 unfolding knownPatches

@@ -20,10 +20,10 @@ abbrev seen : List ℕ → ℕ → List Float → ℕ → ℕ → Bool
 seen t p l at c = knownRun (entry t) (p * p) l (at + c * (p * p)) c
 
 abbrev Inv-loop : tie.InvT-loop
-Inv-loop patches at p t w n c₀ o₀ c o = (c ≤ 3) × (o ≡ at + c * (p * p)) × (all c (seen t p patches at) ≡ true)
+Inv-loop patches at p t w f n c₀ o₀ c o = (c ≤ 3) × (o ≡ at + c * (p * p)) × (all c (seen t p patches at) ≡ true)
 
 abbrev μ-loop : tie.MeasureT-loop
-μ-loop patches at p t w n c₀ o₀ c o = 3 - c
+μ-loop patches at p t w f n c₀ o₀ c o = 3 - c
 
 answer : (c : tie.After-run-known Inv-loop μ-loop) → let a = c .before .before .before .before .args in c .run-known .result ≡ seen (a .t .now) (a .p) (a .patches .now) (a .at) (c .before .before .loop .c)
 answer c =
@@ -39,7 +39,7 @@ unfolding all
 loop-holds c = search needs
 
 run-known-requires : tie.Need-run-known-requires Inv-loop μ-loop
-run-known-requires c κs = let s = c .before .before .before in let t = c .loop-test .taken in (t, omega (arith, fit (s .args .p * s .args .p) t), s .pre .2)
+run-known-requires c κs = let s = c .before .before .before in let t = c .loop-test .taken in (t, omega (arith, fit (s .args .p * s .args .p) t), s .pre .2, s .pre .3)
 
 returns : tie.Need-returns Inv-loop μ-loop
 returns c =

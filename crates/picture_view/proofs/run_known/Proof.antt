@@ -1,4 +1,4 @@
--- `picture_view::run_known` meets its contract. The invariant: the samples passed are known. Assumes nothing.
+-- `picture_view::run_known` meets its contract: by the formula, or one by one. The invariant: the samples passed are known. Assumes nothing.
 use mathlib.Core.Path.{_≡_, sym, ap, _∙_}
 use mathlib.Core.Bool.{Bool, true}
 use mathlib.Core.List.{List}
@@ -10,11 +10,12 @@ use lib.Dec.{ltb}
 use lib.ListN.{getD}
 use lib.Ieee.{Float, nan, binary32, toBits}
 use Rattle.buffers.specs.Rows.{all}
-use Rattle.buffers.proofs.Lists.{all-step, all-fails}
+use Rattle.buffers.proofs.Lists.{and-left, and-right, all-step, all-fails}
 use Rattle.picture_samples.specs.Samples.{byteOf, entry}
 use Rattle.picture_view.specs.inner.Known.{knownRun}
 use Rattle.picture_spot.specs.inner.Spot.{spotted, tried}
 use Rattle.picture_spot.proofs.Spots.{by-guess, tried-byte}
+use Rattle.picture_view.proofs.Exact.{exact-run}
 use Rattle.picture_view.proofs.run_known.Statement.{statement}
 use Rattle.picture_view.proofs.run_known.Tie as tie
 
@@ -31,13 +32,42 @@ byte t l at c i = byteOf (entry t) c (toBits binary32 (getD l (at + i) nan))
 abbrev seen : List ℕ → List Float → ℕ → ℕ → ℕ → Bool
 seen t l at c i = ltb (byte t l at c i) 256
 
-run-guessed-requires : tie.Need-run-guessed-requires Inv-loop μ-loop
-run-guessed-requires c κs =
-    let s = c .before .before in
-    (s .pre .0, s .pre .1, by-guess (s .args .w) (s .args .t .now) (c .if1 .taken) (s .pre .2))
+mul-run-exact : tie.Need-mul-run-exact Inv-loop μ-loop
+mul-run-exact c = search needs
+
+element-copy-out-run-exact : tie.Need-element-copy-out-run-exact Inv-loop μ-loop
+element-copy-out-run-exact c = search needs
+
+mul-run-exact-2 : tie.Need-mul-run-exact-2 Inv-loop μ-loop
+mul-run-exact-2 c = search needs
+
+element-copy-out-run-exact-2 : tie.Need-element-copy-out-run-exact-2 Inv-loop μ-loop
+element-copy-out-run-exact-2 c = search needs
+
+mul-run-exact-3 : tie.Need-mul-run-exact-3 Inv-loop μ-loop
+mul-run-exact-3 c = search needs
+
+element-copy-out-run-exact-3 : tie.Need-element-copy-out-run-exact-3 Inv-loop μ-loop
+element-copy-out-run-exact-3 c = search needs
+
+mul-run-exact-4 : tie.Need-mul-run-exact-4 Inv-loop μ-loop
+mul-run-exact-4 c = search needs
+
+element-copy-out-run-exact-4 : tie.Need-element-copy-out-run-exact-4 Inv-loop μ-loop
+element-copy-out-run-exact-4 c = search needs
+
+run-exact-requires : tie.Need-run-exact-requires Inv-loop μ-loop
+run-exact-requires c κs = c .before .before .before .before .before .before .pre .1
 
 returns : tie.Need-returns Inv-loop μ-loop
-returns c = c .run-guessed .ensures
+returns c =
+    let s = c .before .before .before .before .before .before .before in
+    let a = s .args in
+    let e = c .before .before .before .before .before .if1 .taken in
+    let r = and-left (a .t6 .right) (a .t7 .exact) e in
+    let x = and-right (a .t6 .right) (a .t7 .exact) e in
+    c .run-exact .ensures
+    ∙ exact-run (a .t .now) (a .t6) (a .t7) (by-guess (a .t6) (a .t .now) r (s .pre .2)) (s .pre .3) x (a .c) (s .pre .0) (a .n) (a .patches .now) (a .at) (c .before .before .before .before .before .before .shared-slice-known .given)
 
 loop-holds : tie.Need-loop-holds Inv-loop μ-loop
 unfolding all
@@ -64,7 +94,7 @@ told : (c : tie.After-byte-of Inv-loop μ-loop) → let a = c .before .before .b
 told c =
     let s = c .before .before .before .before .before .before .before in
     let a = s .args in
-    let g = spotted (a .w) (entry (a .t .now)) in
+    let g = spotted (a .t6) (entry (a .t .now)) in
     c .byte-of .ensures ∙ ap (tried (entry (a .t .now)) g (a .c)) (c .before .bits-of-f32 .ensures) ∙ tried-byte (a .t .now) g (s .pre .2) (a .c) (s .pre .0) _
 
 returns-2 : tie.Need-returns-2 Inv-loop μ-loop
@@ -101,7 +131,15 @@ run-known-spec =
     (tie.spec
     Inv-loop
     μ-loop
-    run-guessed-requires
+    mul-run-exact
+    element-copy-out-run-exact
+    mul-run-exact-2
+    element-copy-out-run-exact-2
+    mul-run-exact-3
+    element-copy-out-run-exact-3
+    mul-run-exact-4
+    element-copy-out-run-exact-4
+    run-exact-requires
     returns
     loop-holds
     add-bits-of-f32
