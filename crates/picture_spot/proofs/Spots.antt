@@ -1,15 +1,14 @@
 -- A byte is spotted right: by a guess that was tried on the whole table, and by halving in every allowed table; then what is
 -- held to a pattern is the pattern's byte. Assumes nothing.
 use mathlib.Core.Path.{_≡_, refl, sym, ap, _∙_}
-use mathlib.Core.Bool.{Bool, true, false, not, cond, true≢false}
+use mathlib.Core.Bool.{Bool, true, false, cond, true≢false}
 use mathlib.Core.List.{List}
 use Prim.Native.Nat.{ℕ, _+_, _*_, _/_, _%_, _≤_, _<_}
 use native.Mathlib.Omega.{arith}
 use borrow.Author.Tests.{eqb-true, eq-eqb, ne-eqb, lt-ltb, le-ltb}
 use lib.Dec.{T, eqb, ltb}
 use lib.ListN.{getD}
-use lib.Ieee.{Float, nan, inf, fin, binary32, add, mul, ne, isNan, fits, ofBits, toBits}
-use lib.Ieee.Compare.{nan-differs}
+use lib.Ieee.{Float, nan, binary32, fits, ofBits, toBits}
 use lib.Ieee.Bits.{ofBits-toBits}
 use Rattle.buffers.proofs.Lists.{all-at}
 use Rattle.picture_samples.specs.Samples.{channelsAllowed, value, byteOf, entry}
@@ -23,13 +22,6 @@ use Rattle.picture_spot.proofs.Halving.{halved-lt, halved-right}
 pub guessed-lt : (slope shift v : Float) → guessed slope shift v < 256
 unfolding guessed
 guessed-lt slope shift v = omega arith
-
--- where the sum is no NaN, neither is v
-pub sum-clean : (v x y z : Float) → ne (add binary32 (add binary32 (mul binary32 v x) y) z) (add binary32 (add binary32 (mul binary32 v x) y) z) ≡ false → T (not (isNan v))
-unfolding isNan add mul
-sum-clean nan x y z e = absurd (true≢false (sym nan-differs ∙ e))
-sum-clean (inf s) x y z e = tt
-sum-clean (fin s m n) x y z e = tt
 
 -- a guess that was tried is right
 tried-right : (slope shift : List Float) (t : List ℕ) → guesses slope shift t ≡ true

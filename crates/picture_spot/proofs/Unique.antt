@@ -2,11 +2,11 @@
 use mathlib.Core.Path.{_≡_}
 use mathlib.Core.List.{List}
 use Prim.Native.Nat.{ℕ}
-use lib.Ieee.{Float, binary32, toBits}
+use lib.Ieee.{Float}
 use Rattle.number_floats.proofs.Unique.{one}
 use Rattle.picture_samples.specs.Samples.{entry}
 use Rattle.picture_spot.specs.declared.Way.{Way}
-use Rattle.picture_spot.specs.inner.Spot.{guessed, guessedWith, guessedBy, spotted, tried, wayOf}
+use Rattle.picture_spot.specs.inner.Spot.{guessed, guessedWith, spotted, tried, wayOf}
 
 pub guessed-unique : (slope shift v : Float) (a b : ℕ) → a ≡ guessed slope shift v → b ≡ guessed slope shift v → a ≡ b
 guessed-unique slope shift v a b = one _
@@ -22,6 +22,3 @@ byte-unique t w c x a b = one _
 
 pub guess-unique : (t : List ℕ) (slope shift : Float) (c x : ℕ) (a b : ℕ) → a ≡ tried (entry t) (guessedWith slope shift) c x → b ≡ tried (entry t) (guessedWith slope shift) c x → a ≡ b
 guess-unique t slope shift c x a b = one _
-
-pub quick-unique : (t : List ℕ) (w : Way) (c : ℕ) (v : Float) (a b : ℕ) → a ≡ tried (entry t) (guessedBy w) c (toBits binary32 v) → b ≡ tried (entry t) (guessedBy w) c (toBits binary32 v) → a ≡ b
-quick-unique t w c v a b = one _

@@ -2,9 +2,8 @@
 ghost use mathlib.Core.Path.{_≡_};
 ghost use Prim.Native.Nat.{_<_};
 ghost use lib.Ieee as Ieee;
-ghost use lib.Ieee.{binary32};
 ghost use Rattle.picture_samples.specs.Samples.{value, entry};
-ghost use Rattle.picture_spot.specs.inner.Spot.{guessed, guesses, beyond, halved, guessedWith, guessedBy, spotted, tried, wayOf};
+ghost use Rattle.picture_spot.specs.inner.Spot.{guessed, guesses, beyond, halved, guessedWith, spotted, tried, wayOf};
 use number_floats::pattern::bits_of_f32;
 use number_floats::pattern::f32_of_bits;
 
@@ -131,26 +130,6 @@ pub fn guess_of(t: &[u32; 768], slope: f32, shift: f32, c: usize, b: u32) -> usi
     }
     let k = guess(slope, shift, f32_of_bits(b));
     if t[c * 256 + k] == b {
-        return k;
-    }
-    256
-}
-
-// The same of a float's pattern, with one test for two: where the sum is no NaN, neither is v.
-pub fn quick_of(t: &[u32; 768], w: Way, c: usize, v: f32) -> usize
-    ensures { λ r. ⌜ r ≡ tried (entry (now (t .entry))) (guessedBy w) c (Ieee.toBits binary32 v) ⌝ }
-{
-    if 3 <= c {
-        return 256;
-    }
-    let slope = w.slope[c];
-    let shift = w.shift[c];
-    let s = v * slope + shift + 8388608.0;
-    if s != s {
-        return guess_of(t, slope, shift, c, bits_of_f32(v));
-    }
-    let k = (f32::to_bits(s) % 256) as usize;
-    if t[c * 256 + k] == f32::to_bits(v) {
         return k;
     }
     256
