@@ -3,7 +3,7 @@
 use crate::fail::Fail;
 use crate::given::{Given, SMALL};
 use crate::model::{parts, refused_settings, Lent, Model, Origin, Random, Tables};
-use crate::{room, say};
+use crate::{peer, room, say};
 use kyzgultam::{BadSample, EncoderSettings, PictureSettings, Pool, Refusal};
 use std::fs;
 use std::hint::black_box;
@@ -14,28 +14,29 @@ use std::time::{Duration, Instant};
 
 pub const HELP: &str = "\
 kz bench [--quick | --large]
+kz bench --peer [--quick]
 kz bench [--size HxW] [--weights FILE] [--tables FILE] [--settings LIST]
 
 The first form runs the Rust (on one thread, with E and T) and the port on
 the same inputs in the same run: preprocess, restore, and forward of a model
 of real width at grids from 4x4 to 32x32. It prints times, ratios, each stage's
-share and products a second, and how the time grows from 64 to 1024 tokens; one
-bit that differs ends it with status 1. That takes some five minutes; --quick
-has small grids alone and takes one, --large has these and 64x64, with one
-layer, and takes ten. It is oracle/run of the repository where kz was built,
-with the archives that kz was linked with; the Rust's source is
-../shared/docs/src from its root, or KZ_RUST_SRC. A tile of 1540x1540 is timed
-in turn with a picture of as many pixels; salvage, with no sample bad and with
-every one, in turn with restore; forward by small tables, in turn with forward
-by full ones; bf16 packed and widened, add to a pool, and the weights of a
-safetensors file, in turn with a copy; find in a pool, and a header's search.
+share and products a second, and how the time grows; one bit that differs ends
+it with status 1. That takes five minutes; --quick has small grids and takes
+one, --large has these and 64x64, with one layer, and takes ten. The Rust's
+source is ../shared/docs/src from the repository's root, or KZ_RUST_SRC. In
+turn with what they are like it times tile, salvage, forward by small tables,
+bf16, add to a pool and weights of a file, then find in a pool and a header.
 
-The second form, and the first where the source or rustc is missing, times
-the port alone on noise, on one core: the best of the runs that fit into half
-a second, at least one. `share` is the part of a sweep's time. Without --size
+--peer runs that forward and PyTorch's in turn, on one thread each. Its bits
+are others; vectors too far from ours end it with status 1. Its Python is
+KZ_PYTHON, python3 or /usr/bin/python3; with no PyTorch it says so, status 0.
+
+The last form, and the first where the source or rustc is missing, times the
+port alone on noise, on one core: the best of the runs that fit into half a
+second, at least one. `share` is the part of a sweep's time. Without --size
 three sizes are timed, the largest without forward. The model is as for
-`kz encode`. Then come tile to header as above, and last restore of the largest
-by mean and deviation of the Rust, 0.2 and 0.25, and 0.2 and 1e38 (by halving).
+`kz encode`. Then come tile to header as above, and restore of the largest by
+mean and deviation of the Rust, 0.2 and 0.25, and 0.2 and 1e38 (by halving).
 ";
 
 const ORACLE: &str = concat!(env!("CARGO_MANIFEST_DIR"), "/../oracle/run");
@@ -60,6 +61,12 @@ pub fn run(given: &Given) -> Result<(), Fail> {
     };
     if let (Some(word), true) = (grids, given.has_options()) {
         return Err(Fail::usage(format!("{word} goes with no other option")));
+    }
+    if given.peer {
+        if given.large || given.has_options() {
+            return Err(Fail::usage("--peer goes with no other option but --quick"));
+        }
+        return peer::run(given.quick);
     }
     if !given.has_options() && beside_the_rust(grids)? {
         return Ok(());

@@ -11,8 +11,19 @@ use std::path::{Path, PathBuf};
 use std::sync::OnceLock;
 
 /// The options without a value.
-const BARE: [&str; 10] =
-    ["--all", "--bf16", "--force", "--json", "--large", "--null", "--quick", "--skip-existing", "--tiles", "--tokens"];
+const BARE: [&str; 11] = [
+    "--all",
+    "--bf16",
+    "--force",
+    "--json",
+    "--large",
+    "--null",
+    "--peer",
+    "--quick",
+    "--skip-existing",
+    "--tiles",
+    "--tokens",
+];
 
 /// Whether a word is an option, known or not. A single - is a name.
 fn dashed(word: &OsStr) -> bool {
@@ -55,6 +66,7 @@ pub struct Given {
     pub json: bool,
     pub large: bool,
     pub null: bool,
+    pub peer: bool,
     pub quick: bool,
     pub skip: bool,
     pub tiles: bool,
@@ -86,6 +98,7 @@ impl Given {
                 given.json |= word == "--json";
                 given.large |= word == "--large";
                 given.null |= word == "--null";
+                given.peer |= word == "--peer";
                 given.quick |= word == "--quick";
                 given.skip |= word == "--skip-existing";
                 given.tiles |= word == "--tiles";

@@ -29,6 +29,7 @@ mod netpbm;
 mod npy;
 mod pace;
 mod paint;
+mod peer;
 mod picture;
 mod png;
 mod png_read;
@@ -135,7 +136,12 @@ const COMMANDS: [Command; 12] = [
     ("nearest", neighbours::HELP, &["--count", "--json"], neighbours::run),
     ("config", config::HELP, &["--settings"], config::run),
     ("weights", weights::HELP, &["-o", "--config", "--settings", "--force"], weights::run),
-    ("bench", bench::HELP, &["--quick", "--large", "--size", "--weights", "--tables", "--settings"], bench::run),
+    (
+        "bench",
+        bench::HELP,
+        &["--quick", "--large", "--peer", "--size", "--weights", "--tables", "--settings"],
+        bench::run,
+    ),
     ("completions", completions::HELP, &[], completions::run),
 ];
 

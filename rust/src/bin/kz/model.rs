@@ -124,6 +124,11 @@ impl Model {
         Ok(Model { settings, weights, tables, origin, file })
     }
 
+    /// The weights in their order.
+    pub fn weights(&self) -> &[f32] {
+        &self.weights
+    }
+
     /// Room for the token vectors and the scratch of a grid; words where there is none.
     pub fn lend(&self, grid: (usize, usize), lent: &mut Lent) -> Result<(), String> {
         let s = self.settings;
