@@ -3,12 +3,12 @@
 use mathlib.Core.Path.{_≡_, refl, sym, ap, _∙_}
 use mathlib.Core.Bool.{true}
 use mathlib.Core.List.{List, _++_}
-use Prim.Native.Nat.{ℕ, suc, _+_, _*_, _-_, _/_, _%_, _≤_, _<_, min}
+use Prim.Native.Nat.{ℕ, _+_, _*_, _-_, _/_, _%_, _≤_, _<_, min}
 use native.Mathlib.Nat.{mul-assoc, add-mul, mul-le-mul-left}
 use native.Mathlib.Omega.{arith}
 use borrow.Author.Tests.{lt-ltb}
 use lib.Dec.{T}
-use lib.ListN.{length, getD, set}
+use lib.ListN.{length, getD}
 use lib.Ieee.{Float, nan, binary32, fits, toBits}
 use Rattle.buffers.specs.Rows.{tab, rows}
 use Rattle.buffers.specs.Region.{put, putRows}
@@ -27,14 +27,6 @@ use Rattle.picture_view.specs.Known.{known}
 use Rattle.picture_view.specs.inner.Rows.{runBy, patchBy, pixelsOf, pieceBy, lineBy, rowBy}
 use Rattle.picture_view.proofs.Known.{known-at}
 use Rattle.picture_view.proofs.Columns.{puts-longer, puts-more}
-
--- three stores are one write of three bytes
-pub put-three : (s : List ℕ) (at : ℕ) (f : ℕ → ℕ) → set (set (set s at (f 0)) (at + 1) (f 1)) (at + 2) (f 2) ≡ put s at (tab 3 f)
-unfolding put tab
-put-three s at f =
-    let e : at + 2 ≡ suc (at + 1) = omega arith in
-    let g : at + 1 ≡ suc at = omega arith in
-    ap (λ (i : ℕ). set (set (set s at (f 0)) (at + 1) (f 1)) i (f 2)) e ∙ ap (λ (i : ℕ). set (set (set s at (f 0)) i (f 1)) (suc i) (f 2)) g
 
 -- where bytes are spotted by arithmetic, guesses are what is spotted
 pub by-arithmetic : (w : Way) (k : ℕ → ℕ → ℕ) → w .right ≡ true → (c : ℕ) → c < 3 → (n : ℕ) (l : List Float) (from : ℕ) → runBy (guessedBy w) c n l from ≡ runBy (spotted w k) c n l from

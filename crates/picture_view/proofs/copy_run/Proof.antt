@@ -1,5 +1,6 @@
 -- `picture_view::copy_run` meets its contract. The invariant: the pixels passed are written. Assumes nothing.
 use mathlib.Core.Path.{_≡_, ap, _∙_}
+use mathlib.Core.List.{List}
 use Prim.Native.Nat.{ℕ, _+_, _*_, _-_, _≤_, _<_}
 use native.Mathlib.Omega.{arith}
 use borrow.Author.Needs.{needs}
@@ -8,7 +9,7 @@ use Rattle.buffers.specs.Rows.{tab, rows}
 use Rattle.buffers.specs.Region.{put}
 use Rattle.buffers.proofs.Lists.{length-tab, rows-step}
 use Rattle.picture_view.specs.inner.Rows.{pixelsOf}
-use Rattle.picture_view.proofs.Written.{put-three}
+use Rattle.buffers.proofs.Regions.{put-three}
 use Rattle.picture_view.proofs.copy_run.Statement.{statement}
 use Rattle.picture_view.proofs.copy_run.Tie as tie
 
@@ -71,6 +72,11 @@ add-j c = search needs
 loop-less : tie.Need-loop-less Inv-loop μ-loop
 loop-less c = search needs
 
+-- three stores are one write of three bytes
+three-stores : (s : List ℕ) (at : ℕ) (f : ℕ → ℕ) → set (set (set s at (f 0)) (at + 1) (f 1)) (at + 2) (f 2) ≡ put s at (tab 3 f)
+unfolding tab
+three-stores s at f = put-three s at (f 0) (f 1) (f 2)
+
 loop-again : tie.Need-loop-again Inv-loop μ-loop
 loop-again c =
     let a = c .before .before .before .before .before .args in
@@ -82,7 +88,7 @@ loop-again c =
     let three : set (set (set (l .out) (l .o) (getD (a .bytes .now) k 0)) (l .o + 1) (getD (a .bytes .now) (k + a .m) 0)) (l .o + 2) (f 2) ≡ put (l .out) (l .o) (tab 3 f) =
     ap (λ (x : ℕ). set (set (set (l .out) (l .o) (getD (a .bytes .now) x 0)) (l .o + 1) (getD (a .bytes .now) (k + a .m) 0)) (l .o + 2) (f 2)) e₀
     ∙ ap (λ (x : ℕ). set (set (set (l .out) (l .o) (f 0)) (l .o + 1) (getD (a .bytes .now) x 0)) (l .o + 2) (f 2)) e₁
-    ∙ put-three (l .out) (l .o) f in (
+    ∙ three-stores (l .out) (l .o) f in (
       omega arith,
       omega arith,
       simp length-set (l .inv .2),
