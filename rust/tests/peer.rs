@@ -9,6 +9,10 @@ use std::fs::{self, File};
 use std::io::{stdin, BufRead, Read, Write};
 use std::os::unix::fs::PermissionsExt;
 use std::process::Command;
+use std::sync::{Mutex, PoisonError};
+
+/// One test at a time: a program cannot be run while a process that another thread started has it open for writing.
+static ALONE: Mutex<()> = Mutex::new(());
 
 /// A program in the folder.
 fn program(folder: &Folder, name: &str, lines: &str) {
@@ -145,6 +149,7 @@ fn beside_a_peer() {
     if env::var_os("KZ_EMULATOR").is_some() {
         return;
     }
+    let _alone = ALONE.lock().unwrap_or_else(PoisonError::into_inner);
     let folder = Folder::new("peer");
     // One that is the same model, as python3 of the PATH.
     fake(&folder, "python3", "right");
@@ -190,15 +195,21 @@ fn beside_a_peer() {
 
 #[test]
 fn without_pytorch() {
+    let _alone = ALONE.lock().unwrap_or_else(PoisonError::into_inner);
     let folder = Folder::new("no-peer");
     program(&folder, "none", "echo \"none No module named 'torch'\"; exit 3");
     program(&folder, "fails", "exit 7");
+    // It has said what it has, and is not done yet.
+    program(&folder, "slow", "exec >&-; i=0; while [ $i -lt 30000 ]; do i=$((i + 1)); done; exit 8");
+    program(&folder, "hangs", "exec >&-; read -r line; exit 9");
     program(&folder, "talks", "echo hello; read -r line");
     // KZ_PYTHON alone is asked, also where python3 has it.
     program(&folder, "python3", "echo peer PyTorch");
     for (python, why) in [
         ("none", ": No module named 'torch'; "),
         ("fails", ": ended with exit status: 7; "),
+        ("slow", ": ended with exit status: 8; "),
+        ("hangs", ": said no more and did not end; "),
         ("talks", ": said \"hello\", which was not asked for; "),
         ("nowhere", ": cannot be run: "),
     ] {

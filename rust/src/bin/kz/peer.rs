@@ -11,6 +11,8 @@ use std::fs;
 use std::io::{stderr, BufRead, BufReader, BufWriter, Read, Write};
 use std::path::{Path, PathBuf};
 use std::process::{Child, ChildStdin, ChildStdout, Command, Stdio};
+use std::thread::sleep;
+use std::time::Duration;
 
 /// The model in PyTorch. Its head says how it is asked.
 const SCRIPT: &str = concat!(env!("CARGO_MANIFEST_DIR"), "/../oracle/peer.py");
@@ -154,7 +156,7 @@ impl Peer {
                 Ok(peer)
             }
             Some(("none", why)) => {
-                peer.ended();
+                peer.end();
                 Err(why.into())
             }
             _ => Err(peer.wrong(&line)),
@@ -168,20 +170,30 @@ impl Peer {
         String::from_utf8_lossy(&line).trim_end().into()
     }
 
-    /// How it ended, which it is made to if it has not.
+    /// How it ended. What says no more is about to; what has not within a second is made to.
     fn ended(&mut self) -> String {
+        for _ in 0..100 {
+            if let Ok(Some(status)) = self.process.try_wait() {
+                return format!("ended with {status}");
+            }
+            sleep(Duration::from_millis(10));
+        }
+        self.end();
+        "said no more and did not end".into()
+    }
+
+    fn end(&mut self) {
         let _ = self.process.kill();
-        self.process.wait().map_or_else(|e| e.to_string(), |status| format!("ended with {status}"))
+        let _ = self.process.wait();
     }
 
     /// What is wrong where a line is not what was asked for.
     fn wrong(&mut self, line: &str) -> String {
-        let ended = self.ended();
         if line.is_empty() {
-            ended
-        } else {
-            format!("said {line:?}, which was not asked for")
+            return self.ended();
         }
+        self.end();
+        format!("said {line:?}, which was not asked for")
     }
 
     fn lost(&mut self, line: &str) -> Fail {
