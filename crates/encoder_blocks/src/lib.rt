@@ -5,7 +5,7 @@ mod room;
 
 // The sizes of a call: side is P, the most patches on a side. The layers test that hidden is heads times head_dim, and
 // head_dim a multiple of 4.
-#[derive(Drop)]
+#[derive(Clone, Copy)]
 pub struct Sizes {
     pub tokens: usize,
     pub grid_w: usize,

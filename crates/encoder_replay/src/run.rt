@@ -18,7 +18,7 @@ pub const SCRATCH: usize = 4096;
 pub const OUT: usize = 1024;
 
 // What a forward answers, and the hashes of its output and its scratch afterwards.
-#[derive(Drop)]
+#[derive(Clone, Copy)]
 pub struct Answer {
     pub number: usize,
     pub tokens: usize,

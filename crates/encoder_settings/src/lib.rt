@@ -4,7 +4,7 @@ pub mod settings;
 
 use picture_limits::{PictureSettings, Refusal};
 
-#[derive(Drop)]
+#[derive(Clone, Copy)]
 pub struct EncoderSettings {
     pub picture: PictureSettings,
     pub hidden_size: usize,
@@ -19,7 +19,7 @@ pub struct EncoderSettings {
 
 // Which tables a forward call is lent: full ones, or with axes those of rows and of columns; and whether its attention is plain,
 // with the full matrix of scores.
-#[derive(Drop)]
+#[derive(Clone, Copy)]
 pub struct Form {
     pub axes: bool,
     pub plain: bool,

@@ -5,7 +5,7 @@ ghost use Rattle.number_replay.specs.Records.{answer_of, place_of, verdict_from,
 
 use crate::hex::Word;
 
-#[derive(Drop)]
+#[derive(Clone, Copy)]
 pub enum Verdict {
     // the letter of the rule
     Same(u8),

@@ -1,7 +1,7 @@
 // What a call may be handed, and why it is refused.
 pub mod settings;
 
-#[derive(Drop)]
+#[derive(Clone, Copy)]
 pub struct PictureSettings {
     pub patch_size: usize,
     pub spatial_merge_size: usize,
@@ -44,7 +44,7 @@ pub enum Refusal {
 }
 
 // A part of a picture: `height` rows from row `top` on and `width` columns from column `left` on.
-#[derive(Drop)]
+#[derive(Clone, Copy)]
 pub struct View {
     pub top: usize,
     pub left: usize,

@@ -9,7 +9,7 @@ use picture_limits::View;
 
 // The sides of a picture, of its target and of a patch, and how many patches stand down and across; where it is `plain`
 // the target is a view of the picture, padded right and below, and else the picture resized.
-#[derive(Drop)]
+#[derive(Clone, Copy)]
 pub(crate) struct Frame {
     pub h: usize,
     pub w: usize,

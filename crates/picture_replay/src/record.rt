@@ -8,7 +8,7 @@ use replay::line::read_line;
 use replay::marks::{MARKS, fill_floats};
 
 // Where a record's calls are counted: each by its number, past these where it differs, and last of all 19.
-#[derive(Drop)]
+#[derive(Clone, Copy)]
 pub struct Places {
     pub first: usize,
     pub second: usize,

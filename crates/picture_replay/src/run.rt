@@ -13,7 +13,7 @@ use replay::marks::{MARKS, fill_bytes};
 pub const ROOM: usize = 12352;
 
 // What a preprocess answers, and the hash of its output afterwards.
-#[derive(Drop)]
+#[derive(Clone, Copy)]
 pub struct Made {
     pub number: usize,
     pub grid_h: usize,
@@ -23,7 +23,7 @@ pub struct Made {
 }
 
 // The same of a restore.
-#[derive(Drop)]
+#[derive(Clone, Copy)]
 pub struct Back {
     pub number: usize,
     pub height: usize,

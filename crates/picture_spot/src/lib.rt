@@ -8,7 +8,7 @@ use number_floats::pattern::{bits_of_f32, f32_of_bits};
 
 // How a byte is spotted: by arithmetic, with a slope and a shift for each channel, where that is right for every byte
 // of the table; else by halving.
-#[derive(Drop)]
+#[derive(Clone, Copy)]
 pub struct Way {
     pub right: bool,
     pub slope: [f32; 3],

@@ -14,7 +14,7 @@ use number_floats::pattern::bits_of_f32;
 use picture_spot::{Way, byte_of, guess, spot};
 
 // The numbers of the formula, and whether the table has its patterns.
-#[derive(Drop)]
+#[derive(Clone, Copy)]
 pub(crate) struct Formula {
     pub exact: bool,
     pub mean: [f32; 3],

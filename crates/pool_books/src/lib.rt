@@ -6,7 +6,7 @@ use picture_limits::Refusal;
 
 // A key, and the place of its vectors in the slice.
 #[repr(C)]
-#[derive(Drop)]
+#[derive(Clone, Copy)]
 pub struct Held {
     pub key: u64,
     pub start: usize,
@@ -15,7 +15,7 @@ pub struct Held {
 
 // How long the slice is that the pool was made for, and what is held in it: the first `count`, in the order of adding.
 #[repr(C)]
-#[derive(Drop)]
+#[derive(Clone, Copy)]
 pub struct Pool {
     pub len: usize,
     pub count: usize,

@@ -9,7 +9,7 @@ use replay::hash::hash_floats;
 use replay::line::read_line;
 
 // What a call answered, and the hash of the slice afterwards.
-#[derive(Drop)]
+#[derive(Clone, Copy)]
 pub struct Told {
     pub number: usize,
     pub count: usize,

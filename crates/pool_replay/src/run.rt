@@ -8,7 +8,7 @@ use pool_books::{Found, Held, Pool};
 use replay::marks::fill_floats;
 
 // The pool after a call, and what it answered.
-#[derive(Drop)]
+#[derive(Clone, Copy)]
 pub struct Ran {
     pub pool: Pool,
     pub number: usize,

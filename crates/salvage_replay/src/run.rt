@@ -12,7 +12,7 @@ use replay::marks::{MARKS, fill_bytes, fill_words};
 pub const ROOM: usize = 3136;
 
 // What a call answers, and the hashes of the patches, and of output and list afterwards.
-#[derive(Drop)]
+#[derive(Clone, Copy)]
 pub struct Told {
     pub patches: usize,
     pub number: usize,

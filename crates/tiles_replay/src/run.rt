@@ -12,7 +12,7 @@ use replay::marks::{MARKS, fill_bytes};
 pub const ROOM: usize = 12352;
 
 // What a call answers, and the hash of its output afterwards.
-#[derive(Drop)]
+#[derive(Clone, Copy)]
 pub struct Told {
     pub number: usize,
     pub grid_h: usize,

@@ -9,7 +9,7 @@ use unpatch_form::decimal::Number;
 use unpatch_form::lines::{Pair, Triple, picture, vision};
 use unpatch_form::scan::find;
 
-#[derive(Drop)]
+#[derive(Clone, Copy)]
 pub enum Reading {
     Request {
         patch: usize,

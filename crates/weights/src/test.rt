@@ -7,7 +7,7 @@ use crate::entry::Described;
 use tensor_values::{Kind, size_of};
 
 // 16, 17, 18.
-#[derive(Drop)]
+#[derive(Clone, Copy)]
 pub(crate) enum Test {
     Damaged,
     Other,
