@@ -1,5 +1,7 @@
 // Lent buffers. What stands at a place and what is written over it is said in specs/, with its laws
 // in proofs/; here are the functions that the crates above share.
+#![tactic(auto)]
+
 ghost use Rattle.std.specs.Prelude.{◌≡◌, length};
 ghost use Rattle.buffers.specs.Rows.{tab};
 ghost use Rattle.buffers.specs.Region.{region, copied, cleared};

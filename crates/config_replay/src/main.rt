@@ -3,6 +3,8 @@
 // Standard input holds records: eleven numbers of five digits, each with a byte behind it, then a text and a newline. The
 // numbers are the text's length, the number and the place of its answer, and eight sizes of the settings: patch, merge,
 // image, hidden, heads, layers, intermediate, text. `tests/config.py` made the file stdin from document 02 and RFC 8259.
+#![tactic(auto)]
+
 mod record;
 mod replay;
 

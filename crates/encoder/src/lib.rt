@@ -1,2 +1,4 @@
 // The Pixtral encoder: the calls from patches to token vectors, each a form of one run.
+#![tactic(auto)]
+
 pub mod forward;

@@ -1,4 +1,6 @@
 // The layers, in one lent scratch.
+#![tactic(auto)]
+
 mod block;
 pub mod layers;
 mod room;

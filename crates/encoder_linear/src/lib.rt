@@ -1,4 +1,6 @@
 // Sums side by side: the linear layer and weighted sums.
+#![tactic(auto)]
+
 pub mod bias;
 mod few;
 mod lanes;

@@ -1,3 +1,5 @@
 // Attention in the source's form.
+#![tactic(auto)]
+
 pub mod plain;
 mod room;

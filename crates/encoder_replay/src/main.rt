@@ -8,6 +8,8 @@
 // answer: the number, the tokens, the hash of the output and that of the scratch afterwards. The last
 // three are the resize rule, projector_bias, and 1 where the forward is that with plain attention.
 // `oracle/run target/staticlib encoder --sample` made the file stdin from the Rust alone.
+#![tactic(auto)]
+
 mod record;
 mod run;
 mod text;

@@ -1,5 +1,7 @@
 // The run from patches to token vectors, by embedding, layers and projector in one lent scratch, whichever the tables and the
 // attention are.
+#![tactic(auto)]
+
 mod embed;
 pub mod form;
 mod layout;

@@ -1,4 +1,6 @@
 // What a forward call may be handed, and how long each of its buffers has to be.
+#![tactic(auto)]
+
 pub mod lengths;
 pub mod settings;
 

@@ -1,3 +1,5 @@
 // The softmax of a row.
+#![tactic(auto)]
+
 mod soften;
 pub mod softmax;

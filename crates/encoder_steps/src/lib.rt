@@ -1,5 +1,7 @@
 // The steps that are examined: each writes its result in the scratch where all fits, and says whether what then stands
 // there is finite, and all up to here.
+#![tactic(auto)]
+
 ghost use Rattle.std.specs.Prelude.{◌≡◌, ◌+◌, ◌*◌, ◌/◌, length};
 ghost use Rattle.buffers.specs.Region.{region};
 ghost use Rattle.buffers.specs.inner.Room as R;

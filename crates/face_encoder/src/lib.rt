@@ -1,4 +1,6 @@
 // The calls on patches: settings turned, the call, and its answer as a report.
+#![tactic(auto)]
+
 pub mod axes;
 pub mod plain;
 

@@ -1,4 +1,6 @@
 // The calls on pictures: settings turned, the call, and its answer as a report.
+#![tactic(auto)]
+
 pub mod salvage;
 
 ghost use Rattle.std.specs.Prelude.{◌≡◌, length};

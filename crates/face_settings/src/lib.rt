@@ -1,5 +1,7 @@
 // Settings as the C face takes them and hands them back, with structs of their own, so that what users linked stays as it is
 // when the settings inside grow.
+#![tactic(auto)]
+
 ghost use Rattle.std.specs.Prelude.{◌≡◌};
 ghost use Rattle.face_settings.specs.Settings.{inner, inner_encoder, outer, outer_encoder};
 

@@ -1,4 +1,6 @@
 // The calls on the tiles of a sweep: settings turned, the call, and its answer as a report.
+#![tactic(auto)]
+
 ghost use Rattle.std.specs.Prelude.{◌≡◌, length};
 ghost use Rattle.picture_tiles.specs.Answer.{cut_of, tiled, patches_out, untiled, bytes_out};
 ghost use Rattle.face_settings.specs.Settings.{inner};

@@ -1,4 +1,6 @@
 // Lists of plain digits, as the shapes and the offsets of a header are.
+#![tactic(auto)]
+
 ghost use Rattle.std.specs.Prelude.{◌≡◌, List, [], ◌∷◌, ◌++◌, ℕ, ◌*◌, ◌<◌, drop};
 ghost use Rattle.std.proofs.Math.Option.{some};
 ghost use Rattle.json_lists.specs.Lists.{held, said_of};

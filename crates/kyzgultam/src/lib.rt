@@ -1,5 +1,7 @@
 // The C face: each call under its name in C. Those on pictures, tiles and patches are handed on to `face_picture`, `face_tiles`
 // and `face_encoder`, which turn settings and answers; those on pools, on config.json and on safetensors files are turned here.
+#![tactic(auto)]
+
 pub mod axes;
 pub mod config_file;
 pub mod plain;

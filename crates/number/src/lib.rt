@@ -1,5 +1,7 @@
 // The five number rules on bit patterns, and bf16 in storage, which this crate exports for C.
 // No function here has a `requires`, and a NaN pattern gives what the rules say.
+#![tactic(auto)]
+
 ghost use Rattle.std.specs.Prelude.{◌≡◌, min, length};
 ghost use Rattle.number_bf16_half_root.specs.Bf16 as Bf16;
 ghost use Rattle.number_bf16_half_root.specs.Half as Half;

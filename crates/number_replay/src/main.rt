@@ -5,6 +5,8 @@
 // root, E, T, packed, widened), a space, the input, a space, the Rust's answer, a newline; both numbers as
 // 8 lower-case hex digits. `oracle/run target/staticlib --sample` made the file stdin from the Rust
 // alone.
+#![tactic(auto)]
+
 mod hex;
 mod record;
 mod replay;

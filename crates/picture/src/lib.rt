@@ -1,4 +1,6 @@
 // A picture to patches, and a patch of them.
+#![tactic(auto)]
+
 pub mod patch;
 pub mod preprocess;
 

@@ -1,4 +1,6 @@
 // What a call may be handed, and why it is refused.
+#![tactic(auto)]
+
 pub mod settings;
 
 #[derive(Clone, Copy)]

@@ -1,4 +1,6 @@
 // A picture resized, or a part of it as it is, cut into patches.
+#![tactic(auto)]
+
 pub mod frame;
 mod nest;
 pub mod pixel;

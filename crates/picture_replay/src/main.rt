@@ -10,6 +10,8 @@
 // the patterns of their means and deviations. `oracle/run target/staticlib picture --sample` made the
 // file stdin from the Rust, with these means and deviations, and, for rule 2, from its request over the
 // Rust's own resize.
+#![tactic(auto)]
+
 mod record;
 mod run;
 mod text;

@@ -1,4 +1,6 @@
 // The numbers of the bilinear resize: where an index lies in the source, and the byte of four neighbours.
+#![tactic(auto)]
+
 ghost use Rattle.std.specs.Prelude.{◌≡◌, ◌-◌, min};
 ghost use Rattle.picture_resize.specs.Resize.{whole, near, blend, to_byte};
 ghost use Rattle.picture_resize.specs.inner.Weighed.{weighed, held, Held};

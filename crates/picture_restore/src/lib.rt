@@ -1,4 +1,6 @@
 // Patches back to the resized picture.
+#![tactic(auto)]
+
 ghost use Rattle.std.specs.Prelude.{◌≡◌, true, ◌*◌, length};
 ghost use Rattle.picture_samples.specs.Samples.{sample_table, channels_allowed, value, entry};
 ghost use Rattle.picture_limits.specs.Shape.{shaped};

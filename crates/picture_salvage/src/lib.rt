@@ -1,4 +1,6 @@
 // Patterns of damaged patches back to the picture: a sample that has no byte becomes byte 0, and is listed.
+#![tactic(auto)]
+
 ghost use Rattle.std.specs.Prelude.{◌≡◌, true, [], ◌∷◌, ◌+◌, ◌*◌, ◌/◌, ◌%◌, ◌≤◌, ◌<◌, length};
 ghost use Rattle.buffers.specs.Rows.{count};
 ghost use Rattle.buffers.specs.Region.{put};

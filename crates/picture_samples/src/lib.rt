@@ -1,4 +1,6 @@
 // The sample values of the 256 bytes in three channels, (byte / 255 - mean) / deviation in f32, as one table of bits.
+#![tactic(auto)]
+
 pub mod allowed;
 mod formula;
 

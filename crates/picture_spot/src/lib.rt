@@ -1,4 +1,6 @@
 // The byte of a sample: spotted in a table of 768 patterns, and then compared by its bits.
+#![tactic(auto)]
+
 ghost use Rattle.std.specs.Prelude.{◌≡◌, ◌<◌};
 ghost use Rattle.std.specs.Float.Ieee as Ieee;
 ghost use Rattle.picture_samples.specs.Samples.{value, entry};

@@ -1,4 +1,6 @@
 // Sweeps too large for one picture, cut into tiles.
+#![tactic(auto)]
+
 pub mod cut;
 mod padding;
 mod place;

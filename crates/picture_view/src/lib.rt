@@ -1,4 +1,6 @@
 // Patches back to a view of a picture: what the loops find known, and what they write.
+#![tactic(auto)]
+
 pub mod view;
 
 ghost use Rattle.std.specs.Prelude.{◌≡◌, ℕ, ◌+◌, ◌*◌, ◌≤◌, ◌<◌, min, length, get_or};

@@ -1,4 +1,6 @@
 // A pool of token vectors: up to 64 results in one lent slice, each under the number of its sweep.
+#![tactic(auto)]
+
 mod keys;
 mod slice;
 

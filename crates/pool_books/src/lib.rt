@@ -1,4 +1,6 @@
 // The bookkeeping of a pool, and one look at it: whether it is one for the slice, and where a key stands.
+#![tactic(auto)]
+
 ghost use Rattle.std.specs.Prelude.{◌≡◌};
 ghost use Rattle.pool_books.specs.inner.Place.{books_of};
 

@@ -7,6 +7,8 @@
 // them. The next 4 are: the length lent (of 5 the entry); the key; how many floats are added (of 4 the count, of 5 the start);
 // the seed (of 5 the length). The last 5 are the answer: the number, the count of results afterwards, start and length of what
 // was found, and the hash of the whole slice. `oracle/run target/staticlib pool --sample` made the file stdin, from the request.
+#![tactic(auto)]
+
 mod record;
 mod run;
 mod text;

@@ -9,6 +9,8 @@
 // bad samples, and the hashes of output and list afterwards. The last 7 are the resize rule and the patterns of means and
 // deviations. `oracle/run target/staticlib salvage --sample` made the file stdin: salvage from its request, over the samples
 // of the Rust.
+#![tactic(auto)]
+
 mod record;
 mod run;
 mod text;

@@ -1,4 +1,6 @@
 // A safetensors file opened: its header read, and the place of each tensor that the loader asks for.
+#![tactic(auto)]
+
 mod names;
 mod walk;
 

@@ -1,5 +1,7 @@
 // The bytes of a tensor, as a safetensors file holds them, to patterns of f32s. A pattern is a u32 and no float, so a NaN keeps
 // its bits. No public function here has a `requires`.
+#![tactic(auto)]
+
 ghost use Rattle.std.specs.Prelude.{◌≡◌};
 ghost use Rattle.buffers.specs.Region.{copied};
 ghost use Rattle.tensor_values.specs.Values.{size_of, values_of};

@@ -9,6 +9,8 @@
 // damage with its place; and 9 are its answer, as before. The last 7 are the resize rule of both calls and
 // the patterns of their means and deviations. `oracle/run target/staticlib tiles --sample` made the file
 // stdin: the cut and the padding from their request, and the patches of a padded tile by the Rust.
+#![tactic(auto)]
+
 mod record;
 mod run;
 mod text;

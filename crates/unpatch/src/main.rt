@@ -1,6 +1,8 @@
 // Reads a picture and its settings as text, and writes the picture that patches give back.
 //
 // One byte more than a text may have is read, so that a longer one is seen to be longer.
+#![tactic(auto)]
+
 use libc::{STDIN_FILENO, STDOUT_FILENO};
 
 fn main() {

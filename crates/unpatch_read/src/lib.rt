@@ -1,4 +1,6 @@
 // What reads a text in the form: the rows' bytes, and the whole.
+#![tactic(auto)]
+
 mod hex;
 mod lines;
 pub mod read;

@@ -4,6 +4,8 @@
 // Standard input holds records: a line of two numbers of five digits with a tab between them, the
 // lengths of a text and of its answer; then the text, then the answer. `tests/unpatch.py` made the
 // file stdin from document 01 alone.
+#![tactic(auto)]
+
 mod record;
 mod replay;
 

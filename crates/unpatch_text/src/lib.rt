@@ -1,4 +1,6 @@
 // Text in, text out: a picture and its settings, to patches and back.
+#![tactic(auto)]
+
 mod print;
 mod run;
 

@@ -1,4 +1,6 @@
 // Weights from a safetensors file, in the order of the weights' table.
+#![tactic(auto)]
+
 mod counts;
 mod entry;
 mod fill;

@@ -5,6 +5,8 @@
 // the file's length; patch, merge, image, rule, hidden, heads, head, layers, intermediate, text and bias; how many floats are
 // lent; number, floats, tensor and place of the answer; and the hash of 2,048 words afterwards, of which the first were lent
 // and which all were marks before. `tests/weights.py` made the file stdin from document 02, RFC 8259 and the public layout.
+#![tactic(auto)]
+
 mod record;
 mod text;
 
