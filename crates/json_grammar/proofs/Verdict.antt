@@ -26,6 +26,8 @@ refused-at : (p r : List ℕ) → Refused p r → (k : ℕ) (c : List ℕ) → A
 unfolding Refused
 refused-at p [] h k [] both_end t = h k (subst (Text k) (append-nil p) t)
 refused-at p (b ∷ r) h k (b' ∷ c) same_byte t = h k c t
+refused-at p [] h k (b' ∷ c) x5 t = elim x5 [ ]
+refused-at p (b ∷ r) h k [] x5 t = elim x5 [ ]
 
 stopped : (d : ℕ) (p r : List ℕ) → L.Begins d p → Refused p r → J.Stopped d (p ++ r) (length p)
 stopped d p r h k =

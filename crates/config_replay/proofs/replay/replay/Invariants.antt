@@ -1,0 +1,12 @@
+-- `replay::replay` meets its contract. Assumes nothing.
+use Prim.Native.Nat.{◌+◌, ◌-◌, ◌≤◌}
+use lib.ListN.{length}
+use Rattle.config_replay.specs.Record.{none}
+use Rattle.config_replay.proofs.Records.{Leads}
+use Rattle.config_replay.proofs.replay.replay.Given as goal
+
+abbrev pub invariant-loop-at : goal.invariant-loop-at
+invariant-loop-at l = (l.at ≤ length l.text) × (l.c.agree + l.c.differ ≤ l.at) × Leads none l.text l.at l.c
+
+abbrev pub decreases-loop-at : goal.decreases-loop-at
+decreases-loop-at l = length l.text - l.at

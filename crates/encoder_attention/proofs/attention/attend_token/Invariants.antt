@@ -1,0 +1,19 @@
+-- `encoder_attention::attention::attend_token` meets its contract. Assumes nothing.
+use mathlib.Core.Path.{◌≡◌}
+use Prim.Native.Nat.{◌+◌, ◌*◌, ◌-◌, ◌≤◌}
+use lib.ListN.{length}
+use Rattle.buffers.specs.Region.{put}
+use Rattle.number_floats.specs.Constants.{zero32}
+use Rattle.buffers.specs.Rows.{rows}
+use Rattle.buffers.specs.Each.{blank}
+use Rattle.encoder_kernels.specs.Kernels.{all_finite}
+use Rattle.encoder_attention.proofs.Attends.{sums_at, scores_at}
+use Rattle.encoder_attention.proofs.attention.attend_token.Given as goal
+
+abbrev pub invariant-loop-h : goal.invariant-loop-h
+invariant-loop-h l =
+    (l.h ≤ l.heads) × (length l.s ≡ length l.initial.s) × (l.ok ≡ all_finite (rows l.h (scores_at l.initial.s l.q l.k l.v l.row l.out l.t l.heads l.hd l.scaling l.i)))
+    × (blank zero32 l.row l.t l.s ≡ put (blank zero32 l.row l.t l.initial.s) (l.out + l.i * (l.heads * l.hd)) (rows l.h (sums_at l.initial.s l.q l.k l.v l.row l.out l.t l.heads l.hd l.scaling l.i)))
+
+abbrev pub decreases-loop-h : goal.decreases-loop-h
+decreases-loop-h l = l.heads - l.h

@@ -1,0 +1,14 @@
+-- `encoder_elements::element::add_values` meets its contract. Assumes nothing.
+use mathlib.Core.Path.{◌≡◌}
+use Prim.Native.Nat.{◌-◌, ◌≤◌}
+use lib.ListN.{length}
+use lib.Ieee.{nan, binary32, add}
+use Rattle.buffers.specs.Region.{region, put}
+use Rattle.buffers.specs.Each.{both}
+use Rattle.encoder_elements.proofs.element.add_values.Given as goal
+
+abbrev pub invariant-loop-i : goal.invariant-loop-i
+invariant-loop-i l = (l.i ≤ l.n) × (length l.s ≡ length l.initial.s) × (l.s ≡ put l.initial.s l.y (both nan l.i (λ a b. add binary32 a b) (region l.initial.s l.y l.n) (region l.initial.s l.z l.n)))
+
+abbrev pub decreases-loop-i : goal.decreases-loop-i
+decreases-loop-i l = l.n - l.i

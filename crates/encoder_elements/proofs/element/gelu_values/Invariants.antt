@@ -1,0 +1,15 @@
+-- `encoder_elements::element::gelu_values` meets its contract. Assumes nothing.
+use mathlib.Core.Path.{◌≡◌}
+use Prim.Native.Nat.{◌-◌, ◌≤◌}
+use lib.ListN.{length}
+use lib.Ieee.{nan}
+use Rattle.buffers.specs.Region.{region, put}
+use Rattle.encoder_elements.specs.Element.{gelu_of}
+use Rattle.buffers.specs.Each.{both}
+use Rattle.encoder_elements.proofs.element.gelu_values.Given as goal
+
+abbrev pub invariant-loop-i : goal.invariant-loop-i
+invariant-loop-i l = (l.i ≤ l.n) × (length l.s ≡ length l.initial.s) × (l.s ≡ put l.initial.s l.y (both nan l.i (λ a b. gelu_of a) (region l.initial.s l.y l.n) (region l.initial.s l.y l.n)))
+
+abbrev pub decreases-loop-i : goal.decreases-loop-i
+decreases-loop-i l = l.n - l.i

@@ -1,0 +1,22 @@
+-- `encoder_elements::silus::sixteen_negated` meets its contract. Assumes nothing.
+use mathlib.Core.Path.{refl}
+use Prim.Native.Nat.{◌+◌}
+use native.Mathlib.Omega.{arith}
+use lib.ListN.{get_or, length-set, length-replicate}
+use lib.Ieee.{nan, neg}
+use Rattle.buffers.specs.Rows.{tab}
+use Rattle.buffers.specs.Region.{put}
+use Rattle.buffers.proofs.Lists.{tab-step-0, tab-all}
+use Rattle.encoder_elements.proofs.silus.sixteen_negated.Goals as goal
+
+pub loop-l-init : goal.loop-l-init
+unfolding put tab
+loop-l-init c = (omega arith, simp length-replicate, refl)
+
+pub loop-l-preserved : goal.loop-l-preserved
+loop-l-preserved c =
+    (omega arith, simp length-set c.loop-l.invariant.1, tab-step-0 _ c.loop-l.x c.loop-l.l (λ i. neg (get_or c.args.s.now (c.args.y + i) nan)) _ c.loop-l.invariant.2 refl)
+
+pub returns : goal.returns
+returns c =
+    tab-all _ c.loop-l.x 16 c.loop-l.l (λ i. neg (get_or c.args.s.now (c.args.y + i) nan)) (simp length-replicate) c.loop-l.invariant.0 c.loop-l-test.false c.loop-l.invariant.2

@@ -1,0 +1,27 @@
+-- `encoder_linear::linear::from_piece` meets its contract. Assumes nothing.
+use mathlib.Core.Path.{◌≡◌, ap, ◌∙◌}
+use native.Mathlib.Omega.{arith}
+use lib.ListN.{length, length-replicate, replicate}
+use Rattle.buffers.specs.Region.{put}
+use Rattle.number_floats.specs.Constants.{zero32}
+use Rattle.buffers.proofs.Lists.{fit}
+use Rattle.encoder_linear.proofs.Pieces.{piece-lanes}
+use Rattle.encoder_linear.proofs.linear.from_piece.Goals as goal
+
+pub overflow_add-xa : goal.overflow_add-xa
+overflow_add-xa c = let f = fit c.args.nin c.requires.block.some in omega (arith, c.requires.block.xin, c.requires.kin)
+
+pub pack-requires : goal.pack-requires
+pack-requires c =
+    record {
+      rows = c.requires.block.lanes;
+      tin = simp length-replicate (omega (arith, c.requires.short));
+      xin = λ l h. let f = fit c.args.nin h in omega (arith, c.requires.block.xin, c.requires.kin);
+    }
+
+pub returns : goal.returns
+returns c =
+    let t : length (replicate 16384 zero32) ≡ 16384 = simp length-replicate in
+    c.columns.ensures
+    ∙ ap (λ l. put c.args.s.now c.args.y l)
+    (piece-lanes c.args.r c.args.nin c.args.nout c.args.w.now c.args.s.now (replicate 16384 zero32) c.pack.new.xt c.args.x.now c.args.xa c.args.y c.args.k c.args.n c.requires.block.lanes (omega (arith, c.requires.short)) c.requires.kin c.pack.ensures)

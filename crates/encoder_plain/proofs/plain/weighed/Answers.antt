@@ -1,0 +1,36 @@
+-- `encoder_plain::plain::weighed` meets its contract. Assumes nothing.
+use mathlib.Core.Path.{refl, ap, ◌∙◌}
+use Prim.Native.Nat.{◌+◌, ◌*◌}
+use native.Mathlib.Omega.{arith}
+use native.Mathlib.Numerals.{add-one}
+use Rattle.buffers.proofs.Lists.{fit}
+use lib.ListN.{get_or}
+use lib.Ieee.{nan, binary32, mul}
+use Rattle.encoder_linear.specs.Linear.{sum_of}
+use Rattle.encoder_plain.proofs.plain.weighed.Goals as goal
+
+pub loop-vi-init : goal.loop-vi-init
+unfolding sum_of
+loop-vi-init c = (omega arith, refl)
+
+pub overflow_mul-sum : goal.overflow_mul-sum
+overflow_mul-sum c = omega (arith, fit c.args.dim c.loop-vi-test.true, c.requires)
+
+pub overflow_add-sum-in-loop-vi : goal.overflow_add-sum-in-loop-vi
+overflow_add-sum-in-loop-vi c = omega (arith, fit c.args.dim c.loop-vi-test.true, c.requires)
+
+pub overflow_add-sum-in-loop-vi-2 : goal.overflow_add-sum-in-loop-vi-2
+overflow_add-sum-in-loop-vi-2 c = omega (arith, fit c.args.dim c.loop-vi-test.true, c.requires)
+
+pub offset_bounds-s-v : goal.offset_bounds-s-v
+offset_bounds-s-v c = omega (arith, fit c.args.dim c.loop-vi-test.true, c.requires)
+
+pub bounds-s-v : goal.bounds-s-v
+bounds-s-v c = omega (arith, fit c.args.dim c.loop-vi-test.true, c.requires)
+
+pub loop-vi-preserved : goal.loop-vi-preserved
+unfolding sum_of
+loop-vi-preserved c = (omega arith, rw (add-one, ← c.loop-vi.invariant.1))
+
+pub returns : goal.returns
+returns c = c.loop-vi.invariant.1 ∙ ap (λ n. sum_of n (λ j. mul binary32 (get_or c.args.s.now (c.args.p + j) nan) (get_or c.args.s.now (c.args.v + (j * c.args.dim + c.args.e)) nan))) (omega arith)

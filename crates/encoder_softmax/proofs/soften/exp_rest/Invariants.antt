@@ -1,0 +1,15 @@
+-- `encoder_softmax::soften::exp_rest` meets its contract. Assumes nothing.
+use mathlib.Core.Path.{◌≡◌}
+use Prim.Native.Nat.{◌-◌, ◌≤◌}
+use lib.ListN.{length}
+use lib.Ieee.{nan, binary32, sub}
+use Rattle.number_exp_tanh.specs.Exp.{E}
+use Rattle.buffers.specs.Region.{region, put}
+use Rattle.buffers.specs.Each.{both}
+use Rattle.encoder_softmax.proofs.soften.exp_rest.Given as goal
+
+abbrev pub invariant-loop-i : goal.invariant-loop-i
+invariant-loop-i l = (l.i ≤ l.n) × (length l.s ≡ length l.initial.s) × (l.s ≡ put l.initial.s l.y (both nan l.i (λ a b. E (sub binary32 a l.m)) (region l.initial.s l.y l.n) (region l.initial.s l.y l.n)))
+
+abbrev pub decreases-loop-i : goal.decreases-loop-i
+decreases-loop-i l = l.n - l.i

@@ -1,0 +1,11 @@
+-- `encoder_steps::norm_finite` meets its contract. Assumes nothing.
+use mathlib.Core.Bool.{◌&&◌}
+use mathlib.Core.Path.{ap}
+use Rattle.encoder_steps.proofs.norm_finite.Goals as goal
+
+pub shape_of-s : goal.shape_of-s
+shape_of-s c = c.rms_norm.auto.s
+
+pub returns : goal.returns
+returns c =
+    record { all = c.rms_norm.ensures; finite-is = ap (λ b. c.args.ok && b) c.finite_rows.ensures }

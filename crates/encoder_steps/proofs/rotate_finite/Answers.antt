@@ -1,0 +1,11 @@
+-- `encoder_steps::rotate_finite` meets its contract. Assumes nothing.
+use mathlib.Core.Bool.{◌&&◌}
+use mathlib.Core.Path.{ap}
+use Rattle.encoder_steps.proofs.rotate_finite.Goals as goal
+
+pub shape_of-s : goal.shape_of-s
+shape_of-s c = c.rotate.auto.s
+
+pub returns : goal.returns
+returns c =
+    record { all = c.rotate.ensures; finite-is = ap (λ b. c.args.ok && b) c.finite_heads.ensures }

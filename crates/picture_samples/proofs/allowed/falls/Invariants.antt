@@ -1,0 +1,13 @@
+-- `picture_samples::allowed::falls` meets its contract. Assumes nothing.
+use mathlib.Core.Path.{◌≡◌}
+use Prim.Native.Nat.{suc, ◌-◌, ◌≤◌}
+use lib.Ieee.{lt}
+use Rattle.buffers.specs.Rows.{all}
+use Rattle.picture_samples.specs.Samples.{value, entry}
+use Rattle.picture_samples.proofs.allowed.falls.Given as goal
+
+abbrev pub invariant-loop-b : goal.invariant-loop-b
+invariant-loop-b l = (l.b ≤ 255) × (l.ok ≡ all l.b (λ i. lt (value (entry l.t) l.c (suc i)) (value (entry l.t) l.c i)))
+
+abbrev pub decreases-loop-b : goal.decreases-loop-b
+decreases-loop-b l = 255 - l.b

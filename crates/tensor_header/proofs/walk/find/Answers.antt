@@ -1,0 +1,22 @@
+-- `walk::find` meets its contract. Assumes nothing.
+use mathlib.Core.Path.{sym, ◌∙◌}
+use native.Mathlib.Omega.{arith}
+use Rattle.tensor_header.proofs.Told.{no-object, an-object}
+use borrow.Author.Rules.{rules}
+use Rattle.tensor_header.proofs.walk.find.Goals as goal
+
+opens-requires : tie.Need-opens-requires
+
+opens-requires c κs = search rules
+
+pub overflow_add-at : goal.overflow_add-at
+overflow_add-at c = omega (arith, c.blank-at.ensures.high)
+
+pub returns-then-opens : goal.returns-then-opens
+returns-then-opens c = an-object c.blank-at.ensures c.args.s c.args.places.now _ c.walk.auto.places (sym c.opens.ensures ∙ c.if-opens.true) c.walk.ensures
+
+pub overflow_add-result : goal.overflow_add-result
+overflow_add-result c = omega (arith, c.blank-at.ensures.high)
+
+pub returns : goal.returns
+returns c = no-object c.blank-at.ensures c.args.s c.args.places.now (sym c.opens.ensures ∙ c.if-opens.false)

@@ -1,0 +1,13 @@
+-- `tensor_values::plain::widen_f32` meets its contract. Assumes nothing.
+use mathlib.Core.Path.{◌≡◌}
+use Prim.Native.Nat.{◌-◌, ◌/◌}
+use lib.ListN.{length}
+use Rattle.tensor_values.specs.declared.Kind.TheVariants.{F32}
+use Rattle.tensor_values.proofs.Turns.{Begun}
+use Rattle.tensor_values.proofs.plain.widen_f32.Given as goal
+
+abbrev pub invariant-loop-i : goal.invariant-loop-i
+invariant-loop-i l = Begun F32 l.bytes l.initial.out l.out l.i × (l.n ≡ length l.bytes / 4)
+
+abbrev pub decreases-loop-i : goal.decreases-loop-i
+decreases-loop-i l = l.n - l.i
