@@ -57,7 +57,7 @@ returns-in-Unshaped c =
 
 pub returns-in-Shaped : goal.returns-in-Shaped
 returns-in-Shaped c = record {
-      answer = c.salvage_shaped.ensures.0;
-      output = c.salvage_shaped.ensures.1.0;
-      entries = c.salvage_shaped.ensures.1.1;
+      answer = c.salvage_shaped.ensures.answer;
+      output = c.salvage_shaped.ensures.output;
+      entries = c.salvage_shaped.ensures.entries;
     }
