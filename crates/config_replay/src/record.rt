@@ -4,9 +4,9 @@ ghost use Rattle.config_replay.specs.Record.{number_at, lent, said_agrees, setti
 
 use config::{Configured, Said, config};
 use encoder_settings::EncoderSettings;
-use libc::STDOUT_FILENO;
 use picture_limits::PictureSettings;
 use picture_limits::settings::number;
+use std::io::Stdout;
 
 // How long the first record is, and whether its text is answered as it says.
 #[derive(Drop)]
@@ -93,7 +93,7 @@ fn settings_agree(s: EncoderSettings, want: &[u8]) -> bool
 }
 
 // Whether a text is answered as the record says.
-fn judge(text: &[u8], want: &[u8]) -> bool
+fn judge(stdout: Stdout, text: &[u8], want: &[u8]) -> bool
     requires { 66 ≤ length want.now }
     ensures { Judges text.now want.now result }
 {
@@ -101,38 +101,38 @@ fn judge(text: &[u8], want: &[u8]) -> bool
     let said = found.said;
     let ok = said_agrees(said, want) & settings_agree(found.settings, want);
     if !ok {
-        io::write_all(STDOUT_FILENO, b"not answered so: ");
-        io::write_all(STDOUT_FILENO, text);
-        io::write_all(STDOUT_FILENO, b"\n");
+        let _ = stdout.write_all(b"not answered so: ");
+        let _ = stdout.write_all(text);
+        let _ = stdout.write_all(b"\n");
     }
     ok
 }
 
-fn cut_short(text: &[u8]) -> Step
+fn cut_short(stdout: Stdout, text: &[u8]) -> Step
     ensures { result ≡ unread text.now }
 {
-    io::write_all(STDOUT_FILENO, b"no record: ");
-    io::write_all(STDOUT_FILENO, text);
+    let _ = stdout.write_all(b"no record: ");
+    let _ = stdout.write_all(text);
     Step {
         len: text.len(),
         same: false,
     }
 }
 
-pub(crate) fn first(text: &[u8]) -> Step
+pub(crate) fn first(stdout: Stdout, text: &[u8]) -> Step
     requires { 0 < length text.now }
     ensures { Steps text.now result × (0 < result.len) × (result.len ≤ length text.now) }
 {
     if text.len() < 66 {
-        return cut_short(text);
+        return cut_short(stdout, text);
     }
     let n = number_at(text, 0);
     if text.len() - 66 < n + 1 {
-        return cut_short(text);
+        return cut_short(stdout, text);
     }
     let end = 66 + n;
     Step {
         len: end + 1,
-        same: judge(&text[66..end], text),
+        same: judge(stdout, &text[66..end], text),
     }
 }

@@ -11,27 +11,30 @@ mod hex;
 mod record;
 mod replay;
 
-use libc::{STDIN_FILENO, STDOUT_FILENO};
+use read_input::read_full;
+use std::io;
+use std::io::Stdout;
 
-fn put(name: &[u8], count: u64) {
-    io::write_all(STDOUT_FILENO, name);
-    io::print_decimal(STDOUT_FILENO, count);
+fn put(stdout: Stdout, name: &[u8], count: u64) -> io::Result<()> {
+    stdout.write_all(name)?;
+    stdout.print(count)
 }
 
-fn main() {
+fn main(rt: HostRuntime) -> io::Result<()> {
     let mut text = [0u8; 262144];
-    let n = io::read_full(STDIN_FILENO, &mut text);
+    let stdout = rt.stdout();
+    let n = read_full(&mut rt.stdin(), &mut text)?;
     if n == 262144 {
-        io::write_all(STDOUT_FILENO, b"the input fills the buffer\n");
+        stdout.write_all(b"the input fills the buffer\n")?;
     }
-    let counts = replay::replay(&text[..n]);
-    put(b"bf16 ", counts[0]);
-    put(b" half ", counts[1]);
-    put(b" root ", counts[2]);
-    put(b" exp ", counts[3]);
-    put(b" tanh ", counts[4]);
-    put(b" pack ", counts[5]);
-    put(b" widen ", counts[6]);
-    put(b" differ ", counts[7]);
-    io::write_all(STDOUT_FILENO, b"\n");
+    let counts = replay::replay(stdout, &text[..n]);
+    put(stdout, b"bf16 ", counts[0])?;
+    put(stdout, b" half ", counts[1])?;
+    put(stdout, b" root ", counts[2])?;
+    put(stdout, b" exp ", counts[3])?;
+    put(stdout, b" tanh ", counts[4])?;
+    put(stdout, b" pack ", counts[5])?;
+    put(stdout, b" widen ", counts[6])?;
+    put(stdout, b" differ ", counts[7])?;
+    stdout.write_all(b"\n")
 }

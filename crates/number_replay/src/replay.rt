@@ -4,7 +4,7 @@ ghost use Rattle.number_replay.specs.Lines.{lines};
 ghost use Rattle.number_replay.specs.Records.{tally};
 
 use crate::record::Verdict;
-use libc::STDOUT_FILENO;
+use std::io::Stdout;
 
 // How many bytes the first line has, its newline among them.
 fn line_len(text: &[u8]) -> usize
@@ -23,24 +23,24 @@ fn line_len(text: &[u8]) -> usize
 }
 
 // Writes a record that does not agree.
-fn report(n: u64, line: &[u8], v: Verdict) {
+fn report(stdout: Stdout, n: u64, line: &[u8], v: Verdict) {
     match v {
         Verdict::Same(_) => {}
         Verdict::Differs(ours) => {
-            io::write_all(STDOUT_FILENO, b"ours ");
-            io::print_hex(STDOUT_FILENO, ours as u64, 8);
-            io::write_all(STDOUT_FILENO, b" for ");
-            io::write_all(STDOUT_FILENO, line);
+            let _ = stdout.write_all(b"ours ");
+            let _ = print!(stdout; "{ours:08x}");
+            let _ = stdout.write_all(b" for ");
+            let _ = stdout.write_all(line);
         }
         Verdict::Bad => {
-            io::write_all(STDOUT_FILENO, b"bad record ");
-            io::print_decimal(STDOUT_FILENO, n);
-            io::write_all(STDOUT_FILENO, b"\n");
+            let _ = stdout.write_all(b"bad record ");
+            let _ = stdout.print(n);
+            let _ = stdout.write_all(b"\n");
         }
     }
 }
 
-pub fn replay(text: &[u8]) -> [u64; 8]
+pub fn replay(stdout: Stdout, text: &[u8]) -> [u64; 8]
     ensures { result ≡ tally (replicate 8 0) (lines text.now) }
 {
     let mut counts = [0u64; 8];
@@ -51,7 +51,7 @@ pub fn replay(text: &[u8]) -> [u64; 8]
         let line = &text[at..end];
         let v = crate::record::judge(line);
         n += 1;
-        report(n, line, v);
+        report(stdout, n, line, v);
         let k = crate::record::place(v);
         counts[k] += 1;
         at = end;

@@ -3,10 +3,10 @@ ghost use Rattle.std.specs.Prelude.{◌≡◌, ◌<◌};
 ghost use Rattle.pool_replay.specs.Record.{same_as, place_of, differs, told_of, judged_in, slice_in};
 
 use crate::run::Ran;
-use libc::STDOUT_FILENO;
 use pool_books::Pool;
 use replay::hash::hash_floats;
 use replay::line::read_line;
+use std::io::Stdout;
 
 // What a call answered, and the hash of the slice afterwards.
 #[derive(Clone, Copy)]
@@ -47,30 +47,29 @@ fn place(m: Told, v: &[usize; 10]) -> usize
     6
 }
 
-fn put(x: usize) {
-    io::print_decimal(STDOUT_FILENO, x as u64);
-    io::write_all(STDOUT_FILENO, b" ");
+fn put(stdout: Stdout, x: usize) {
+    let _ = print!(stdout; "{x} ");
 }
 
 // Writes what ours are where they differ from the line's.
-fn report(p: usize, m: Told, line: &[u8]) {
+fn report(stdout: Stdout, p: usize, m: Told, line: &[u8]) {
     if p == 6 {
-        io::write_all(STDOUT_FILENO, b"ours ");
-        put(m.number);
-        put(m.count);
-        put(m.start);
-        put(m.len);
-        put(m.cells);
-        io::write_all(STDOUT_FILENO, b"for ");
-        io::write_all(STDOUT_FILENO, line);
+        let _ = stdout.write_all(b"ours ");
+        put(stdout, m.number);
+        put(stdout, m.count);
+        put(stdout, m.start);
+        put(stdout, m.len);
+        put(stdout, m.cells);
+        let _ = stdout.write_all(b"for ");
+        let _ = stdout.write_all(line);
     }
 }
 
-fn bad(line: &[u8]) -> usize
+fn bad(stdout: Stdout, line: &[u8]) -> usize
     ensures { result ≡ differs }
 {
-    io::write_all(STDOUT_FILENO, b"no record: ");
-    io::write_all(STDOUT_FILENO, line);
+    let _ = stdout.write_all(b"no record: ");
+    let _ = stdout.write_all(line);
     6
 }
 
@@ -88,21 +87,21 @@ fn tell(ran: Ran, cells: usize) -> Told
 }
 
 // The pool and the slice are those that the lines before have left.
-pub(crate) fn judge(p: Pool, s: &mut [f32], line: &[u8]) -> Judged
+pub(crate) fn judge(stdout: Stdout, p: Pool, s: &mut [f32], line: &[u8]) -> Judged
     ensures answer { (result ≡ judged_in p s.old line.now) × (result.place < 7) }
     ensures output { s.new ≡ slice_in p s.old line.now }
 {
     let mut v = [0usize; 10];
     if !read_line(line, &mut v) {
         return Judged {
-            place: bad(line),
+            place: bad(stdout, line),
             pool: p,
         };
     }
     let ran = crate::run::call(p, s, &v);
     let m = tell(ran, hash_floats(s) as usize);
     let at = place(m, &v);
-    report(at, m, line);
+    report(stdout, at, m, line);
     let after = ran.pool;
     Judged {
         place: at,

@@ -6,9 +6,10 @@ ghost use Rattle.replay.specs.Pieces.{pieces};
 ghost use Rattle.pool_replay.specs.Record.{tally};
 
 use crate::record::judge;
+use std::io::Stdout;
 
 // The counts: of the number 0, of 23 to 27, and of what differs.
-pub(crate) fn replay(text: &[u8]) -> [u64; 7]
+pub(crate) fn replay(stdout: Stdout, text: &[u8]) -> [u64; 7]
     ensures { result ≡ tally (replicate 7 0) (new_pool 0) (replicate 512 zero32) (pieces 10 text.now) }
 {
     let mut counts = [0u64; 7];
@@ -17,7 +18,7 @@ pub(crate) fn replay(text: &[u8]) -> [u64; 7]
     let mut at = 0;
     while at < text.len() {
         let end = at + replay::line::piece_len(&text[at..], b'\n');
-        let judged = judge(p, &mut slice, &text[at..end]);
+        let judged = judge(stdout, p, &mut slice, &text[at..end]);
         let i = judged.place;
         counts[i] += 1;
         let after = judged.pool;

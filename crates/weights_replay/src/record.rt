@@ -3,12 +3,12 @@ ghost use Rattle.std.specs.Prelude.{◌≡◌, ◌≤◌, ◌<◌, length};
 ghost use Rattle.weights_replay.specs.Record.{settings_of, lent_of, marked, said_agrees, Judges, unread, Steps};
 
 use encoder_settings::EncoderSettings;
-use libc::STDOUT_FILENO;
 use picture_limits::PictureSettings;
 use picture_limits::settings::number;
 use replay::hash::hash_words;
 use replay::line::{piece_len, read_line};
 use replay::marks::{MARKS, fill_words};
+use std::io::Stdout;
 use weights::{Weighed, weights};
 
 // How long the first record is, and whether its file is answered as it says.
@@ -84,11 +84,11 @@ fn judge(file: &[u8], v: &[usize; 18]) -> bool
     asked(file, v, &mut out)
 }
 
-fn cut_short(text: &[u8]) -> Step
+fn cut_short(stdout: Stdout, text: &[u8]) -> Step
     ensures { result ≡ unread text.now }
 {
-    io::write_all(STDOUT_FILENO, b"no record: ");
-    io::write_all(STDOUT_FILENO, text);
+    let _ = stdout.write_all(b"no record: ");
+    let _ = stdout.write_all(text);
     Step {
         len: text.len(),
         same: false,
@@ -96,28 +96,28 @@ fn cut_short(text: &[u8]) -> Step
 }
 
 // Writes the line of a file that is not answered so.
-fn report(same: bool, line: &[u8]) {
+fn report(stdout: Stdout, same: bool, line: &[u8]) {
     if !same {
-        io::write_all(STDOUT_FILENO, b"not answered so: ");
-        io::write_all(STDOUT_FILENO, line);
+        let _ = stdout.write_all(b"not answered so: ");
+        let _ = stdout.write_all(line);
     }
 }
 
-pub(crate) fn first(text: &[u8]) -> Step
+pub(crate) fn first(stdout: Stdout, text: &[u8]) -> Step
     requires { 0 < length text.now }
     ensures { Steps text.now result × (0 < result.len) × (result.len ≤ length text.now) }
 {
     let at = piece_len(text, b'\n');
     let mut v = [0usize; 18];
     if !read_line(&text[..at], &mut v) {
-        return cut_short(text);
+        return cut_short(stdout, text);
     }
     let n = v[0];
     if text.len() - at <= n {
-        return cut_short(text);
+        return cut_short(stdout, text);
     }
     let end = at + n;
     let same = judge(&text[at..end], &v);
-    report(same, &text[..at]);
+    report(stdout, same, &text[..at]);
     Step { len: end + 1, same }
 }

@@ -13,8 +13,8 @@ slice_bounds-add-end-3 c = sym (length-take-le _ _ (omega (arith, c.lent-m.ensur
 
 pub returns : goal.returns
 returns c = record {
-      answer = (added c.args.p c.args.s.now c.args.v.now c.lent-n.result c.lent-m.result c.number.result c.fill_floats.new.to c.add-added.new.s c.add-added.result
-    c.lent-n.ensures.0 c.lent-m.ensures.0 c.fill_floats.ensures c.add-added.ensures.answer c.add-added.ensures.output c.number.ensures).0;
-      output = (added c.args.p c.args.s.now c.args.v.now c.lent-n.result c.lent-m.result c.number.result c.fill_floats.new.to c.add-added.new.s c.add-added.result
-    c.lent-n.ensures.0 c.lent-m.ensures.0 c.fill_floats.ensures c.add-added.ensures.answer c.add-added.ensures.output c.number.ensures).1;
-    }
+  answer = (added c.args.p c.args.s.now c.args.v.now c.lent-n.result c.lent-m.result c.number.result c.fill_floats.new.to c.add-added.new.s c.add-added.result
+      c.lent-n.ensures.0 c.lent-m.ensures.0 c.fill_floats.ensures c.add-added.ensures.answer c.add-added.ensures.output c.number.ensures).0;
+  output = (added c.args.p c.args.s.now c.args.v.now c.lent-n.result c.lent-m.result c.number.result c.fill_floats.new.to c.add-added.new.s c.add-added.result
+      c.lent-n.ensures.0 c.lent-m.ensures.0 c.fill_floats.ensures c.add-added.ensures.answer c.add-added.ensures.output c.number.ensures).1;
+}

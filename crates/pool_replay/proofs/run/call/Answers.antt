@@ -20,24 +20,24 @@ returns-then-what-eq1 c =
 
 pub returns-then-what-eq2 : goal.returns-then-what-eq2
 returns-then-what-eq2 c = record {
-      answer = c.find.ensures ∙ sym (ran-find c.args.p c.args.s.now c.args.v.now c.if-what-eq0.false c.if-what-eq1.false c.if-what-eq2.true);
-      output = sym (slice_kept c.args.p c.args.s.now c.args.v.now c.if-what-eq0.false c.if-what-eq1.false);
-    }
+  answer = c.find.ensures ∙ sym (ran-find c.args.p c.args.s.now c.args.v.now c.if-what-eq0.false c.if-what-eq1.false c.if-what-eq2.true);
+  output = sym (slice_kept c.args.p c.args.s.now c.args.v.now c.if-what-eq0.false c.if-what-eq1.false);
+}
 
 pub returns-then-what-eq3 : goal.returns-then-what-eq3
 returns-then-what-eq3 c = record {
-      answer = c.drop_key.ensures ∙ sym (ran-drop c.args.p c.args.s.now c.args.v.now c.if-what-eq0.false c.if-what-eq1.false c.if-what-eq2.false c.if-what-eq3.true);
-      output = sym (slice_kept c.args.p c.args.s.now c.args.v.now c.if-what-eq0.false c.if-what-eq1.false);
-    }
+  answer = c.drop_key.ensures ∙ sym (ran-drop c.args.p c.args.s.now c.args.v.now c.if-what-eq0.false c.if-what-eq1.false c.if-what-eq2.false c.if-what-eq3.true);
+  output = sym (slice_kept c.args.p c.args.s.now c.args.v.now c.if-what-eq0.false c.if-what-eq1.false);
+}
 
 pub returns-then-what-eq4 : goal.returns-then-what-eq4
 returns-then-what-eq4 c = record {
-      answer = c.done-then-what-eq4.ensures ∙ sym (ran-count c.args.p c.args.s.now c.args.v.now c.if-what-eq0.false c.if-what-eq1.false c.if-what-eq2.false c.if-what-eq3.false c.if-what-eq4.true);
-      output = sym (slice_kept c.args.p c.args.s.now c.args.v.now c.if-what-eq0.false c.if-what-eq1.false);
-    }
+  answer = c.done-then-what-eq4.ensures ∙ sym (ran-count c.args.p c.args.s.now c.args.v.now c.if-what-eq0.false c.if-what-eq1.false c.if-what-eq2.false c.if-what-eq3.false c.if-what-eq4.true);
+  output = sym (slice_kept c.args.p c.args.s.now c.args.v.now c.if-what-eq0.false c.if-what-eq1.false);
+}
 
 pub returns : goal.returns
 returns c = record {
-      answer = c.done-2.ensures ∙ ap plain c.entry.ensures ∙ sym (ran-entry c.args.p c.args.s.now c.args.v.now c.if-what-eq0.false c.if-what-eq1.false c.if-what-eq2.false c.if-what-eq3.false c.if-what-eq4.false);
-      output = sym (slice_kept c.args.p c.args.s.now c.args.v.now c.if-what-eq0.false c.if-what-eq1.false);
-    }
+  answer = c.done-2.ensures ∙ ap plain c.entry.ensures ∙ sym (ran-entry c.args.p c.args.s.now c.args.v.now c.if-what-eq0.false c.if-what-eq1.false c.if-what-eq2.false c.if-what-eq3.false c.if-what-eq4.false);
+  output = sym (slice_kept c.args.p c.args.s.now c.args.v.now c.if-what-eq0.false c.if-what-eq1.false);
+}

@@ -24,12 +24,12 @@ pub returns-then-not-is_word : goal.returns-then-not-is_word
 returns-then-not-is_word c =
     let l = c.args.line.now in
     let h : until 9 l < length l = omega arith in
-    let t : same (take (until 9 l) l) _ ≡ false = rw c.find-e.ensures.0 at (sym c.is_Is_word.ensures ∙ not-true _ c.if-not-is_word.true-raw) in
+    let t : same (take (until 9 l) l) _ ≡ false = rw c.find-e.ensures.0 at (sym c.is_word.ensures ∙ not-true _ c.if-not-is_word.true-raw) in
     (sym (behind-cut _ l h ∙ rw t refl), omega arith)
 
 pub returns : goal.returns
 returns c =
     let l = c.args.line.now in
     let h : until 9 l < length l = omega arith in
-    let t : same (take (until 9 l) l) _ ≡ true = rw c.find-e.ensures.0 at (sym c.is_Is_word.ensures ∙ not-false _ c.if-not-is_word.false-raw) in
+    let t : same (take (until 9 l) l) _ ≡ true = rw c.find-e.ensures.0 at (sym c.is_word.ensures ∙ not-false _ c.if-not-is_word.false-raw) in
     (sym (behind-cut _ l h ∙ rw (t, c.find-e.ensures.0, add-one) refl), omega arith)
