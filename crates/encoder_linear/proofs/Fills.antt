@@ -68,7 +68,8 @@ module _ {A : Type 0} where
         let F = filled s y m r c f in
         let T = tab c (f r) in
         let p : y + c + r * m ≡ y + r * m + c = omega arith in
-        rw (filled_row r c (omega arith), spread-put F (y + c) m r (λ l. f l c) (y + r * m) T (λ l k. let b = fit m k in omega arith), p)
+        ap (λ u. spread u (y + c) m (suc r) (λ l. f l c)) (filled_row r c (omega arith))
+        ∙ rw (spread-put F (y + c) m r (λ l. f l c) (y + r * m) T (λ l k. let b = fit m k in omega arith), p)
         (put-tab (spread F (y + c) m r (λ l. f l c)) (y + r * m) c (f r) ∙ ap (λ k. put (spread F (y + c) m r (λ l. f l c)) (y + r * m) (tab k (f r))) (add-one c))
 
     pub filled-all : (r : ℕ) → filled s y m r m f ≡ put s y (grid r m f)

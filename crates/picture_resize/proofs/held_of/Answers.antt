@@ -11,8 +11,8 @@ unfolding held
 returns-then-low c =
     let low : c.if-x.low ≡ held_low c.args.x = let x = c.args.x in
     elim c.if-x.branch-raw [
-      | inl p ↦ p.1 ∙ sym (ap (λ (b : Bool). cond b x zero64) p.0.true)
-      | inr p ↦ p.1 ∙ sym (ap (λ (b : Bool). cond b x zero64) p.0.false)
+      | inl p ↦ p.low-is ∙ sym (ap (λ (b : Bool). cond b x zero64) p.if-x.true)
+      | inr p ↦ p.low-is ∙ sym (ap (λ (b : Bool). cond b x zero64) p.if-x.false)
     ] in
     let e = low in
     let y = held_low c.args.x in
@@ -23,8 +23,8 @@ unfolding held
 returns-else-low c =
     let low : c.if-x.low ≡ held_low c.args.x = let x = c.args.x in
     elim c.if-x.branch-raw [
-      | inl p ↦ p.1 ∙ sym (ap (λ (b : Bool). cond b x zero64) p.0.true)
-      | inr p ↦ p.1 ∙ sym (ap (λ (b : Bool). cond b x zero64) p.0.false)
+      | inl p ↦ p.low-is ∙ sym (ap (λ (b : Bool). cond b x zero64) p.if-x.true)
+      | inr p ↦ p.low-is ∙ sym (ap (λ (b : Bool). cond b x zero64) p.if-x.false)
     ] in
     let e = low in
     let y = held_low c.args.x in

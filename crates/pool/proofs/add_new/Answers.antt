@@ -6,7 +6,6 @@ use lib.ListN.{length}
 use Rattle.picture_limits.specs.declared.Refusal as F
 use Rattle.pool_books.specs.declared.Pool.{Pool}
 use Rattle.pool_books.specs.Book.{entries}
-use Rattle.pool_books.proofs.Parts.{mapped-long}
 use Rattle.pool_books.proofs.Orders.{Made, made-says, order-end, order-floats, length-entries, length-laid}
 use Rattle.pool.proofs.Adds.{add-refused, add_none, add-full, add_done, full-says, room_says, room-is, done-behind, done-slid}
 use Rattle.pool.proofs.add_new.Goals as goal
@@ -84,7 +83,7 @@ returns-then-n-s c =
 pub store-pool-requires-2 : goal.store-pool-requires-2
 store-pool-requires-2 c =
     let made : Made c.args.p (length c.args.s.now) = made-says c.args.p (length c.args.s.now) c.requires.0 in
-    let room : c.args.p.count ≤ length c.args.p.held = omega (arith, made.few, mapped-long _ c.args.p.held 64 c.well_formed.0.1.1.1.1.0.1.0.1) in
+    let room : c.args.p.count ≤ length c.args.p.held = omega (arith, made.few, c.well_formed.0.1.1.1.1.0.1.0.1) in
     let ends : (c.args.end ≤ length c.args.s.now) × (c.args.sum ≤ c.args.end) = let m = made in
     let es = entries c.args.p in
     let n = length c.args.s.now in
@@ -99,7 +98,7 @@ store-pool-requires-2 c =
 pub returns : goal.returns
 returns c =
     let made : Made c.args.p (length c.args.s.now) = made-says c.args.p (length c.args.s.now) c.requires.0 in
-    let room : c.args.p.count ≤ length c.args.p.held = omega (arith, made.few, mapped-long _ c.args.p.held 64 c.well_formed.0.1.1.1.1.0.1.0.1) in
+    let room : c.args.p.count ≤ length c.args.p.held = omega (arith, made.few, c.well_formed.0.1.1.1.1.0.1.0.1) in
     let ends : (c.args.end ≤ length c.args.s.now) × (c.args.sum ≤ c.args.end) = let m = made in
     let es = entries c.args.p in
     let n = length c.args.s.now in

@@ -1,17 +1,17 @@
 -- `pool::find` meets its contract. Assumes nothing.
 use mathlib.Core.Path.{◌≡◌, sym, ◌∙◌}
 use mathlib.Core.Bool.{true}
-use Prim.Native.Nat.{◌≤◌}
+use Prim.Native.Nat.{ℕ, ◌≤◌}
 use native.Mathlib.Omega.{arith}
 use lib.ListN.{length}
+use Rattle.pool_books.specs.declared.Pool.{Pool}
 use Rattle.pool_books.specs.Book.{well_made}
-use Rattle.pool_books.proofs.Parts.{mapped-long}
 use Rattle.pool_books.proofs.Orders.{made-says}
 use Rattle.pool.proofs.Answers.{told, untold, find-unmade, find-held, find-unknown}
 use Rattle.pool.proofs.find.Goals as goal
 
-room : (c : goal.Start) → well_made c.args.p (length c.args.s.now) ≡ true → c.args.p.count ≤ length c.args.p.held
-room c m = omega (arith, (made-says c.args.p (length c.args.s.now) m).few, mapped-long _ c.args.p.held 64 c.well_formed.0.1.1.1.1.0.1.0.1)
+room : (p : Pool) (n : ℕ) → length p.held ≡ 64 → well_made p n ≡ true → p.count ≤ length p.held
+room p n h m = omega (arith, (made-says p n m).few)
 
 pub returns-in_default : goal.returns-in_default
 returns-in_default c =
@@ -21,10 +21,10 @@ pub returns-then-place-p : goal.returns-then-place-p
 returns-then-place-p c =
     let k = c.before.before.before.before.before in
     let t = told c.args.p (length c.args.s.now) c.args.key _ _ _ _ _ (sym c.scan-books.ensures ∙ c.in-Made.is) in
-    find-held c.args.p (length c.args.s.now) c.args.key _ (room k t.made) t.made t.stands _ _ t.starts t.long c.if-place-p.true
+    find-held c.args.p (length c.args.s.now) c.args.key _ (room c.args.p (length c.args.s.now) c.well_formed.0.1.1.1.1.0.1.0.1 t.made) t.made t.stands _ _ t.starts t.long c.if-place-p.true
 
 pub returns : goal.returns
 returns c =
     let k = c.before.before.before.before.before in
     let t = told c.args.p (length c.args.s.now) c.args.key _ _ _ _ _ (sym c.scan-books.ensures ∙ c.in-Made.is) in
-    find-unknown c.args.p (length c.args.s.now) c.args.key _ (room k t.made) t.made t.stands c.if-place-p.false
+    find-unknown c.args.p (length c.args.s.now) c.args.key _ (room c.args.p (length c.args.s.now) c.well_formed.0.1.1.1.1.0.1.0.1 t.made) t.made t.stands c.if-place-p.false

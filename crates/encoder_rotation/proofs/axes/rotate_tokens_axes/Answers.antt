@@ -41,7 +41,7 @@ pub rotate_token_axes-requires : goal.rotate_token_axes-requires
 rotate_token_axes-requires c =
     let inside : (let a = c.args in let i = c.loop-i.i in (i / c.args.gw < c.args.side) × (i % c.args.gw < c.args.side)) = let a = c.args in
     let g = c.requires.places in
-    (row_lt c.loop-i.i c.args.gw c.args.side c.requires.some (omega (arith, c.requires.high, c.loop-i-test.true)), column-lt c.loop-i.i c.args.gw c.args.side c.requires.some c.requires.wide) in
+    (row_lt c.loop-i.i c.args.gw c.args.side c.requires.places.some (omega (arith, c.requires.places.high, c.loop-i-test.true)), column-lt c.loop-i.i c.args.gw c.args.side c.requires.places.some c.requires.places.wide) in
     let short : (let a = c.args in let i = c.loop-i.i in (i / c.args.gw * c.args.q + c.args.q ≤ c.args.side * c.args.q) × (i % c.args.gw * c.args.q + c.args.q ≤ c.args.side * c.args.q)) = let q = c.args.q in (fit q inside.0, fit q inside.1) in
     let a = c.args in
     let g = c.requires in
@@ -64,7 +64,7 @@ pub loop-i-preserved : goal.loop-i-preserved
 loop-i-preserved c =
     let inside : (let a = c.args in let i = c.loop-i.i in (i / c.args.gw < c.args.side) × (i % c.args.gw < c.args.side)) = let a = c.args in
     let g = c.requires.places in
-    (row_lt c.loop-i.i c.args.gw c.args.side c.requires.some (omega (arith, c.requires.high, c.loop-i-test.true)), column-lt c.loop-i.i c.args.gw c.args.side c.requires.some c.requires.wide) in
+    (row_lt c.loop-i.i c.args.gw c.args.side c.requires.places.some (omega (arith, c.requires.places.high, c.loop-i-test.true)), column-lt c.loop-i.i c.args.gw c.args.side c.requires.places.some c.requires.places.wide) in
     let a = c.args in
     let g = c.requires in
     let i = inside in

@@ -36,8 +36,8 @@ pub loop-m-init : goal.loop-m-init
 loop-m-init c =
     let x = c.args.x in
     ⊎_elim
-    (λ w. begin-normal x c.if-e-gt0.m c.if-e-gt0.k c.requires.1 w.0.true (w.1 ∙ ap (λ (n : ℕ). n + 2 ^ 23) (and_mask x 23)) w.2)
-    (λ w. begin-small x c.if-e-gt0.m c.if-e-gt0.k c.requires.0 w.0.false (w.1 ∙ and_mask x 23) w.2)
+    (λ w. begin-normal x c.if-e-gt0.m c.if-e-gt0.k c.requires.1 w.if-e-gt0.true (w.m-is ∙ ap (λ (n : ℕ). n + 2 ^ 23) (and_mask x 23)) w.k-is)
+    (λ w. begin-small x c.if-e-gt0.m c.if-e-gt0.k c.requires.0 w.if-e-gt0.false (w.m-is ∙ and_mask x 23) w.k-is)
     c.if-e-gt0.branch-raw
 
 pub overflow_mul-m : goal.overflow_mul-m

@@ -25,7 +25,7 @@ end_of-requires c =
 
 pub loop-l-preserved : goal.loop-l-preserved
 loop-l-preserved c =
-    (omega arith, simp length-set c.loop-l.invariant.1, tab-step-0 _ c.loop-l.r c.loop-l.l (λ i. E (get_or c.args.x i nan)) _ c.loop-l.invariant.2 c.end_of_lem.ensures)
+    (omega arith, simp length-set c.loop-l.invariant.1, tab-step-0 _ c.loop-l.r c.loop-l.l (λ i. E (get_or c.args.x i nan)) _ c.loop-l.invariant.2 c.end_of.ensures)
 
 pub returns : goal.returns
 returns c =

@@ -10,6 +10,6 @@ returns c =
     let y = c.args.y in
     let f = floored y c.requires.0 c.requires.1 in
     elim c.if-y-t.branch-raw [
-      | inl p ↦ ap (sub binary64 (near_of y)) p.1 ∙ f.0 p.0.true
-      | inr p ↦ ap (sub binary64 (near_of y)) p.1 ∙ f.1 p.0.false
+      | inl p ↦ ap (sub binary64 (near_of y)) p.result-is ∙ f.0 p.if-y-t.true
+      | inr p ↦ ap (sub binary64 (near_of y)) p.result-is ∙ f.1 p.if-y-t.false
     ]

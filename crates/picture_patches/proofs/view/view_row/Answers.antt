@@ -20,11 +20,11 @@ overflow_add-from c =
     let sizes : let f = c.args.f in Sizes c.args.f.view.top c.args.f.view.left c.args.r c.args.x c.args.f.w = let f = c.args.f in
     let i = c.requires.0.plain c.requires.2 in
     let u : c.args.f.view.top + c.args.r ≤ 10240 = omega (arith, i.0, c.requires.0.tall-high, c.requires.0.target-tall, c.requires.3) in
-    let v : c.args.f.view.left + c.args.x ≤ 10240 = omega (arith, i.1, c.requires.0.wide_high_lem, c.requires.0.target-wide, c.requires.4) in
+    let v : c.args.f.view.left + c.args.x ≤ 10240 = omega (arith, i.1, c.requires.0.wide_high, c.requires.0.target-wide, c.requires.4) in
     record {
       row = u;
       column = v;
-      place = times (c.args.f.view.top + c.args.r) c.args.f.w 10240 8192 u c.requires.0.wide_high_lem;
+      place = times (c.args.f.view.top + c.args.r) c.args.f.w 10240 8192 u c.requires.0.wide_high;
     } in
     let z = sizes in omega (arith, z.row)
 
@@ -33,11 +33,11 @@ overflow_mul-from c =
     let sizes : let f = c.args.f in Sizes c.args.f.view.top c.args.f.view.left c.args.r c.args.x c.args.f.w = let f = c.args.f in
     let i = c.requires.0.plain c.requires.2 in
     let u : c.args.f.view.top + c.args.r ≤ 10240 = omega (arith, i.0, c.requires.0.tall-high, c.requires.0.target-tall, c.requires.3) in
-    let v : c.args.f.view.left + c.args.x ≤ 10240 = omega (arith, i.1, c.requires.0.wide_high_lem, c.requires.0.target-wide, c.requires.4) in
+    let v : c.args.f.view.left + c.args.x ≤ 10240 = omega (arith, i.1, c.requires.0.wide_high, c.requires.0.target-wide, c.requires.4) in
     record {
       row = u;
       column = v;
-      place = times (c.args.f.view.top + c.args.r) c.args.f.w 10240 8192 u c.requires.0.wide_high_lem;
+      place = times (c.args.f.view.top + c.args.r) c.args.f.w 10240 8192 u c.requires.0.wide_high;
     } in
     let z = sizes in omega (arith, z.place)
 
@@ -46,11 +46,11 @@ overflow_add-from-2 c =
     let sizes : let f = c.args.f in Sizes c.args.f.view.top c.args.f.view.left c.args.r c.args.x c.args.f.w = let f = c.args.f in
     let i = c.requires.0.plain c.requires.2 in
     let u : c.args.f.view.top + c.args.r ≤ 10240 = omega (arith, i.0, c.requires.0.tall-high, c.requires.0.target-tall, c.requires.3) in
-    let v : c.args.f.view.left + c.args.x ≤ 10240 = omega (arith, i.1, c.requires.0.wide_high_lem, c.requires.0.target-wide, c.requires.4) in
+    let v : c.args.f.view.left + c.args.x ≤ 10240 = omega (arith, i.1, c.requires.0.wide_high, c.requires.0.target-wide, c.requires.4) in
     record {
       row = u;
       column = v;
-      place = times (c.args.f.view.top + c.args.r) c.args.f.w 10240 8192 u c.requires.0.wide_high_lem;
+      place = times (c.args.f.view.top + c.args.r) c.args.f.w 10240 8192 u c.requires.0.wide_high;
     } in
     let z = sizes in omega (arith, z.column)
 
@@ -59,11 +59,11 @@ overflow_add-from-3 c =
     let sizes : let f = c.args.f in Sizes c.args.f.view.top c.args.f.view.left c.args.r c.args.x c.args.f.w = let f = c.args.f in
     let i = c.requires.0.plain c.requires.2 in
     let u : c.args.f.view.top + c.args.r ≤ 10240 = omega (arith, i.0, c.requires.0.tall-high, c.requires.0.target-tall, c.requires.3) in
-    let v : c.args.f.view.left + c.args.x ≤ 10240 = omega (arith, i.1, c.requires.0.wide_high_lem, c.requires.0.target-wide, c.requires.4) in
+    let v : c.args.f.view.left + c.args.x ≤ 10240 = omega (arith, i.1, c.requires.0.wide_high, c.requires.0.target-wide, c.requires.4) in
     record {
       row = u;
       column = v;
-      place = times (c.args.f.view.top + c.args.r) c.args.f.w 10240 8192 u c.requires.0.wide_high_lem;
+      place = times (c.args.f.view.top + c.args.r) c.args.f.w 10240 8192 u c.requires.0.wide_high;
     } in
     let z = sizes in omega (arith, z.place, z.column)
 
@@ -72,11 +72,11 @@ overflow_mul-from-2 c =
     let sizes : let f = c.args.f in Sizes c.args.f.view.top c.args.f.view.left c.args.r c.args.x c.args.f.w = let f = c.args.f in
     let i = c.requires.0.plain c.requires.2 in
     let u : c.args.f.view.top + c.args.r ≤ 10240 = omega (arith, i.0, c.requires.0.tall-high, c.requires.0.target-tall, c.requires.3) in
-    let v : c.args.f.view.left + c.args.x ≤ 10240 = omega (arith, i.1, c.requires.0.wide_high_lem, c.requires.0.target-wide, c.requires.4) in
+    let v : c.args.f.view.left + c.args.x ≤ 10240 = omega (arith, i.1, c.requires.0.wide_high, c.requires.0.target-wide, c.requires.4) in
     record {
       row = u;
       column = v;
-      place = times (c.args.f.view.top + c.args.r) c.args.f.w 10240 8192 u c.requires.0.wide_high_lem;
+      place = times (c.args.f.view.top + c.args.r) c.args.f.w 10240 8192 u c.requires.0.wide_high;
     } in
     let z = sizes in omega (arith, z.place, z.column)
 
@@ -85,11 +85,11 @@ overflow_add-from-4 c =
     let sizes : let f = c.args.f in Sizes c.args.f.view.top c.args.f.view.left c.args.r c.args.x c.args.f.w = let f = c.args.f in
     let i = c.requires.0.plain c.requires.2 in
     let u : c.args.f.view.top + c.args.r ≤ 10240 = omega (arith, i.0, c.requires.0.tall-high, c.requires.0.target-tall, c.requires.3) in
-    let v : c.args.f.view.left + c.args.x ≤ 10240 = omega (arith, i.1, c.requires.0.wide_high_lem, c.requires.0.target-wide, c.requires.4) in
+    let v : c.args.f.view.left + c.args.x ≤ 10240 = omega (arith, i.1, c.requires.0.wide_high, c.requires.0.target-wide, c.requires.4) in
     record {
       row = u;
       column = v;
-      place = times (c.args.f.view.top + c.args.r) c.args.f.w 10240 8192 u c.requires.0.wide_high_lem;
+      place = times (c.args.f.view.top + c.args.r) c.args.f.w 10240 8192 u c.requires.0.wide_high;
     } in
     let z = sizes in omega (arith, z.place, z.column, c.requires.5)
 

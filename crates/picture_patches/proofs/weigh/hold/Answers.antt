@@ -14,16 +14,16 @@ pub shape_of-held : goal.shape_of-held
 shape_of-held c = simp length-set
 
 pub shape_of-left : goal.shape_of-left
-shape_of-left c = ⊎_elim (λ w. ap length w.8 ∙ w.3.kept.1.1.1.1.1.1.0) (λ w. ap length w.1) c.if-held-s.branch-raw
+shape_of-left c = ⊎_elim (λ w. ap length w.left-is ∙ w.weigh_row.auto.left) (λ w. ap length w.left-is) c.if-held-s.branch-raw
 
 pub shape_of-right : goal.shape_of-right
-shape_of-right c = ⊎_elim (λ w. ap length w.9 ∙ w.3.kept.1.1.1.1.1.1.1.0) (λ w. ap length w.2) c.if-held-s.branch-raw
+shape_of-right c = ⊎_elim (λ w. ap length w.right-is ∙ w.weigh_row.auto.right) (λ w. ap length w.right-is) c.if-held-s.branch-raw
 
 pub returns : goal.returns
 returns c = record {
       held_after = refl;
       held = ⊎_elim
-          (λ w. weighed-held c.args.rgb.now c.args.f c.args.x c.args.n c.args.held.now c.args.false.now c.args.right.now c.requires.4 c.requires.5 c.args.y (w.8 ∙ w.3.ensures.0) (w.9 ∙ w.3.ensures.1))
-          (λ w. there-held c.args.rgb.now c.args.f c.args.x c.args.n c.args.held.now c.args.false.now c.args.right.now c.requires.4 c.requires.5 c.args.y w.0.false w.1 w.2)
+          (λ w. weighed-held c.args.rgb.now c.args.f c.args.x c.args.n c.args.held.now c.args.left.now c.args.right.now c.requires.4 c.requires.5 c.args.y (w.left-is ∙ w.weigh_row.ensures.left_after) (w.right-is ∙ w.weigh_row.ensures.right_after))
+          (λ w. there-held c.args.rgb.now c.args.f c.args.x c.args.n c.args.held.now c.args.left.now c.args.right.now c.requires.4 c.requires.5 c.args.y w.if-held-s.false w.left-is w.right-is)
           c.if-held-s.branch-raw;
     }

@@ -13,18 +13,9 @@ use Rattle.pool_books.specs.declared.Held.{Held}
 use Rattle.pool_books.specs.declared.Pool.{Pool}
 use Rattle.pool_books.specs.Book.{entries, with}
 use Rattle.pool_books.specs.inner.Place.{left_out}
-use Rattle.pool_books.proofs.Parts.{mapped-long}
 use Rattle.pool_books.proofs.Orders.{length-entries, entry_at, entries-end, put-take}
+use Rattle.pool.proofs.keys.leave_out.Invariants.{Left}
 use Rattle.pool.proofs.keys.leave_out.Goals as goal
-
--- what is to be moved still, written over what was, is what is left; what is behind is as it was
-pub record Left (p q : Pool) (i j last : ℕ) : Type 0 where
-  pub low : i ≤ j
-  pub high : j ≤ last
-  pub same_len : q.len ≡ p.len
-  pub long : length q.held ≡ length p.held
-  pub ahead : (k : ℕ) (d : Held) → j < k → get_or q.held k d ≡ get_or p.held k d
-  pub left : put q.held j (drop (suc j) (entries p)) ≡ put p.held 0 (left_out i (entries p))
 
 left-none : (p : Pool) (i last : ℕ) → p.count ≤ length p.held → i < p.count → last ≡ p.count - 1 → Left p p i i last
 left-none p i last w l e =
@@ -74,15 +65,15 @@ left-all p q i j last w l e m r =
 
 pub loop-j-init : goal.loop-j-init
 loop-j-init c =
-    let room : c.args.p.count ≤ length c.args.p.held = omega (arith, c.requires.0, mapped-long _ c.args.p.held 64 c.well_formed.0.1.1.1.1.0.1.0.1) in
+    let room : c.args.p.count ≤ length c.args.p.held = omega (arith, c.requires.0, c.well_formed.0.1.1.1.1.0.1.0.1) in
     left-none c.args.p c.args.i (c.args.p.count - 1) (room) c.requires.1 refl
 
 pub loop-j-preserved : goal.loop-j-preserved
 loop-j-preserved c =
-    let room : c.args.p.count ≤ length c.args.p.held = omega (arith, c.requires.0, mapped-long _ c.args.p.held 64 c.well_formed.0.1.1.1.1.0.1.0.1) in
+    let room : c.args.p.count ≤ length c.args.p.held = omega (arith, c.requires.0, c.well_formed.0.1.1.1.1.0.1.0.1) in
     left-more c.args.p c.loop-j.q c.args.i c.loop-j.j (c.args.p.count - 1) _ (room) refl c.loop-j-test.true c.loop-j.invariant
 
 pub returns : goal.returns
 returns c =
-    let room : c.args.p.count ≤ length c.args.p.held = omega (arith, c.requires.0, mapped-long _ c.args.p.held 64 c.well_formed.0.1.1.1.1.0.1.0.1) in
+    let room : c.args.p.count ≤ length c.args.p.held = omega (arith, c.requires.0, c.well_formed.0.1.1.1.1.0.1.0.1) in
     left-all c.args.p c.loop-j.q c.args.i c.loop-j.j (c.args.p.count - 1) (room) c.requires.1 refl c.loop-j-test.false c.loop-j.invariant

@@ -14,21 +14,9 @@ use Rattle.buffers.proofs.Regions.{put-append, put-nil, length-put, length-regio
 use Rattle.pool_books.specs.declared.Held.{Held}
 use Rattle.pool_books.specs.declared.Pool.{Pool}
 use Rattle.pool_books.specs.Book.{held, entries, with, in_order, well_made, laid, joined}
-use Rattle.pool_books.proofs.Parts.{mapped-long}
 use Rattle.pool_books.proofs.Orders.{made-says, length-entries, entry_at, entries-end, order-low, order-rest, order-at, order-down, length-laid}
+use Rattle.pool.proofs.slice.slide.Invariants.{Slid}
 use Rattle.pool.proofs.slice.slide.Goals as goal
-
-pub record Slid (p q : Pool) (s t : List Float) (at i : ℕ) : Type 0 where
-  pub passed : i ≤ p.count
-  pub same_len : q.len ≡ p.len
-  pub same_count : q.count ≡ p.count
-  pub long : length q.held ≡ length p.held
-  pub as_long : length t ≡ length s
-  pub ahead : (k : ℕ) (d : Held) → i ≤ k → get_or q.held k d ≡ get_or p.held k d
-  pub behind : (x m : ℕ) → at ≤ x → region t x m ≡ region s x m
-  pub order : in_order at (length s) (drop i (entries p)) ≡ true
-  pub books : put q.held i (laid at (drop i (entries p))) ≡ put p.held 0 (laid 0 (entries p))
-  pub vectors : put t at (joined s (drop i (entries p))) ≡ put s 0 (joined s (entries p))
 
 slid-none : (p : Pool) (s : List Float) → well_made p (length s) ≡ true → Slid p p s s 0 0
 slid-none p s m =
@@ -116,7 +104,7 @@ bounds-q-i c =
 pub move_down-requires : goal.move_down-requires
 move_down-requires c =
     let few : c.args.p.count ≤ 64 = (made-says c.args.p (length c.args.s.now) c.requires).few in
-    let room : c.args.p.count ≤ length c.args.p.held = omega (arith, few, mapped-long _ c.args.p.held 64 c.well_formed.0.1.1.1.1.0.1.0.1) in
+    let room : c.args.p.count ≤ length c.args.p.held = omega (arith, few, c.well_formed.0.1.1.1.1.0.1.0.1) in
     let t = c.loop-i-test.true in
     let h = high c.args.p c.loop-i.q c.args.s.now c.loop-i.s c.loop-i.to c.loop-i.i (held 0 0 0) (room) t c.loop-i.invariant in
     (low c.args.p c.loop-i.q c.args.s.now c.loop-i.s c.loop-i.to c.loop-i.i (held 0 0 0) (room) t c.loop-i.invariant, rw c.loop-i.invariant.as_long h)
@@ -134,7 +122,7 @@ bounds-q-i-in-loop-i c =
 pub overflow_add-to : goal.overflow_add-to
 overflow_add-to c =
     let few : c.args.p.count ≤ 64 = (made-says c.args.p (length c.args.s.now) c.requires).few in
-    let room : c.args.p.count ≤ length c.args.p.held = omega (arith, few, mapped-long _ c.args.p.held 64 c.well_formed.0.1.1.1.1.0.1.0.1) in
+    let room : c.args.p.count ≤ length c.args.p.held = omega (arith, few, c.well_formed.0.1.1.1.1.0.1.0.1) in
     let t = c.loop-i-test.true in
     omega (arith, low c.args.p c.loop-i.q c.args.s.now c.loop-i.s c.loop-i.to c.loop-i.i (held 0 0 0) (room) t c.loop-i.invariant, high c.args.p c.loop-i.q c.args.s.now c.loop-i.s c.loop-i.to c.loop-i.i (held 0 0 0) (room) t c.loop-i.invariant, c.well_formed.1.0.0)
 
@@ -146,7 +134,7 @@ overflow_add-i c =
 pub loop-i-preserved : goal.loop-i-preserved
 loop-i-preserved c =
     let few : c.args.p.count ≤ 64 = (made-says c.args.p (length c.args.s.now) c.requires).few in
-    let room : c.args.p.count ≤ length c.args.p.held = omega (arith, few, mapped-long _ c.args.p.held 64 c.well_formed.0.1.1.1.1.0.1.0.1) in
+    let room : c.args.p.count ≤ length c.args.p.held = omega (arith, few, c.well_formed.0.1.1.1.1.0.1.0.1) in
     slid-more c.args.p c.loop-i.q c.args.s.now c.loop-i.s c.loop-i.to c.loop-i.i (held 0 0 0) (room) c.loop-i-test.true c.loop-i.invariant c.move_down.new.s c.move_down.ensures
 
 pub shape_of-s : goal.shape_of-s
@@ -155,7 +143,7 @@ shape_of-s c = c.loop-i.invariant.as_long
 pub returns : goal.returns
 returns c =
     let few : c.args.p.count ≤ 64 = (made-says c.args.p (length c.args.s.now) c.requires).few in
-    let room : c.args.p.count ≤ length c.args.p.held = omega (arith, few, mapped-long _ c.args.p.held 64 c.well_formed.0.1.1.1.1.0.1.0.1) in record {
+    let room : c.args.p.count ≤ length c.args.p.held = omega (arith, few, c.well_formed.0.1.1.1.1.0.1.0.1) in record {
       answer = (slid-all c.args.p c.loop-i.q c.args.s.now c.loop-i.s c.loop-i.to c.loop-i.i (room) c.loop-i-test.false c.loop-i.invariant).0;
       output = (slid-all c.args.p c.loop-i.q c.args.s.now c.loop-i.s c.loop-i.to c.loop-i.i (room) c.loop-i-test.false c.loop-i.invariant).1;
     }

@@ -113,7 +113,9 @@ loop-k-preserved c =
 pub returns : goal.returns
 returns c =
     let e : length c.args.to.now - c.loop-k.k ≡ 0 = omega arith in
-    let h : c.loop-k.k ≤ length c.loop-k.to = omega arith in record {
-      whole = (ended _ c.loop-k.to c.args.to.now c.loop-k.k _ (c.loop-k.invariant.4 ∙ rw (e, last c.args.line.now c.loop-k.at _ refl)) h c.loop-k.invariant.3).0;
-      output = (ended _ c.loop-k.to c.args.to.now c.loop-k.k _ (c.loop-k.invariant.4 ∙ rw (e, last c.args.line.now c.loop-k.at _ refl)) h c.loop-k.invariant.3).1;
+    let h : c.loop-k.k ≤ length c.loop-k.to = omega arith in
+    let r = read_of (length c.args.to.now) c.args.line.now in
+    let both : (_ ≡ r.whole) × (c.loop-k.to ≡ over r.list c.args.to.now) = ended _ c.loop-k.to c.args.to.now c.loop-k.k r (c.loop-k.invariant.4 ∙ rw (e, last c.args.line.now c.loop-k.at _ refl)) h c.loop-k.invariant.3 in record {
+      whole = both.0;
+      output = both.1;
     }
