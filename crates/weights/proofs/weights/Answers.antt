@@ -30,9 +30,9 @@ slice_bounds-read-count-in-Open c = let o = (opens _ _ _ _ _ (opening-as c.in-Op
 
 pub read-requires : goal.read-requires
 read-requires c = let o = (opens _ _ _ _ _ (opening-as c.in-Open.is c.«open».ensures)) in record {
-      s_value = o.settings;
-      s_in_bounds = subst (λ (n : ℕ). length (tensors c.args.s) ≤ n) (sym (c.«open».auto.places ∙ length-replicate {A = ℕ} 440 0)) (few-tensors c.args.s o.settings);
-    }
+  s_value = o.settings;
+  s_in_bounds = subst (λ (n : ℕ). length (tensors c.args.s) ≤ n) (sym (c.«open».auto.places ∙ length-replicate {A = ℕ} 440 0)) (few-tensors c.args.s o.settings);
+}
 
 pub returns-in-Open : goal.returns-in-Open
 returns-in-Open c = let o = (opens _ _ _ _ _ (opening-as c.in-Open.is c.«open».ensures)) in when-open c.args.s c.args.file.now _ _ c.args.out.now _ _ _ (subst (λ (n : ℕ). length (tensors c.args.s) ≤ n) (sym (length-replicate {A = ℕ} 440 0)) (few-tensors c.args.s o.settings)) (opening-as c.in-Open.is c.«open».ensures) _ _ (ap (λ (n : ℕ). take n (drop 8 c.args.file.now)) (add-sub_cancel_left 8 _ ∙ o.long)) (rest c.args.file.now _ o.long) c.read.ensures
