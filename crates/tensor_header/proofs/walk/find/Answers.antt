@@ -5,10 +5,6 @@ use Rattle.tensor_header.proofs.Told.{no-object, an-object}
 use borrow.Author.Rules.{rules}
 use Rattle.tensor_header.proofs.walk.find.Goals as goal
 
-opens-requires : tie.Need-opens-requires
-
-opens-requires c κs = search rules
-
 pub overflow_add-at : goal.overflow_add-at
 overflow_add-at c = omega (arith, c.blank-at.ensures.high)
 
