@@ -64,7 +64,7 @@ shape_of-out c = c.restore_shaped.auto.out
 
 pub returns-in-Shaped : goal.returns-in-Shaped
 returns-in-Shaped c = record {
-      answer = c.restore_shaped.ensures.answer;
-      output = c.restore_shaped.ensures.output;
-      numbers = numbered c.args.s c.args.patches.now c.args.grid_h c.args.grid_w (length c.args.out.now) _ c.restore_shaped.ensures.answer;
-    }
+  answer = c.restore_shaped.ensures.answer;
+  output = c.restore_shaped.ensures.output;
+  numbers = numbered c.args.s c.args.patches.now c.args.grid_h c.args.grid_w (length c.args.out.now) _ c.restore_shaped.ensures.answer;
+}

@@ -146,8 +146,7 @@ loop-r-preserved c =
     let l = c.loop-r in
     let k = entry c.args.t.now in
     let n = c.args.p * c.args.p in
-    let g : ℕ → List ℕ = λ r. entries_by (bad_in k c.args.bits.now (r * n) (r % 3)) c.args.bits.now (r * n) (r / 3) (r % 3 * n) n in
-    (
+    let g : ℕ → List ℕ = λ r. entries_by (bad_in k c.args.bits.now (r * n) (r % 3)) c.args.bits.now (r * n) (r / 3) (r % 3 * n) n in (
       omega arith,
       omega (arith, c.list_run-e.ensures.answer, none.0, c.loop-r.invariant.1, counted),
       c.list_run-e.auto.list ∙ c.loop-r.invariant.2,

@@ -38,7 +38,7 @@ preprocess_by-requires c =
 
 pub returns : goal.returns
 returns c = record {
-      answer = c.preprocess_by.ensures.answer;
-      output = c.preprocess_by.ensures.output;
-      numbers = numbered c.args.s (length c.args.rgb.now) c.args.height c.args.width (length c.args.out.now) _ c.preprocess_by.ensures.answer;
-    }
+  answer = c.preprocess_by.ensures.answer;
+  output = c.preprocess_by.ensures.output;
+  numbers = numbered c.args.s (length c.args.rgb.now) c.args.height c.args.width (length c.args.out.now) _ c.preprocess_by.ensures.answer;
+}

@@ -176,13 +176,13 @@ returns c =
     let channels : channels_allowed (value_of c.args.s) ≡ true = let a = c.args in sym (allowed_of c.args.s.mean c.args.s.deviation c.args.t.now c.requires.2) ∙ c.requires.1 in
     let counted : c.resized_side-th.result / c.args.s.patch_size * (c.resized_side-tw.result / c.args.s.patch_size) * patch_floats c.args.s.patch_size ≡ floats_of c.args.s c.args.height c.args.width = cc (c.resized_side-th.ensures, c.resized_side-tw.ensures, c.longer-m.ensures) in
     let asked : Accepts c.args.s (length c.args.rgb.now) c.args.height c.args.width (length c.args.out.now) = record {
-  settings = c.requires.0;
-  channels = channels;
-  sides = sides;
-  bytes = c.if-rgb-height.false;
-  image = c.if-n-a.false;
-  fits = omega (arith, c.if-out-floats.false, counted);
-} in
+      settings = c.requires.0;
+      channels = channels;
+      sides = sides;
+      bytes = c.if-rgb-height.false;
+      image = c.if-n-a.false;
+      fits = omega (arith, c.if-out-floats.false, counted);
+    } in
     let known : Allowed c.args.s.patch_size c.args.s.spatial_merge_size c.args.s.image_size = allowed-says c.args.s c.requires.0 in
     let tall : Spans (c.resized_side-th.result / c.args.s.patch_size) c.args.s.patch_size = let s = c.args.s in
     let k = known in
