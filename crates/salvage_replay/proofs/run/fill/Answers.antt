@@ -31,12 +31,11 @@ pub bounds-t-i : goal.bounds-t-i
 bounds-t-i c = omega (arith, c.shared_slice_known-in-loop-i-1.given c.loop-i.i)
 
 pub loop-i-preserved : goal.loop-i-preserved
-loop-i-preserved c =
-    (
-      omega arith,
-      simp length-set c.loop-i.invariant.1,
-      tab-step-0 c.args.to.now c.loop-i.to c.loop-i.i (placed c.args.v.now c.args.t.now c.args.bytes.now) c.change.result c.loop-i.invariant.2 c.change.ensures,
-    )
+loop-i-preserved c = (
+  omega arith,
+  simp length-set c.loop-i.invariant.1,
+  tab-step-0 c.args.to.now c.loop-i.to c.loop-i.i (placed c.args.v.now c.args.t.now c.args.bytes.now) c.change.result c.loop-i.invariant.2 c.change.ensures,
+)
 
 pub returns : goal.returns
 returns c =
