@@ -16,35 +16,38 @@ mod record;
 mod run;
 mod text;
 
-use libc::{STDIN_FILENO, STDOUT_FILENO};
+use read_input::read_full;
+use std::io;
+use std::io::Stdout;
 
-fn put(name: &[u8], count: u64) {
-    io::write_all(STDOUT_FILENO, name);
-    io::print_decimal(STDOUT_FILENO, count);
+fn put(stdout: Stdout, name: &[u8], count: u64) -> io::Result<()> {
+    stdout.write_all(name)?;
+    stdout.print(count)
 }
 
-fn main() {
+fn main(rt: HostRuntime) -> io::Result<()> {
     let mut text = [0u8; 65536];
-    let n = io::read_full(STDIN_FILENO, &mut text);
+    let stdout = rt.stdout();
+    let n = read_full(&mut rt.stdin(), &mut text)?;
     if n == 65536 {
-        io::write_all(STDOUT_FILENO, b"the input fills the buffer\n");
+        stdout.write_all(b"the input fills the buffer\n")?;
     }
-    let counts = text::replay(&text[..n]);
-    put(b"preprocess 0:", counts[0]);
-    put(b" 1:", counts[1]);
-    put(b" 2:", counts[2]);
-    put(b" 3:", counts[3]);
-    put(b" 4:", counts[4]);
-    put(b" 5:", counts[5]);
-    put(b" 19:", counts[7]);
-    put(b" differ ", counts[6]);
-    put(b" restore 0:", counts[8]);
-    put(b" 1:", counts[9]);
-    put(b" 5:", counts[13]);
-    put(b" 6:", counts[14]);
-    put(b" 7:", counts[15]);
-    put(b" 8:", counts[16]);
-    put(b" 19:", counts[18]);
-    put(b" differ ", counts[17]);
-    io::write_all(STDOUT_FILENO, b"\n");
+    let counts = text::replay(stdout, &text[..n]);
+    put(stdout, b"preprocess 0:", counts[0])?;
+    put(stdout, b" 1:", counts[1])?;
+    put(stdout, b" 2:", counts[2])?;
+    put(stdout, b" 3:", counts[3])?;
+    put(stdout, b" 4:", counts[4])?;
+    put(stdout, b" 5:", counts[5])?;
+    put(stdout, b" 19:", counts[7])?;
+    put(stdout, b" differ ", counts[6])?;
+    put(stdout, b" restore 0:", counts[8])?;
+    put(stdout, b" 1:", counts[9])?;
+    put(stdout, b" 5:", counts[13])?;
+    put(stdout, b" 6:", counts[14])?;
+    put(stdout, b" 7:", counts[15])?;
+    put(stdout, b" 8:", counts[16])?;
+    put(stdout, b" 19:", counts[18])?;
+    put(stdout, b" differ ", counts[17])?;
+    stdout.write_all(b"\n")
 }

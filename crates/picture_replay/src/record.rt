@@ -3,9 +3,9 @@ ghost use Rattle.std.specs.Prelude.{◌≡◌, ◌<◌};
 ghost use Rattle.picture_replay.specs.Record.{made_place, back_place, neither, small_of, places_of};
 
 use crate::run::{Back, Made, ROOM};
-use libc::STDOUT_FILENO;
 use replay::line::read_line;
 use replay::marks::{MARKS, fill_floats};
+use std::io::Stdout;
 
 // Where a record's calls are counted: each by its number, past these where it differs, and last of all 19.
 #[derive(Clone, Copy)]
@@ -48,35 +48,34 @@ fn back_place(b: Back, v: &[usize; 30]) -> usize
     9
 }
 
-fn put(x: usize) {
-    io::print_decimal(STDOUT_FILENO, x as u64);
-    io::write_all(STDOUT_FILENO, b" ");
+fn put(stdout: Stdout, x: usize) {
+    let _ = print!(stdout; "{x} ");
 }
 
 // Writes what ours are where they differ from the line's.
-fn report(p: Places, m: Made, b: Back, line: &[u8]) {
+fn report(stdout: Stdout, p: Places, m: Made, b: Back, line: &[u8]) {
     if (p.first == 6) | (p.second == 9) {
-        io::write_all(STDOUT_FILENO, b"ours ");
-        put(m.number);
-        put(m.grid_h);
-        put(m.grid_w);
-        put(m.floats);
-        put(m.hash);
-        io::write_all(STDOUT_FILENO, b"and ");
-        put(b.number);
-        put(b.height);
-        put(b.width);
-        put(b.hash);
-        io::write_all(STDOUT_FILENO, b"for ");
-        io::write_all(STDOUT_FILENO, line);
+        let _ = stdout.write_all(b"ours ");
+        put(stdout, m.number);
+        put(stdout, m.grid_h);
+        put(stdout, m.grid_w);
+        put(stdout, m.floats);
+        put(stdout, m.hash);
+        let _ = stdout.write_all(b"and ");
+        put(stdout, b.number);
+        put(stdout, b.height);
+        put(stdout, b.width);
+        put(stdout, b.hash);
+        let _ = stdout.write_all(b"for ");
+        let _ = stdout.write_all(line);
     }
 }
 
-fn bad(line: &[u8]) -> Places
+fn bad(stdout: Stdout, line: &[u8]) -> Places
     ensures { result ≡ neither }
 {
-    io::write_all(STDOUT_FILENO, b"no record: ");
-    io::write_all(STDOUT_FILENO, line);
+    let _ = stdout.write_all(b"no record: ");
+    let _ = stdout.write_all(line);
     Places {
         first: 6,
         second: 9,
@@ -90,15 +89,15 @@ fn small(v: &[usize; 30]) -> bool
     (v[5] <= ROOM) & (v[6] <= ROOM) & (v[15] <= ROOM) & (v[16] <= ROOM)
 }
 
-pub(crate) fn judge(line: &[u8]) -> Places
+pub(crate) fn judge(stdout: Stdout, line: &[u8]) -> Places
     ensures { (result ≡ places_of line.now) × (result.first < 8) × (result.second < 11) }
 {
     let mut v = [0usize; 30];
     if !read_line(line, &mut v) {
-        return bad(line);
+        return bad(stdout, line);
     }
     if !small(&v) {
-        return bad(line);
+        return bad(stdout, line);
     }
     let mut cells = [0.0f32; ROOM];
     fill_floats(MARKS, &mut cells);
@@ -108,6 +107,6 @@ pub(crate) fn judge(line: &[u8]) -> Places
         first: made_place(m, &v),
         second: back_place(b, &v),
     };
-    report(p, m, b, line);
+    report(stdout, p, m, b, line);
     p
 }

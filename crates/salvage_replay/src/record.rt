@@ -3,8 +3,8 @@ ghost use Rattle.std.specs.Prelude.{◌≡◌, ◌<◌};
 ghost use Rattle.salvage_replay.specs.Record.{same_as, place_of, differs, small_of, place_in};
 
 use crate::run::{ROOM, Told};
-use libc::STDOUT_FILENO;
 use replay::line::read_line;
+use std::io::Stdout;
 
 // Whether a call answers as the record says.
 fn same(m: Told, v: &[usize; 31]) -> bool
@@ -37,32 +37,31 @@ fn place(m: Told, v: &[usize; 31]) -> usize
     9
 }
 
-fn put(x: usize) {
-    io::print_decimal(STDOUT_FILENO, x as u64);
-    io::write_all(STDOUT_FILENO, b" ");
+fn put(stdout: Stdout, x: usize) {
+    let _ = print!(stdout; "{x} ");
 }
 
 // Writes what ours are where they differ from the line's.
-fn report(p: usize, m: Told, line: &[u8]) {
+fn report(stdout: Stdout, p: usize, m: Told, line: &[u8]) {
     if p == 9 {
-        io::write_all(STDOUT_FILENO, b"ours ");
-        put(m.patches);
-        put(m.number);
-        put(m.height);
-        put(m.width);
-        put(m.bad);
-        put(m.bytes);
-        put(m.entries);
-        io::write_all(STDOUT_FILENO, b"for ");
-        io::write_all(STDOUT_FILENO, line);
+        let _ = stdout.write_all(b"ours ");
+        put(stdout, m.patches);
+        put(stdout, m.number);
+        put(stdout, m.height);
+        put(stdout, m.width);
+        put(stdout, m.bad);
+        put(stdout, m.bytes);
+        put(stdout, m.entries);
+        let _ = stdout.write_all(b"for ");
+        let _ = stdout.write_all(line);
     }
 }
 
-fn bad(line: &[u8]) -> usize
+fn bad(stdout: Stdout, line: &[u8]) -> usize
     ensures { result ≡ differs }
 {
-    io::write_all(STDOUT_FILENO, b"no record: ");
-    io::write_all(STDOUT_FILENO, line);
+    let _ = stdout.write_all(b"no record: ");
+    let _ = stdout.write_all(line);
     9
 }
 
@@ -73,18 +72,18 @@ fn small(v: &[usize; 31]) -> bool
     (v[5] <= ROOM) & (v[6] <= ROOM) & (v[7] <= ROOM) & (0 < v[9]) & (0 < v[12])
 }
 
-pub(crate) fn judge(line: &[u8]) -> usize
+pub(crate) fn judge(stdout: Stdout, line: &[u8]) -> usize
     ensures { (result ≡ place_in line.now) × (result < 12) }
 {
     let mut v = [0usize; 31];
     if !read_line(line, &mut v) {
-        return bad(line);
+        return bad(stdout, line);
     }
     if !small(&v) {
-        return bad(line);
+        return bad(stdout, line);
     }
     let m = crate::run::call(&v);
     let p = place(m, &v);
-    report(p, m, line);
+    report(stdout, p, m, line);
     p
 }

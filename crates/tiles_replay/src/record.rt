@@ -3,9 +3,9 @@ ghost use Rattle.std.specs.Prelude.{◌≡◌, ◌≤◌, ◌<◌};
 ghost use Rattle.tiles_replay.specs.Record.{same_as, place_of, neither, small_of, places_of};
 
 use crate::run::{ROOM, Told};
-use libc::STDOUT_FILENO;
 use replay::line::read_line;
 use replay::marks::{MARKS, fill_floats};
+use std::io::Stdout;
 
 // Where a record's calls are counted: each by its number, past these where it differs, and last of all 19 and 20.
 #[derive(Clone, Copy)]
@@ -48,40 +48,39 @@ fn place(m: Told, v: &[usize; 39], at: usize) -> usize
     9
 }
 
-fn put(x: usize) {
-    io::print_decimal(STDOUT_FILENO, x as u64);
-    io::write_all(STDOUT_FILENO, b" ");
+fn put(stdout: Stdout, x: usize) {
+    let _ = print!(stdout; "{x} ");
 }
 
-fn put_told(m: Told) {
-    put(m.number);
-    put(m.grid_h);
-    put(m.grid_w);
-    put(m.floats);
-    put(m.top);
-    put(m.left);
-    put(m.height);
-    put(m.width);
-    put(m.hash);
+fn put_told(stdout: Stdout, m: Told) {
+    put(stdout, m.number);
+    put(stdout, m.grid_h);
+    put(stdout, m.grid_w);
+    put(stdout, m.floats);
+    put(stdout, m.top);
+    put(stdout, m.left);
+    put(stdout, m.height);
+    put(stdout, m.width);
+    put(stdout, m.hash);
 }
 
 // Writes what ours are where they differ from the line's.
-fn report(p: Places, m: Told, b: Told, line: &[u8]) {
+fn report(stdout: Stdout, p: Places, m: Told, b: Told, line: &[u8]) {
     if (p.first == 9) | (p.second == 9) {
-        io::write_all(STDOUT_FILENO, b"ours ");
-        put_told(m);
-        io::write_all(STDOUT_FILENO, b"and ");
-        put_told(b);
-        io::write_all(STDOUT_FILENO, b"for ");
-        io::write_all(STDOUT_FILENO, line);
+        let _ = stdout.write_all(b"ours ");
+        put_told(stdout, m);
+        let _ = stdout.write_all(b"and ");
+        put_told(stdout, b);
+        let _ = stdout.write_all(b"for ");
+        let _ = stdout.write_all(line);
     }
 }
 
-fn bad(line: &[u8]) -> Places
+fn bad(stdout: Stdout, line: &[u8]) -> Places
     ensures { result ≡ neither }
 {
-    io::write_all(STDOUT_FILENO, b"no record: ");
-    io::write_all(STDOUT_FILENO, line);
+    let _ = stdout.write_all(b"no record: ");
+    let _ = stdout.write_all(line);
     Places {
         first: 9,
         second: 9,
@@ -95,15 +94,15 @@ fn small(v: &[usize; 39]) -> bool
     (v[6] <= ROOM) & (v[7] <= ROOM) & (v[19] <= ROOM) & (v[20] <= ROOM)
 }
 
-pub(crate) fn judge(line: &[u8]) -> Places
+pub(crate) fn judge(stdout: Stdout, line: &[u8]) -> Places
     ensures { (result ≡ places_of line.now) × (result.first < 12) × (result.second < 12) }
 {
     let mut v = [0usize; 39];
     if !read_line(line, &mut v) {
-        return bad(line);
+        return bad(stdout, line);
     }
     if !small(&v) {
-        return bad(line);
+        return bad(stdout, line);
     }
     let mut cells = [0.0f32; ROOM];
     fill_floats(MARKS, &mut cells);
@@ -113,6 +112,6 @@ pub(crate) fn judge(line: &[u8]) -> Places
         first: place(m, &v, 9),
         second: place(b, &v, 23),
     };
-    report(p, m, b, line);
+    report(stdout, p, m, b, line);
     p
 }

@@ -3,12 +3,13 @@
 // One byte more than a text may have is read, so that a longer one is seen to be longer.
 #![tactic(auto)]
 
-use libc::{STDIN_FILENO, STDOUT_FILENO};
+use read_input::read_full;
+use std::io;
 
-fn main() {
+fn main(rt: HostRuntime) -> io::Result<()> {
     let mut text = [0u8; 49153];
-    let n = io::read_full(STDIN_FILENO, &mut text);
+    let n = read_full(&mut rt.stdin(), &mut text)?;
     let mut out = [0u8; unpatch_text::ROOM];
     let count = unpatch_text::unpatch(&text[..n], &mut out);
-    io::write_all(STDOUT_FILENO, &out[..count]);
+    rt.stdout().write_all(&out[..count])
 }

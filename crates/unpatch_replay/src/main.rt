@@ -9,18 +9,16 @@
 mod record;
 mod replay;
 
-use libc::{STDIN_FILENO, STDOUT_FILENO};
+use read_input::read_full;
+use std::io;
 
-fn main() {
+fn main(rt: HostRuntime) -> io::Result<()> {
     let mut text = [0u8; 262144];
-    let n = io::read_full(STDIN_FILENO, &mut text);
+    let stdout = rt.stdout();
+    let n = read_full(&mut rt.stdin(), &mut text)?;
     if n == 262144 {
-        io::write_all(STDOUT_FILENO, b"the input fills the buffer\n");
+        stdout.write_all(b"the input fills the buffer\n")?;
     }
-    let counts = replay::replay(&text[..n]);
-    io::write_all(STDOUT_FILENO, b"agree ");
-    io::print_decimal(STDOUT_FILENO, counts.agree);
-    io::write_all(STDOUT_FILENO, b" differ ");
-    io::print_decimal(STDOUT_FILENO, counts.differ);
-    io::write_all(STDOUT_FILENO, b"\n");
+    let counts = replay::replay(stdout, &text[..n]);
+    println!(stdout; "agree {} differ {}", counts.agree, counts.differ)
 }

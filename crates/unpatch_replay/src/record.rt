@@ -4,7 +4,7 @@ ghost use Rattle.unpatch_form.specs.Words.{same};
 ghost use Rattle.unpatch_text.specs.Answer.{answer};
 ghost use Rattle.unpatch_replay.specs.Record.{size_of, unread, step_of};
 
-use libc::STDOUT_FILENO;
+use std::io::Stdout;
 
 // How long the first record is, and whether its text is answered as it says.
 #[derive(Drop)]
@@ -35,46 +35,46 @@ fn size(s: &[u8]) -> usize
     (((a * 10 + b) * 10 + c) * 10 + d) * 10 + e
 }
 
-fn judge(input: &[u8], want: &[u8]) -> bool
+fn judge(stdout: Stdout, input: &[u8], want: &[u8]) -> bool
     ensures { result ≡ same (answer input.now) want.now }
 {
     let mut out = [0u8; unpatch_text::ROOM];
     let n = unpatch_text::unpatch(input, &mut out);
     let ok = check::same(&out[..n], want);
     if !ok {
-        io::write_all(STDOUT_FILENO, b"not answered so: ");
-        io::write_all(STDOUT_FILENO, input);
+        let _ = stdout.write_all(b"not answered so: ");
+        let _ = stdout.write_all(input);
     }
     ok
 }
 
-fn cut_short(text: &[u8]) -> Step
+fn cut_short(stdout: Stdout, text: &[u8]) -> Step
     ensures { result ≡ unread text.now }
 {
-    io::write_all(STDOUT_FILENO, b"no record: ");
-    io::write_all(STDOUT_FILENO, text);
+    let _ = stdout.write_all(b"no record: ");
+    let _ = stdout.write_all(text);
     Step {
         len: text.len(),
         same: false,
     }
 }
 
-pub(crate) fn first(text: &[u8]) -> Step
+pub(crate) fn first(stdout: Stdout, text: &[u8]) -> Step
     requires { 0 < length text.now }
     ensures { (result ≡ step_of text.now) × (0 < result.len) × (result.len ≤ length text.now) }
 {
     if text.len() < 12 {
-        return cut_short(text);
+        return cut_short(stdout, text);
     }
     let n = size(&text[0..5]);
     let m = size(&text[6..11]);
     if text.len() - 12 < n + m {
-        return cut_short(text);
+        return cut_short(stdout, text);
     }
     let mid = 12 + n;
     let end = mid + m;
     Step {
         len: end,
-        same: judge(&text[12..mid], &text[mid..end]),
+        same: judge(stdout, &text[12..mid], &text[mid..end]),
     }
 }

@@ -2,6 +2,8 @@
 ghost use Rattle.std.specs.Prelude.{◌≡◌, ◌+◌, ◌<◌, length};
 ghost use Rattle.unpatch_replay.specs.Record.{none, counted, tally};
 
+use std::io::Stdout;
+
 #[derive(Drop)]
 pub struct Counts {
     pub agree: u64,
@@ -24,7 +26,7 @@ fn count(c: Counts, same: bool) -> Counts
     }
 }
 
-pub(crate) fn replay(text: &[u8]) -> Counts
+pub(crate) fn replay(stdout: Stdout, text: &[u8]) -> Counts
     ensures { result ≡ tally (length text.now) none text.now }
 {
     let mut c = Counts {
@@ -33,7 +35,7 @@ pub(crate) fn replay(text: &[u8]) -> Counts
     };
     let mut at = 0usize;
     while at < text.len() {
-        let s = crate::record::first(&text[at..]);
+        let s = crate::record::first(stdout, &text[at..]);
         c = count(c, s.same);
         at += s.len;
     }

@@ -9,11 +9,11 @@ use Rattle.unpatch.proofs.main.Goals as goal
 -- src/main.rt:12:34
 pub slice_bounds-out-end : goal.slice_bounds-out-end
 slice_bounds-out-end c =
-    let inside : c.unpatch-count.result ≤ length c.unpatch-count.new.out = rw (c.unpatch-count.ensures.answer, c.unpatch-count.auto.out) (length-inside (take c.read_full-n.result c.read_full-n.new.buf) (replicate 25094 0)) in
+    let inside : c.unpatch-count.result ≤ length c.unpatch-count.new.out = rw (c.unpatch-count.ensures.answer, c.unpatch-count.auto.out) (length-inside (take c.in_ok-n.n c.read_full.new.to) (replicate 25094 0)) in
     inside
 
 -- src/main.rt:12:34
 pub slice_bounds-write_all-end : goal.slice_bounds-write_all-end
 slice_bounds-write_all-end c =
-    let inside : c.unpatch-count.result ≤ length c.unpatch-count.new.out = rw (c.unpatch-count.ensures.answer, c.unpatch-count.auto.out) (length-inside (take c.read_full-n.result c.read_full-n.new.buf) (replicate 25094 0)) in
+    let inside : c.unpatch-count.result ≤ length c.unpatch-count.new.out = rw (c.unpatch-count.ensures.answer, c.unpatch-count.auto.out) (length-inside (take c.in_ok-n.n c.read_full.new.to) (replicate 25094 0)) in
     sym (length-take-le _ _ (inside))

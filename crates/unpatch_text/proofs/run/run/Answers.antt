@@ -29,28 +29,39 @@ room = length (replicate 12288 zero32)
 fits : (s : PictureSettings) (h w : ℕ) → s.image_size ≤ 64 → floats_of s h w ≤ room
 fits s h w e = rw (length-replicate 12288 zero32) (floats-le s h w e)
 
--- ---- where restore gives a picture
-module _ (c : goal.In-Picture) where
-  abbrev grids : goal.In-Patches
-  grids = c.before.before.before.before.before
+-- ---- where preprocess gives a grid and how many floats
+module _ (s : PictureSettings) (rgb : List ℕ) (height width gh gw n : ℕ) (low : s.image_size ≤ 64) (given : preprocessed s (length rgb) height width room ≡ P.Patches gh gw n) where
+  taken : Accepted s (length rgb) height width room gh gw n
+  taken = acceptance s (length rgb) height width room _ _ _ given
 
-  abbrev sides : ℕ × ℕ
-  sides = (c.in-Picture.h, c.in-Picture.w)
+  inside : n ≤ room
+  inside = rw taken.count (fits s height width low)
 
-  abbrev set : PictureSettings
-  set = c.args.s
+  tall : gh * s.patch_size ≤ 64
+  tall = rw taken.tall (grid-span s (max height width) height low)
 
-  seen : restored set (lent grids) (made grids).0 (made grids).1 (length (replicate {A = ℕ} 12288 0)) ≡ R.Picture sides.0 sides.1
-  seen = sym c.restore-back.ensures.answer ∙ c.in-Picture.is
+  wide : gw * s.patch_size ≤ 64
+  wide = rw taken.wide (grid-span s (max height width) width low)
 
-  says : Back set (lent grids) (made grids).0 (made grids).1 sides.0 sides.1
-  says = back-says set (lent grids) (made grids).0 (made grids).1 _ _ _ seen
+  -- the answer's text, by the text of what restore gives of the patches
+  text : (lent : List Float) → lent ≡ patches_of s rgb height width
+      → ran s rgb height width ≡ restored_text s gh gw (bytes_of s lent gh gw) (restored s lent gh gw (gh * s.patch_size * (gw * s.patch_size) * 3))
+  unfolding ran
+  text lent t =
+      let p = s.patch_size in
+      let e : preprocessed s (length rgb) height width (floats_of s height width) ≡ P.Patches gh gw n = sym (preprocess-room s (length rgb) height width room (fits s height width low)) ∙ given in
+      ap (preprocessed_text s rgb height width) e ∙ sym (ap (λ (z : List Float). restored_text s gh gw (bytes_of s z gh gw) (restored s z gh gw (gh * p * (gw * p) * 3))) t)
 
-  small : Small set (lent grids) (made grids).0 (made grids).1 sides.0 sides.1
-  small = back-small set (lent grids) (made grids).0 (made grids).1 (tall grids) (wide grids) _ _ says
+-- ---- where restore gives a picture of h rows and w columns
+module _ (s : PictureSettings) (lent : List Float) (gh gw h w : ℕ) (tall : gh * s.patch_size ≤ 64) (wide : gw * s.patch_size ≤ 64) (seen : restored s lent gh gw (length (replicate {A = ℕ} 12288 0)) ≡ R.Picture h w) where
+  says : Back s lent gh gw h w
+  says = back-says s lent gh gw _ _ _ seen
 
-  count-in : sides.0 * (sides.1 * 3) ≤ length c.restore-back.new.out
-  count-in = rw (c.restore-back.auto.out, length-replicate 12288) (omega (arith, times sides.0 (sides.1 * 3) 64 192 small.tall small.wide))
+  small : Small s lent gh gw h w
+  small = back-small s lent gh gw tall wide _ _ says
+
+  count-in : h * (w * 3) ≤ 12288
+  count-in = omega (arith, times h (w * 3) 64 192 small.tall small.wide)
 
 -- src/run.rt:47:37
 pub put_refused-requires : goal.put_refused-requires
@@ -60,20 +71,20 @@ put_refused-requires c =
 -- src/run.rt:53:35
 pub slice_bounds-patches-end : goal.slice_bounds-patches-end
 slice_bounds-patches-end c =
-    let made : ℕ × ℕ × ℕ = (c.in-Patches.grid_h, c.in-Patches.grid_w, c.in-Patches.floats) in
-    let answer : preprocessed c.args.s (length c.args.rgb.now) c.args.height c.args.width room ≡ P.Patches made.0 made.1 made.2 = sym c.pixtral_preprocess-made.ensures.answer ∙ c.in-Patches.is in
-    let taken : Accepted c.args.s (length c.args.rgb.now) c.args.height c.args.width room made.0 made.1 made.2 = acceptance c.args.s (length c.args.rgb.now) c.args.height c.args.width room _ _ _ (answer) in
-    let inside : made.2 ≤ length c.pixtral_preprocess-made.new.out = rw (c.pixtral_preprocess-made.auto.out, taken.count) (fits c.args.s c.args.height c.args.width c.requires.0) in
-    inside
+    let a = c.args in
+    let f = c.in-Patches in
+    let given : preprocessed a.s (length a.rgb.now) a.height a.width room ≡ P.Patches f.grid_h f.grid_w f.floats = sym c.pixtral_preprocess-made.ensures.answer ∙ f.is in
+    let fit : f.floats ≤ length c.pixtral_preprocess-made.new.out = rw c.pixtral_preprocess-made.auto.out (inside a.s a.rgb.now a.height a.width f.grid_h f.grid_w f.floats c.requires.0 given) in
+    fit
 
 -- src/run.rt:53:35
 pub slice_bounds-restore-end : goal.slice_bounds-restore-end
 slice_bounds-restore-end c =
-    let made : ℕ × ℕ × ℕ = (c.in-Patches.grid_h, c.in-Patches.grid_w, c.in-Patches.floats) in
-    let answer : preprocessed c.args.s (length c.args.rgb.now) c.args.height c.args.width room ≡ P.Patches made.0 made.1 made.2 = sym c.pixtral_preprocess-made.ensures.answer ∙ c.in-Patches.is in
-    let taken : Accepted c.args.s (length c.args.rgb.now) c.args.height c.args.width room made.0 made.1 made.2 = acceptance c.args.s (length c.args.rgb.now) c.args.height c.args.width room _ _ _ (answer) in
-    let inside : made.2 ≤ length c.pixtral_preprocess-made.new.out = rw (c.pixtral_preprocess-made.auto.out, taken.count) (fits c.args.s c.args.height c.args.width c.requires.0) in
-    sym (length-take-le _ _ (inside))
+    let a = c.args in
+    let f = c.in-Patches in
+    let given : preprocessed a.s (length a.rgb.now) a.height a.width room ≡ P.Patches f.grid_h f.grid_w f.floats = sym c.pixtral_preprocess-made.ensures.answer ∙ f.is in
+    let fit : f.floats ≤ length c.pixtral_preprocess-made.new.out = rw c.pixtral_preprocess-made.auto.out (inside a.s a.rgb.now a.height a.width f.grid_h f.grid_w f.floats c.requires.0 given) in
+    sym (length-take-le _ _ fit)
 
 -- src/run.rt:55:41
 pub put_refused-requires-in-Refused-back : goal.put_refused-requires-in-Refused-back
@@ -82,39 +93,79 @@ put_refused-requires-in-Refused-back c =
 
 -- src/run.rt:57:29
 pub overflow_mul-n : goal.overflow_mul-n
-overflow_mul-n c = omega (arith, (small c).wide)
+overflow_mul-n c =
+    let a = c.args in
+    let f = c.in-Patches in
+    let given : preprocessed a.s (length a.rgb.now) a.height a.width room ≡ P.Patches f.grid_h f.grid_w f.floats = sym c.pixtral_preprocess-made.ensures.answer ∙ f.is in
+    let high = tall a.s a.rgb.now a.height a.width f.grid_h f.grid_w f.floats c.requires.0 given in
+    let broad = wide a.s a.rgb.now a.height a.width f.grid_h f.grid_w f.floats c.requires.0 given in
+    let lent : List Float = take f.floats c.pixtral_preprocess-made.new.out in
+    let q = c.in-Picture in
+    let seen : restored a.s lent f.grid_h f.grid_w (length (replicate {A = ℕ} 12288 0)) ≡ R.Picture q.h q.w = sym c.restore-back.ensures.answer ∙ q.is in
+    omega (arith, (small a.s lent f.grid_h f.grid_w q.h q.w high broad seen).wide)
 
 -- src/run.rt:58:33
 pub overflow_mul-count : goal.overflow_mul-count
-overflow_mul-count c = omega (arith, times (sides c).0 ((sides c).1 * 3) 64 192 (small c).tall (small c).wide)
+overflow_mul-count c =
+    let a = c.args in
+    let f = c.in-Patches in
+    let given : preprocessed a.s (length a.rgb.now) a.height a.width room ≡ P.Patches f.grid_h f.grid_w f.floats = sym c.pixtral_preprocess-made.ensures.answer ∙ f.is in
+    let high = tall a.s a.rgb.now a.height a.width f.grid_h f.grid_w f.floats c.requires.0 given in
+    let broad = wide a.s a.rgb.now a.height a.width f.grid_h f.grid_w f.floats c.requires.0 given in
+    let lent : List Float = take f.floats c.pixtral_preprocess-made.new.out in
+    let q = c.in-Picture in
+    let seen : restored a.s lent f.grid_h f.grid_w (length (replicate {A = ℕ} 12288 0)) ≡ R.Picture q.h q.w = sym c.restore-back.ensures.answer ∙ q.is in
+    omega (arith, count-in a.s lent f.grid_h f.grid_w q.h q.w high broad seen)
 
 -- src/run.rt:60:56
 pub slice_bounds-bytes-end : goal.slice_bounds-bytes-end
-slice_bounds-bytes-end c = count-in c
+slice_bounds-bytes-end c =
+    let a = c.args in
+    let f = c.in-Patches in
+    let given : preprocessed a.s (length a.rgb.now) a.height a.width room ≡ P.Patches f.grid_h f.grid_w f.floats = sym c.pixtral_preprocess-made.ensures.answer ∙ f.is in
+    let high = tall a.s a.rgb.now a.height a.width f.grid_h f.grid_w f.floats c.requires.0 given in
+    let broad = wide a.s a.rgb.now a.height a.width f.grid_h f.grid_w f.floats c.requires.0 given in
+    let lent : List Float = take f.floats c.pixtral_preprocess-made.new.out in
+    let q = c.in-Picture in
+    let seen : restored a.s lent f.grid_h f.grid_w (length (replicate {A = ℕ} 12288 0)) ≡ R.Picture q.h q.w = sym c.restore-back.ensures.answer ∙ q.is in
+    rw (c.restore-back.auto.out, length-replicate {A = ℕ} 12288 0) (count-in a.s lent f.grid_h f.grid_w q.h q.w high broad seen)
 
 -- src/run.rt:60:56
 pub slice_bounds-show-end : goal.slice_bounds-show-end
-slice_bounds-show-end c = sym (length-take-le _ _ (count-in c.before))
+slice_bounds-show-end c =
+    let a = c.args in
+    let f = c.in-Patches in
+    let given : preprocessed a.s (length a.rgb.now) a.height a.width room ≡ P.Patches f.grid_h f.grid_w f.floats = sym c.pixtral_preprocess-made.ensures.answer ∙ f.is in
+    let high = tall a.s a.rgb.now a.height a.width f.grid_h f.grid_w f.floats c.requires.0 given in
+    let broad = wide a.s a.rgb.now a.height a.width f.grid_h f.grid_w f.floats c.requires.0 given in
+    let lent : List Float = take f.floats c.pixtral_preprocess-made.new.out in
+    let q = c.in-Picture in
+    let seen : restored a.s lent f.grid_h f.grid_w (length (replicate {A = ℕ} 12288 0)) ≡ R.Picture q.h q.w = sym c.restore-back.ensures.answer ∙ q.is in
+    let fit : q.h * (q.w * 3) ≤ length c.restore-back.new.out = rw (c.restore-back.auto.out, length-replicate {A = ℕ} 12288 0) (count-in a.s lent f.grid_h f.grid_w q.h q.w high broad seen) in
+    sym (length-take-le _ _ fit)
 
 -- src/run.rt:60:21
 pub show-requires : goal.show-requires
 show-requires c =
-    let made : ℕ × ℕ × ℕ = (c.in-Patches.grid_h, c.in-Patches.grid_w, c.in-Patches.floats) in
-    let answer : preprocessed c.args.s (length c.args.rgb.now) c.args.height c.args.width room ≡ P.Patches made.0 made.1 made.2 = sym c.pixtral_preprocess-made.ensures.answer ∙ c.in-Patches.is in
-    let taken : Accepted c.args.s (length c.args.rgb.now) c.args.height c.args.width room made.0 made.1 made.2 = acceptance c.args.s (length c.args.rgb.now) c.args.height c.args.width room _ _ _ (answer) in
-    let inside : made.2 ≤ length c.pixtral_preprocess-made.new.out = rw (c.pixtral_preprocess-made.auto.out, taken.count) (fits c.args.s c.args.height c.args.width c.requires.0) in
-    let tall : made.0 * c.args.s.patch_size ≤ 64 = rw taken.tall (grid-span c.args.s (max c.args.height c.args.width) c.args.height c.requires.0) in
-    let wide : made.1 * c.args.s.patch_size ≤ 64 = rw taken.wide (grid-span c.args.s (max c.args.height c.args.width) c.args.width c.requires.0) in
-    let b = c.before.before in
-    let g = (says b).grids.settings in
+    let a = c.args in
+    let f = c.in-Patches in
+    let given : preprocessed a.s (length a.rgb.now) a.height a.width room ≡ P.Patches f.grid_h f.grid_w f.floats = sym c.pixtral_preprocess-made.ensures.answer ∙ f.is in
+    let high = tall a.s a.rgb.now a.height a.width f.grid_h f.grid_w f.floats c.requires.0 given in
+    let broad = wide a.s a.rgb.now a.height a.width f.grid_h f.grid_w f.floats c.requires.0 given in
+    let lent : List Float = take f.floats c.pixtral_preprocess-made.new.out in
+    let q = c.in-Picture in
+    let seen : restored a.s lent f.grid_h f.grid_w (length (replicate {A = ℕ} 12288 0)) ≡ R.Picture q.h q.w = sym c.restore-back.ensures.answer ∙ q.is in
+    let fit : q.h * (q.w * 3) ≤ length c.restore-back.new.out = rw (c.restore-back.auto.out, length-replicate {A = ℕ} 12288 0) (count-in a.s lent f.grid_h f.grid_w q.h q.w high broad seen) in
+    let k = small a.s lent f.grid_h f.grid_w q.h q.w high broad seen in
+    let g = (says a.s lent f.grid_h f.grid_w q.h q.w high broad seen).grids.settings in
     record {
-      tall = (small b).grid-tall;
-      wide = (small b).grid-wide;
+      tall = k.grid-tall;
+      wide = k.grid-wide;
       merge_low = g.merge_low;
       merge-high = g.merge-high;
-      rows-high = (small b).tall;
-      row-long = (small b).wide;
-      inside = rw (length-take-le _ _ (count-in b)) (omega arith);
+      rows-high = k.tall;
+      row-long = k.wide;
+      inside = rw (length-take-le _ _ fit) (omega arith);
       room = c.requires.1;
     }
 
@@ -129,52 +180,33 @@ returns-in-Refused c =
 
 -- src/run.rt:39:1
 pub returns-in-Refused-back : goal.returns-in-Refused-back
-unfolding ran
 returns-in-Refused-back c =
-    let made : ℕ × ℕ × ℕ = let f = c.made-in-Patches-1.given.0 in (c.in-Patches.grid_h, c.in-Patches.grid_w, c.in-Patches.floats) in
-    let lent : List Float = take made.2 c.pixtral_preprocess-made.new.out in
-    let answer : preprocessed c.args.s (length c.args.rgb.now) c.args.height c.args.width room ≡ P.Patches made.0 made.1 made.2 = sym c.pixtral_preprocess-made.ensures.answer ∙ c.in-Patches.is in
-    let taken : Accepted c.args.s (length c.args.rgb.now) c.args.height c.args.width room made.0 made.1 made.2 = acceptance c.args.s (length c.args.rgb.now) c.args.height c.args.width room _ _ _ (answer) in
-    let tall : made.0 * c.args.s.patch_size ≤ 64 = rw taken.tall (grid-span c.args.s (max c.args.height c.args.width) c.args.height c.requires.0) in
-    let wide : made.1 * c.args.s.patch_size ≤ 64 = rw taken.wide (grid-span c.args.s (max c.args.height c.args.width) c.args.width c.requires.0) in
-    let text : ran c.args.s c.args.rgb.now c.args.height c.args.width
-    ≡ restored_text c.args.s made.0 made.1 (bytes_of c.args.s (lent) made.0 made.1)
-    (restored c.args.s (lent) made.0 made.1 (made.0 * c.args.s.patch_size * (made.1 * c.args.s.patch_size) * 3)) = let a = c.args in
-    let f = made in
-    let rgb = c.args.rgb.now in
-    let p = c.args.s.patch_size in
-    let e : preprocessed c.args.s (length rgb) c.args.height c.args.width (floats_of c.args.s c.args.height c.args.width) ≡ P.Patches c.in-Patches.grid_h c.made-in-Patches-1.given.0.1 c.made-in-Patches-1.given.0.2 = sym (preprocess-room c.args.s (length rgb) c.args.height c.args.width room (fits c.args.s c.args.height c.args.width c.requires.0)) ∙ answer in
-    let t : lent ≡ patches_of c.args.s rgb c.args.height c.args.width = ap (λ (z : List Float). take c.made-in-Patches-1.given.0.2 z) c.pixtral_preprocess-made.ensures.output ∙ patches-front c.args.s rgb c.args.height c.args.width room c.in-Patches.grid_h c.made-in-Patches-1.given.0.1 c.made-in-Patches-1.given.0.2 _ (answer) in
-    ap (preprocessed_text c.args.s rgb c.args.height c.args.width) e ∙ sym (ap (λ (z : List Float). restored_text c.args.s c.in-Patches.grid_h c.made-in-Patches-1.given.0.1 (bytes_of c.args.s z c.in-Patches.grid_h c.made-in-Patches-1.given.0.1) (restored c.args.s z c.in-Patches.grid_h c.made-in-Patches-1.given.0.1 (c.in-Patches.grid_h * p * (c.made-in-Patches-1.given.0.1 * p) * 3))) t) in
     let a = c.args in
-    let f = made in
-    let e : restored c.args.s (lent) c.in-Patches.grid_h c.made-in-Patches-1.given.0.1 _ ≡ R.Refused c.in-Refused-back.r = sym (restore-room c.args.s (lent) c.in-Patches.grid_h c.made-in-Patches-1.given.0.1 (length (replicate {A = ℕ} 12288 0)) (bytes_fit c.args.s.patch_size c.in-Patches.grid_h c.made-in-Patches-1.given.0.1 (tall) (wide))) ∙ sym c.restore-back.ensures.answer ∙ c.in-Refused-back.is in
-    wrote_as (ap refused_line c.number-in-Refused-back.ensures ∙ sym (text ∙ ap (restored_text c.args.s c.in-Patches.grid_h c.made-in-Patches-1.given.0.1 (bytes_of c.args.s (lent) c.in-Patches.grid_h c.made-in-Patches-1.given.0.1)) e)) c.put_refused-in-Refused-back.ensures
+    let f = c.in-Patches in
+    let given : preprocessed a.s (length a.rgb.now) a.height a.width room ≡ P.Patches f.grid_h f.grid_w f.floats = sym c.pixtral_preprocess-made.ensures.answer ∙ f.is in
+    let high = tall a.s a.rgb.now a.height a.width f.grid_h f.grid_w f.floats c.requires.0 given in
+    let broad = wide a.s a.rgb.now a.height a.width f.grid_h f.grid_w f.floats c.requires.0 given in
+    let lent : List Float = take f.floats c.pixtral_preprocess-made.new.out in
+    let t : lent ≡ patches_of a.s a.rgb.now a.height a.width = ap (λ (z : List Float). take f.floats z) c.pixtral_preprocess-made.ensures.output ∙ patches-front a.s a.rgb.now a.height a.width room f.grid_h f.grid_w f.floats _ given in
+    let said = text a.s a.rgb.now a.height a.width f.grid_h f.grid_w f.floats c.requires.0 given lent t in
+    let r = c.in-Refused-back.r in
+    let e : restored a.s lent f.grid_h f.grid_w _ ≡ R.Refused r = sym (restore-room a.s lent f.grid_h f.grid_w (length (replicate {A = ℕ} 12288 0)) (bytes_fit a.s.patch_size f.grid_h f.grid_w high broad)) ∙ sym c.restore-back.ensures.answer ∙ c.in-Refused-back.is in
+    wrote_as (ap refused_line c.number-in-Refused-back.ensures ∙ sym (said ∙ ap (restored_text a.s f.grid_h f.grid_w (bytes_of a.s lent f.grid_h f.grid_w)) e)) c.put_refused-in-Refused-back.ensures
 
 -- src/run.rt:39:1
 pub returns-in-Picture : goal.returns-in-Picture
-unfolding ran
 returns-in-Picture c =
-    let made : ℕ × ℕ × ℕ = let f = c.made-in-Patches-1.given.0 in (c.in-Patches.grid_h, c.in-Patches.grid_w, c.in-Patches.floats) in
-    let lent : List Float = take made.2 c.pixtral_preprocess-made.new.out in
-    let answer : preprocessed c.args.s (length c.args.rgb.now) c.args.height c.args.width room ≡ P.Patches made.0 made.1 made.2 = sym c.pixtral_preprocess-made.ensures.answer ∙ c.in-Patches.is in
-    let taken : Accepted c.args.s (length c.args.rgb.now) c.args.height c.args.width room made.0 made.1 made.2 = acceptance c.args.s (length c.args.rgb.now) c.args.height c.args.width room _ _ _ (answer) in
-    let tall : made.0 * c.args.s.patch_size ≤ 64 = rw taken.tall (grid-span c.args.s (max c.args.height c.args.width) c.args.height c.requires.0) in
-    let wide : made.1 * c.args.s.patch_size ≤ 64 = rw taken.wide (grid-span c.args.s (max c.args.height c.args.width) c.args.width c.requires.0) in
-    let text : ran c.args.s c.args.rgb.now c.args.height c.args.width
-    ≡ restored_text c.args.s made.0 made.1 (bytes_of c.args.s (lent) made.0 made.1)
-    (restored c.args.s (lent) made.0 made.1 (made.0 * c.args.s.patch_size * (made.1 * c.args.s.patch_size) * 3)) = let a = c.args in
-    let f = made in
-    let rgb = c.args.rgb.now in
-    let p = c.args.s.patch_size in
-    let e : preprocessed c.args.s (length rgb) c.args.height c.args.width (floats_of c.args.s c.args.height c.args.width) ≡ P.Patches c.in-Patches.grid_h c.made-in-Patches-1.given.0.1 c.made-in-Patches-1.given.0.2 = sym (preprocess-room c.args.s (length rgb) c.args.height c.args.width room (fits c.args.s c.args.height c.args.width c.requires.0)) ∙ answer in
-    let t : lent ≡ patches_of c.args.s rgb c.args.height c.args.width = ap (λ (z : List Float). take c.made-in-Patches-1.given.0.2 z) c.pixtral_preprocess-made.ensures.output ∙ patches-front c.args.s rgb c.args.height c.args.width room c.in-Patches.grid_h c.made-in-Patches-1.given.0.1 c.made-in-Patches-1.given.0.2 _ (answer) in
-    ap (preprocessed_text c.args.s rgb c.args.height c.args.width) e ∙ sym (ap (λ (z : List Float). restored_text c.args.s c.in-Patches.grid_h c.made-in-Patches-1.given.0.1 (bytes_of c.args.s z c.in-Patches.grid_h c.made-in-Patches-1.given.0.1) (restored c.args.s z c.in-Patches.grid_h c.made-in-Patches-1.given.0.1 (c.in-Patches.grid_h * p * (c.made-in-Patches-1.given.0.1 * p) * 3))) t) in
-    let b = c.before.before.before.before.before in
     let a = c.args in
-    let f = made in
-    let g = sides b in
-    let m = c.args.s.spatial_merge_size in
-    let e : restored c.args.s (lent) c.in-Patches.grid_h c.made-in-Patches-1.given.0.1 _ ≡ R.Picture g.0 g.1 = sym (restore-room c.args.s (lent) c.in-Patches.grid_h c.made-in-Patches-1.given.0.1 (length (replicate {A = ℕ} 12288 0)) (bytes_fit c.args.s.patch_size c.in-Patches.grid_h c.made-in-Patches-1.given.0.1 (tall) (wide))) ∙ seen b in
-    let t = ap (λ (z : List ℕ). take (g.0 * (g.1 * 3)) z) c.restore-back.ensures.output ∙ bytes_back c.args.s (lent) c.in-Patches.grid_h c.made-in-Patches-1.given.0.1 _ g.0 g.1 _ (seen b) in
-    wrote_as (ap (λ (z : List ℕ). grid_line c.in-Patches.grid_h c.made-in-Patches-1.given.0.1 (c.in-Patches.grid_h * c.made-in-Patches-1.given.0.1 / (m * m)) ++ row_lines g.0 (g.1 * 3) z) t ∙ sym (text ∙ ap (restored_text c.args.s c.in-Patches.grid_h c.made-in-Patches-1.given.0.1 (bytes_of c.args.s (lent) c.in-Patches.grid_h c.made-in-Patches-1.given.0.1)) e)) c.show.ensures
+    let f = c.in-Patches in
+    let given : preprocessed a.s (length a.rgb.now) a.height a.width room ≡ P.Patches f.grid_h f.grid_w f.floats = sym c.pixtral_preprocess-made.ensures.answer ∙ f.is in
+    let high = tall a.s a.rgb.now a.height a.width f.grid_h f.grid_w f.floats c.requires.0 given in
+    let broad = wide a.s a.rgb.now a.height a.width f.grid_h f.grid_w f.floats c.requires.0 given in
+    let lent : List Float = take f.floats c.pixtral_preprocess-made.new.out in
+    let t : lent ≡ patches_of a.s a.rgb.now a.height a.width = ap (λ (z : List Float). take f.floats z) c.pixtral_preprocess-made.ensures.output ∙ patches-front a.s a.rgb.now a.height a.width room f.grid_h f.grid_w f.floats _ given in
+    let said = text a.s a.rgb.now a.height a.width f.grid_h f.grid_w f.floats c.requires.0 given lent t in
+    let q = c.in-Picture in
+    let seen : restored a.s lent f.grid_h f.grid_w (length (replicate {A = ℕ} 12288 0)) ≡ R.Picture q.h q.w = sym c.restore-back.ensures.answer ∙ q.is in
+    let m = a.s.spatial_merge_size in
+    let e : restored a.s lent f.grid_h f.grid_w _ ≡ R.Picture q.h q.w = sym (restore-room a.s lent f.grid_h f.grid_w (length (replicate {A = ℕ} 12288 0)) (bytes_fit a.s.patch_size f.grid_h f.grid_w high broad)) ∙ seen in
+    let written = ap (λ (z : List ℕ). take (q.h * (q.w * 3)) z) c.restore-back.ensures.output ∙ bytes_back a.s lent f.grid_h f.grid_w _ q.h q.w _ seen in
+    wrote_as (ap (λ (z : List ℕ). grid_line f.grid_h f.grid_w (f.grid_h * f.grid_w / (m * m)) ++ row_lines q.h (q.w * 3) z) written ∙ sym (said ∙ ap (restored_text a.s f.grid_h f.grid_w (bytes_of a.s lent f.grid_h f.grid_w)) e)) c.show.ensures
