@@ -14,30 +14,33 @@ mod record;
 mod run;
 mod text;
 
-use libc::{STDIN_FILENO, STDOUT_FILENO};
+use read_input::read_full;
+use std::io;
+use std::io::Stdout;
 
-fn put(name: &[u8], count: u64) {
-    io::write_all(STDOUT_FILENO, name);
-    io::print_decimal(STDOUT_FILENO, count);
+fn put(stdout: Stdout, name: &[u8], count: u64) -> io::Result<()> {
+    stdout.write_all(name)?;
+    stdout.print(count)
 }
 
-fn main() {
+fn main(rt: HostRuntime) -> io::Result<()> {
     let mut text = [0u8; 65536];
-    let n = io::read_full(STDIN_FILENO, &mut text);
+    let stdout = rt.stdout();
+    let n = read_full(&mut rt.stdin(), &mut text)?;
     if n == 65536 {
-        io::write_all(STDOUT_FILENO, b"the input fills the buffer\n");
+        stdout.write_all(b"the input fills the buffer\n")?;
     }
-    let counts = text::replay(&text[..n]);
-    put(b"forward 0:", counts[0]);
-    put(b" 1:", counts[1]);
-    put(b" 5:", counts[5]);
-    put(b" 6:", counts[6]);
-    put(b" 7:", counts[7]);
-    put(b" 9:", counts[9]);
-    put(b" 10:", counts[10]);
-    put(b" 11:", counts[11]);
-    put(b" 12:", counts[12]);
-    put(b" 22:", counts[22]);
-    put(b" differ ", counts[23]);
-    io::write_all(STDOUT_FILENO, b"\n");
+    let counts = text::replay(stdout, &text[..n]);
+    put(stdout, b"forward 0:", counts[0])?;
+    put(stdout, b" 1:", counts[1])?;
+    put(stdout, b" 5:", counts[5])?;
+    put(stdout, b" 6:", counts[6])?;
+    put(stdout, b" 7:", counts[7])?;
+    put(stdout, b" 9:", counts[9])?;
+    put(stdout, b" 10:", counts[10])?;
+    put(stdout, b" 11:", counts[11])?;
+    put(stdout, b" 12:", counts[12])?;
+    put(stdout, b" 22:", counts[22])?;
+    put(stdout, b" differ ", counts[23])?;
+    stdout.write_all(b"\n")
 }

@@ -3,8 +3,8 @@ ghost use Rattle.std.specs.Prelude.{◌≡◌, ◌<◌};
 ghost use Rattle.encoder_replay.specs.Record.{differs, counted_at, place_of, small_of};
 
 use crate::run::{Answer, OUT, SCRATCH};
-use libc::STDOUT_FILENO;
 use replay::line::read_line;
+use std::io::Stdout;
 
 // Where a record's call is counted: by its number, and past these where it differs.
 fn place_of(a: Answer, v: &[usize; 28]) -> usize
@@ -19,29 +19,28 @@ fn place_of(a: Answer, v: &[usize; 28]) -> usize
     23
 }
 
-fn put(x: usize) {
-    io::print_decimal(STDOUT_FILENO, x as u64);
-    io::write_all(STDOUT_FILENO, b" ");
+fn put(stdout: Stdout, x: usize) {
+    let _ = print!(stdout; "{x} ");
 }
 
 // Writes what ours is where it differs from the line's.
-fn report(i: usize, a: Answer, line: &[u8]) {
+fn report(stdout: Stdout, i: usize, a: Answer, line: &[u8]) {
     if i == 23 {
-        io::write_all(STDOUT_FILENO, b"ours ");
-        put(a.number);
-        put(a.tokens);
-        put(a.out);
-        put(a.scratch);
-        io::write_all(STDOUT_FILENO, b"for ");
-        io::write_all(STDOUT_FILENO, line);
+        let _ = stdout.write_all(b"ours ");
+        put(stdout, a.number);
+        put(stdout, a.tokens);
+        put(stdout, a.out);
+        put(stdout, a.scratch);
+        let _ = stdout.write_all(b"for ");
+        let _ = stdout.write_all(line);
     }
 }
 
-fn bad(line: &[u8]) -> usize
+fn bad(stdout: Stdout, line: &[u8]) -> usize
     ensures { result ≡ differs }
 {
-    io::write_all(STDOUT_FILENO, b"no record: ");
-    io::write_all(STDOUT_FILENO, line);
+    let _ = stdout.write_all(b"no record: ");
+    let _ = stdout.write_all(line);
     23
 }
 
@@ -57,18 +56,18 @@ fn small(v: &[usize; 28]) -> bool
         & (v[17] <= OUT)
 }
 
-pub(crate) fn judge(line: &[u8]) -> usize
+pub(crate) fn judge(stdout: Stdout, line: &[u8]) -> usize
     ensures { (result ≡ place_of line.now) × (result < 24) }
 {
     let mut v = [0usize; 28];
     if !read_line(line, &mut v) {
-        return bad(line);
+        return bad(stdout, line);
     }
     if !small(&v) {
-        return bad(line);
+        return bad(stdout, line);
     }
     let a = crate::run::run(&v);
     let i = place_of(a, &v);
-    report(i, a, line);
+    report(stdout, i, a, line);
     i
 }
