@@ -12,7 +12,6 @@ use Rattle.tensor_header.specs.Header.{header_length, data_of}
 use Rattle.tensor_header.proofs.Unique.{opens}
 use Rattle.weights.proofs.Sums.{few-tensors}
 use Rattle.weights.proofs.Weighs.{opening-as, when-refused, when-open}
-use borrow.Author.Rules.{rules}
 use Rattle.weights.proofs.weights.Goals as goal
 
 -- the data: all that is behind the header

@@ -2,7 +2,6 @@
 use mathlib.Core.Path.{sym, ◌∙◌}
 use native.Mathlib.Omega.{arith}
 use Rattle.tensor_header.proofs.Told.{no-object, an-object}
-use borrow.Author.Rules.{rules}
 use Rattle.tensor_header.proofs.walk.find.Goals as goal
 
 pub overflow_add-at : goal.overflow_add-at
