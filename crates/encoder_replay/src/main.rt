@@ -7,7 +7,7 @@
 // sines, scratch and output, the seed of the inputs, and a damage to them with its place; 4 are its
 // answer: the number, the tokens, the hash of the output and that of the scratch afterwards. The last
 // three are the resize rule, projector_bias, and 1 where the forward is that with plain attention.
-// `oracle/run target/staticlib encoder --sample` made the file stdin from the Rust alone.
+// `oracle/run target/archives/x86-64 encoder --sample` made the file stdin from the Rust alone.
 #![tactic(auto)]
 
 mod record;

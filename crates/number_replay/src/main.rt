@@ -3,7 +3,7 @@
 //
 // Standard input holds a record a line, 20 bytes: the rule's letter (b, h, r, e, t, p, w for bf16, half,
 // root, E, T, packed, widened), a space, the input, a space, the Rust's answer, a newline; both numbers as
-// 8 lower-case hex digits. `oracle/run target/staticlib --sample` made the file stdin from the Rust
+// 8 lower-case hex digits. `oracle/run target/archives/x86-64 --sample` made the file stdin from the Rust
 // alone.
 #![tactic(auto)]
 

@@ -7,7 +7,7 @@
 // hash of the output afterwards. Then 6 ask for a restore of the floats just made: grid_h, grid_w,
 // the patches' length, the output's length, and a damage with its place; and 4 are its answer: the
 // number, height, width, and the hash of the output. The last 7 are the resize rule of both calls and
-// the patterns of their means and deviations. `oracle/run target/staticlib picture --sample` made the
+// the patterns of their means and deviations. `oracle/run target/archives/x86-64 picture --sample` made the
 // file stdin from the Rust, with these means and deviations, and, for rule 2, from its request over the
 // Rust's own resize.
 #![tactic(auto)]

@@ -6,7 +6,7 @@
 // and, for add, so many floats of a seed; 4 the count, and 5 one entry of the bookkeeping, become others, as no call would make
 // them. The next 4 are: the length lent (of 5 the entry); the key; how many floats are added (of 4 the count, of 5 the start);
 // the seed (of 5 the length). The last 5 are the answer: the number, the count of results afterwards, start and length of what
-// was found, and the hash of the whole slice. `oracle/run target/staticlib pool --sample` made the file stdin, from the request.
+// was found, and the hash of the whole slice. `oracle/run target/archives/x86-64 pool --sample` made the file stdin, from the request.
 #![tactic(auto)]
 
 mod record;

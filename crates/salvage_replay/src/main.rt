@@ -7,7 +7,7 @@
 // places that get patterns instead, every how many of them, the pattern, and how much is added to it for each place; and a
 // single place with its own pattern. Then 7 are the answer: the hash of the patches, the number, height, width, the count of
 // bad samples, and the hashes of output and list afterwards. The last 7 are the resize rule and the patterns of means and
-// deviations. `oracle/run target/staticlib salvage --sample` made the file stdin: salvage from its request, over the samples
+// deviations. `oracle/run target/archives/x86-64 salvage --sample` made the file stdin: salvage from its request, over the samples
 // of the Rust.
 #![tactic(auto)]
 

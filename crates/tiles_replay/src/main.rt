@@ -7,7 +7,7 @@
 // floats, top, left, height, width, and the hash of the output afterwards. Then 5 ask for a restore of the
 // floats just made, in a sweep of the same sides: the index, the patches' length, the output's length, and a
 // damage with its place; and 9 are its answer, as before. The last 7 are the resize rule of both calls and
-// the patterns of their means and deviations. `oracle/run target/staticlib tiles --sample` made the file
+// the patterns of their means and deviations. `oracle/run target/archives/x86-64 tiles --sample` made the file
 // stdin: the cut and the padding from their request, and the patches of a padded tile by the Rust.
 #![tactic(auto)]
 
