@@ -10,7 +10,7 @@ use lib.Dec.{leb, eqb}
 use borrow.Author.Tests.{leb-true, eqb-true}
 use Rattle.json_grammar.specs.Grammar as G
 use Rattle.json_grammar.specs.Grammar.{Ws, Value, Elements, Members, Chars}
-use Rattle.json_grammar.specs.inner.Machine.{Class, just, digit, tail, tail-E0, tail-ED, tail-F0, tail-F4, Sym, value, first, rest, first_member, rest-member, key, colon, chars, escape, hex, natural, digits, frac, exp, signed, range, blanks, Alt, byte, behind, spaced, values, alts, nullable, weight, height, within, or_else, pick, took, empty, stuck, settled, settle}
+use Rattle.json_grammar.specs.inner.Machine.{Class, just, digit, tail, tail-E0, tail-ED, tail-F0, tail-F4, Sym, value, first, rest, first_member, rest-member, key, colon, chars, escape, hex, natural, digits, frac, exp, signed, range, blanks, Alt, behind, spaced, values, alts, nullable, weight, height, within, or_else, pick, took, empty, stuck, settled, settle}
 use Rattle.json_grammar.proofs.Frame.{height-append}
 use Rattle.json_grammar.proofs.Says.{Valued, valued, First, first-none, first_some, Rest, rest-none, rest_some, FirstMember, member-none, member-some, RestMember, members-none, members-some, Keyed, keyed, Says1, lower, avail, Says, done, then}
 

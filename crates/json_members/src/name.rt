@@ -140,7 +140,7 @@ pub fn behind(s: &[u8], at: usize, w: &[u8]) -> Rest
 
 // Whether the name behind a quotation mark is w.
 pub fn name_is(s: &[u8], at: usize, w: &[u8]) -> bool
-    ensures { result ≡ nameIs w.now (drop at s.now) }
+    ensures { result ≡ name_is w.now (drop at s.now) }
 {
     match behind(s, at, w) {
         Rest::From(i) => {

@@ -1,8 +1,8 @@
 -- Of finite values above zero: a quotient grows with its dividend, a sum with each part, and a narrowed value with the value.
 -- Assumes nothing.
-use Rattle.std.proofs.Common.{◌≡◌, ℕ, ◌+◌, ◌*◌, ◌<◌, ◌≤◌, Bool, true, false, cond, T, eqb, sym, refl, ap, ◌∙◌, subst, le_trans, le_of_eq, le_refl, mul-le-mul_right, mul_assoc, mul_comm, add-mul, mul-le-mul, mul-pos, mul_right_comm, mul_left_comm, arith, ltb→lt, ne_eqb}
+use Rattle.std.proofs.Common.{◌≡◌, ℕ, ◌+◌, ◌*◌, ◌<◌, ◌≤◌, true, false, T, sym, refl, ◌∙◌, subst, le_trans, le_of_eq, mul-le-mul_right, mul_assoc, mul_comm, add-mul, mul-pos, mul_left_comm, arith, ltb→lt, ne_eqb}
 use native.Mathlib.Nat.{mul-mul-mul_comm}
-use lib.Ieee.{Float, nan, inf, fin, Format, binary32, up, down, round, sum, add, div, le, unlike}
+use lib.Ieee.{Float, nan, inf, fin, Format, binary32, round, sum, add, div, le}
 use lib.Ieee.Fits.{up_pos}
 use lib.Ieee.Order.{round_mono}
 use lib.Ieee.Positive.{num, den, positive, den_pos, le→cross}

@@ -1,5 +1,5 @@
 -- A sign flipped goes through products, narrowing and the order. Assumes nothing.
-use Rattle.std.proofs.Common.{◌≡◌, ℕ, ◌+◌, ◌*◌, Bool, true, false, cond, not, eqb, ltb, sym, refl, ap, ◌∙◌, add_comm}
+use Rattle.std.proofs.Common.{◌≡◌, ℕ, ◌*◌, Bool, true, false, cond, not, eqb, ltb, sym, refl, ap, ◌∙◌, add_comm}
 use lib.Ieee.{Float, nan, inf, fin, Format, binary32, up, down, neg, round, mul, lt, below, unlike}
 use Rattle.number_floats.specs.Narrow.{narrow}
 use Rattle.number_floats.proofs.Bound.{neg-round}

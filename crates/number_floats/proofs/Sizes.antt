@@ -1,5 +1,5 @@
 -- `count` grows with the bits. Assumes nothing.
-use Rattle.std.proofs.Common.{◌≡◌, ℕ, zero, suc, ◌+◌, ◌-◌, ◌*◌, ◌/◌, ◌%◌, ◌^◌, ◌<◌, ◌≤◌, ◌⊎◌, sym, refl, ap, ◌∙◌, subst, ap₂, inl, inr, le_of_suc-le-suc, not-suc-le-zero, add-zero, lt_irrefl, mod-lt, eq-or-lt_of_le, mul-lt-mul_of_pos_right, mul-pos, pow-suc, div-add-mod', mul-one, not-le_of_lt, arith, pow_pos}
+use Rattle.std.proofs.Common.{◌≡◌, ℕ, zero, suc, ◌+◌, ◌-◌, ◌*◌, ◌/◌, ◌%◌, ◌^◌, ◌<◌, ◌≤◌, ◌⊎◌, sym, ap, ◌∙◌, subst, ap₂, inl, inr, le_of_suc-le-suc, not-suc-le-zero, add-zero, lt_irrefl, mod-lt, eq-or-lt_of_le, mul-lt-mul_of_pos_right, pow-suc, div-add-mod', mul-one, not-le_of_lt, arith, pow_pos}
 use lib.Arith.{digits_div, digits_mod}
 use Rattle.number_floats.proofs.Ways.{lt-or-ge}
 use Rattle.number_floats.specs.Size.{size_of, count}

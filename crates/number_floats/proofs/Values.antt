@@ -1,8 +1,8 @@
 -- The number that a pattern stands for is the one that `count` says, in units of the format's smallest; and the way back. Assumes nothing.
-use Rattle.std.proofs.Common.{◌≡◌, ℕ, zero, suc, ◌+◌, ◌-◌, ◌*◌, ◌/◌, ◌%◌, ◌^◌, ◌<◌, ◌≤◌, Bool, true, false, cond, T, eqb, leb, ◌⊎◌, ℤ, sym, refl, ap, ◌∙◌, subst, ap₂, inl, inr, lt_of_lt_of_le, le_of_suc-le-suc, lt_irrefl, mul_comm, div-lt_iff_lt-mul, eq-or-lt_of_le, mul-one, mul-div_cancel, arith, pow_pos, eq-eqb, ne_eqb, le-leb}
+use Rattle.std.proofs.Common.{◌≡◌, ℕ, zero, suc, ◌+◌, ◌-◌, ◌*◌, ◌/◌, ◌%◌, ◌^◌, ◌<◌, Bool, cond, T, eqb, leb, sym, refl, ap, ◌∙◌, subst, ap₂, inl, inr, lt_irrefl, div-lt_iff_lt-mul, eq-or-lt_of_le, mul-one, mul-div_cancel, arith, pow_pos, ne_eqb, le-leb}
 use native.Mathlib.Nat.{mod-mod_of_dvd, dvd-mul_right, eq_of_mul-eq-mul_right, div-eq_of_lt, mul-mod_left}
 use borrow.Author.Tests.{lt-leb}
-use lib.Arith.{digits_div, digits_mod}
+use lib.Arith.{digits_div}
 use lib.Ieee.{Float, nan, inf, fin, Format, prec, low, up, down, hid, ones, top, odd, of_fields, of_bits, to_bits, fits}
 use lib.Ieee.Fits.{down_pos}
 use lib.Ieee.Bits.{of_bits-to_bits}

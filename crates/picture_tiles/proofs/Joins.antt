@@ -135,16 +135,20 @@ module _ (s : PictureSettings) (rgb : List ℕ) (h w : ℕ) (q : Ready s) where
     joins-keep (i ∷ is) old m r z c hr hz hc e =
         joins-keep is (put_tile s h w i (b i) old) (length-puts old (row_place s w i) (own_row s w i (b i)) (own_height s h w i) ∙ m) r z c hr hz hc (put_keeps old m r z c i hr hz hc e)
 
-    -- a place whose tile is joined is right
-    pub joins-make : (is old : List ℕ) → length old ≡ h * w * 3 → (r z c : ℕ) → r < h → z < w → c < 3 → Has (tile_of s w r z) is → Right (put_tiles s h w b is old) r z c
+    -- a place whose tile is joined is right: the place first, which the tile's number depends on
+    make : (r z c : ℕ) → r < h → z < w → c < 3 → (is old : List ℕ) → length old ≡ h * w * 3 → Has (tile_of s w r z) is → Right (put_tiles s h w b is old) r z c
     unfolding put_tiles
-    joins-make (i ∷ is) old m r z c hr hz hc (here js) =
+    make r z c hr hz hc [] old m t = elim t [ ]
+    make r z c hr hz hc (i ∷ is) old m (here js) =
         let l = lies s h w r z q hr hz in
         let k = tile_of s w r z in
         joins-keep is (put_tile s h w k (b k) old) (length-puts old (row_place s w k) (own_row s w k (b k)) (own_height s h w k) ∙ m) r z c hr hz hc
         (rw (own k l.cut) (put-makes old m (r % tile_side s) (z % tile_side s) r z c k l hc))
-    joins-make (i ∷ is) old m r z c hr hz hc (there j js t) =
-        joins-make is (put_tile s h w i (b i) old) (length-puts old (row_place s w i) (own_row s w i (b i)) (own_height s h w i) ∙ m) r z c hr hz hc t
+    make r z c hr hz hc (i ∷ is) old m (there j js t) =
+        make r z c hr hz hc is (put_tile s h w i (b i) old) (length-puts old (row_place s w i) (own_row s w i (b i)) (own_height s h w i) ∙ m) t
+
+    pub joins-make : (is old : List ℕ) → length old ≡ h * w * 3 → (r z c : ℕ) → r < h → z < w → c < 3 → Has (tile_of s w r z) is → Right (put_tiles s h w b is old) r z c
+    joins-make is old m r z c hr hz hc = make r z c hr hz hc is old m
 
     -- the tiles of the sweep, joined in any order and however often, over anything: the sweep's own bytes
     pub joined : length rgb ≡ h * w * 3 → (is old : List ℕ) → length old ≡ h * w * 3 → ((i : ℕ) → i < tiles s h w → Has i is) → put_tiles s h w b is old ≡ rgb

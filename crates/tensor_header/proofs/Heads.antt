@@ -7,7 +7,7 @@ use native.Mathlib.Omega.{arith}
 use lib.Dec.{leb}
 use lib.ListN.{length}
 use borrow.Author.Tests.{le-leb, lt-leb}
-use Rattle.json_grammar.specs.Judge.{Stopped, Deepened, Judged}
+use Rattle.json_grammar.specs.Judge.{Judged}
 use Rattle.json_grammar.specs.inner.Steps.{place}
 use Rattle.json_grammar.specs.declared.scan.Read.{Read}
 use Rattle.json_grammar.specs.declared.scan.Read.TheVariants as R

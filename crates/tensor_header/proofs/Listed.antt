@@ -1,5 +1,5 @@
 -- Names behind a prefix, and at a place of the list of tensors. Assumes nothing.
-use mathlib.Core.Path.{◌≡◌, refl, sym, ap, ◌∙◌}
+use mathlib.Core.Path.{◌≡◌, refl, ap, ◌∙◌}
 use mathlib.Core.Bool.{Bool, true, false, cond}
 use mathlib.Core.List.{List, [], ◌∷◌, ◌++◌}
 use mathlib.Core.Option.{Option, none, some}
@@ -17,7 +17,7 @@ use Rattle.json_members.specs.inner.Bytes.{code_of, width_of, behind_at, followe
 use Rattle.json_members.proofs.Named.{name-parts}
 use Rattle.tensor_header.specs.Tensors.{Tensor, last_digits, decimal, in_layer, tensors_of, embedding_tensors, layer_tensors, projector_tensors, tensors}
 use Rattle.tensor_header.specs.Header.{header_length}
-use Rattle.tensor_header.specs.inner.Named.{names, named_at, embedding_names, part_names, projector_names, rest_is}
+use Rattle.tensor_header.specs.inner.Named.{names, named_at, embedding_names, part_names, projector_names}
 
 -- ---- layers have at most two digits
 

@@ -1,6 +1,6 @@
 -- What the walk found is what the text says. Assumes nothing.
-use mathlib.Core.Path.{◌≡◌, refl, sym, ap, subst, ◌∙◌}
-use mathlib.Core.Bool.{Bool, true, false, cond, ◌&&◌, false≢true}
+use mathlib.Core.Path.{◌≡◌, refl, sym, ap, ◌∙◌}
+use mathlib.Core.Bool.{Bool, true, false, ◌&&◌}
 use mathlib.Core.List.{List, [], ◌∷◌}
 use mathlib.Core.Option.{Option, none, some}
 use Prim.Native.Nat.{ℕ, zero, suc, ◌+◌, ◌-◌, ◌≤◌, ◌<◌}
@@ -9,7 +9,7 @@ use native.Mathlib.Omega.{arith}
 use lib.Dec.{eqb, ltb}
 use lib.ListN.{length, get_or, drop, length-drop}
 use lib.Seq.{drop-cons}
-use borrow.Author.Tests.{lt-ltb, eq-eqb, ne_eqb, eqb-true}
+use borrow.Author.Tests.{lt-ltb, ne_eqb, eqb-true}
 use Rattle.buffers.specs.Rows.{tab}
 use Rattle.buffers.proofs.Lists.{and_right, tab-self, tab-ext}
 use Rattle.json_grammar.specs.Grammar as G
@@ -19,7 +19,6 @@ use Rattle.json_members.specs.Names.{Entry, entries_of, lookup}
 use Rattle.json_members.specs.inner.Turns.{place_of, Finds}
 use Rattle.json_members.proofs.Finding.{ws-skip, value-solid, gets-object}
 use Rattle.encoder_settings.specs.declared.EncoderSettings.{EncoderSettings}
-use Rattle.picture_limits.specs.declared.Refusal.TheVariants.{Header}
 use Rattle.tensor_header.specs.Tensors.{Tensor, tensors, entry_at}
 use Rattle.tensor_header.specs.Header.{is_object, place_in, damaged, opened, placed}
 use Rattle.tensor_header.specs.declared.Opened.TheVariants.{Open}

@@ -1,14 +1,12 @@
 -- Every file is one of five cases, so any two answers that satisfy the contract of `open` are equal, and so are the places
 -- left; and what an opened file has. Assumes nothing.
 use mathlib.Core.Path.{◌≡◌, refl, sym, ap, subst, ◌∙◌}
-use mathlib.Core.Bool.{Bool, true, false, cond, ◌&&◌, false≢true}
+use mathlib.Core.Bool.{Bool, true, false, cond}
 use mathlib.Core.List.{List}
-use mathlib.Core.Option.{Option, none, some}
-use Prim.Native.Nat.{ℕ, ◌+◌, ◌-◌, ◌≤◌, ◌<◌}
-use native.Mathlib.Decide.{dec_lt}
+use Prim.Native.Nat.{ℕ, ◌-◌, ◌≤◌, ◌<◌}
 use native.Mathlib.Omega.{arith}
 use lib.Dec.{leb}
-use lib.ListN.{length, get_or, drop}
+use lib.ListN.{length, get_or}
 use borrow.Author.Tests.{leb-true}
 use Rattle.buffers.specs.Rows.{tab}
 use Rattle.buffers.proofs.Lists.{and_left, and_right, get_or-tab}
@@ -20,14 +18,14 @@ use Rattle.json_grammar.specs.inner.Steps.{located}
 use Rattle.json_grammar.specs.declared.scan.Read.{Read}
 use Rattle.json_grammar.specs.declared.scan.Read.TheVariants as R
 use Rattle.json_grammar.proofs.Verdict.{verdict}
-use Rattle.json_members.specs.Names.{Entry, entries_of, lookup}
-use Rattle.json_members.specs.inner.Turns.{place_of, Stands, nowhere}
+use Rattle.json_members.specs.Names.{entries_of}
+use Rattle.json_members.specs.inner.Turns.{place_of, Stands}
 use Rattle.json_members.proofs.Suffix.{ws-s, drop-suffix, found}
 use Rattle.picture_limits.specs.declared.Refusal.{Refusal}
 use Rattle.encoder_settings.specs.declared.EncoderSettings.{EncoderSettings}
 use Rattle.encoder_settings.specs.Settings.{allowed}
 use Rattle.tensor_header.specs.Tensors.{tensors, entry_at}
-use Rattle.tensor_header.specs.Header.{header_length, framed, header_of, is_object, place_in, damaged, opened, placed, Opening}
+use Rattle.tensor_header.specs.Header.{header_length, framed, header_of, is_object, place_in, damaged, opened, Opening}
 use Rattle.tensor_header.specs.inner.Named.{names, name_at}
 use Rattle.tensor_header.specs.declared.Opened.{Opened}
 use Rattle.tensor_header.specs.declared.Opened.TheVariants.{Open, Refused}

@@ -9,7 +9,6 @@ use Rattle.json_grammar.specs.Grammar as G
 use Rattle.json_grammar.specs.Grammar.{Value, Text, text}
 use Rattle.json_grammar.specs.Judge.{Stopped, Deepened}
 use Rattle.json_members.specs.Names.{Entry, entries_of}
-use Rattle.picture_limits.specs.declared.Refusal.{Refusal}
 use Rattle.picture_limits.specs.declared.Refusal.TheVariants.{Setting, Header}
 use Rattle.encoder_settings.specs.declared.EncoderSettings.{EncoderSettings}
 use Rattle.encoder_settings.specs.Settings.{allowed}

@@ -1,5 +1,5 @@
 -- The answer by the first tensors at which a test passes. Assumes nothing.
-use mathlib.Core.Path.{◌≡◌, refl, sym, ap, ◌∙◌}
+use mathlib.Core.Path.{◌≡◌, refl, ap, ◌∙◌}
 use mathlib.Core.Bool.{Bool, true, false, cond}
 use mathlib.Core.List.{List}
 use mathlib.Core.Option.{Option, none, some}
@@ -18,7 +18,6 @@ use Rattle.picture_limits.specs.declared.Refusal.{Refusal}
 use Rattle.picture_limits.specs.declared.Refusal.TheVariants.{Output, Header, Tensor, Offsets}
 use Rattle.tensor_header.specs.Tensors.{tensors, entry_at, count_at}
 use Rattle.tensor_header.specs.Header.{place_in}
-use Rattle.tensor_header.proofs.Told.{place_is}
 use Rattle.weights.specs.File.{found_in, firstly, place_of, at, judged}
 use Rattle.weights.specs.inner.Described.{failing, refused_at, Holds}
 use Rattle.weights.specs.inner.Filled.{AllGood}

@@ -1,13 +1,12 @@
 -- What is read at the place of an entry is what the entry says. Assumes nothing.
 use mathlib.Core.Path.{◌≡◌, refl, sym, ap, subst, ◌∙◌}
-use mathlib.Core.Bool.{Bool, true, false, cond, false≢true}
+use mathlib.Core.Bool.{true, cond}
 use mathlib.Core.List.{List, [], ◌∷◌}
 use mathlib.Core.Option.{Option, none, some}
 use Prim.Native.Nat.{ℕ, suc, ◌+◌, ◌≤◌, ◌<◌}
 use native.Mathlib.Numerals.{add-one}
 use native.Mathlib.Omega.{arith}
-use lib.Dec.{eqb}
-use lib.ListN.{length, get_or, drop, length-drop, drop_of_length-le}
+use lib.ListN.{length, get_or, drop, length-drop}
 use lib.Seq.{drop-cons}
 use borrow.Author.Tests.{ne_eqb}
 use Rattle.json_grammar.specs.Grammar as G
@@ -28,7 +27,7 @@ use Rattle.tensor_values.specs.declared.Kind.TheVariants.{F32, BF16, F16}
 use Rattle.weights.specs.File.{string_of, string_in, sizes_in, described_by, found_by, found_in, kind_of}
 use Rattle.weights.specs.inner.Described.{dtype_by, dtype_of, Dtyped, Sized, by_kind, made_of, summary_by, summary, Describes}
 use Rattle.weights.specs.declared.entry.Dtype.{Dtype}
-use Rattle.weights.specs.declared.entry.Dtype.TheVariants.{Is, Other, Absent}
+use Rattle.weights.specs.declared.entry.Dtype.TheVariants.{Absent}
 use Rattle.weights.specs.declared.entry.Described.{Described}
 use Rattle.weights.specs.declared.entry.Described.TheVariants as D
 

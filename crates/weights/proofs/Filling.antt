@@ -1,19 +1,19 @@
 -- Tensors written one behind the other. Assumes nothing.
-use mathlib.Core.Path.{◌≡◌, refl, sym, ap, subst, ◌∙◌}
-use mathlib.Core.Bool.{Bool, true, false, cond, not, ◌&&◌, false≢true}
-use mathlib.Core.List.{List, [], ◌∷◌, ◌++◌, append-nil}
+use mathlib.Core.Path.{◌≡◌, refl, sym, ap, ◌∙◌}
+use mathlib.Core.Bool.{true, false, ◌&&◌, false≢true}
+use mathlib.Core.List.{List, ◌++◌, append-nil}
 use mathlib.Core.Option.{Option, none, some}
 use Prim.Native.Nat.{ℕ, zero, suc, ◌+◌, ◌-◌, ◌*◌, ◌/◌, ◌≤◌, ◌<◌}
 use native.Mathlib.Numerals.{add-one}
 use native.Mathlib.Nat.{zero-add}
 use native.Mathlib.Omega.{arith}
-use lib.Dec.{eqb, leb, ltb}
-use lib.ListN.{length, get_or, take, drop, length-append, drop_of_length-le}
+use lib.Dec.{eqb, leb}
+use lib.ListN.{length, take, drop, length-append, drop_of_length-le}
 use lib.Seq.{drop-drop}
 use borrow.Author.Tests.{le-leb, leb-true, eqb-true, not-false}
-use Rattle.buffers.specs.Rows.{rows, first}
+use Rattle.buffers.specs.Rows.{rows}
 use Rattle.buffers.specs.Region.{region, put, over, copied}
-use Rattle.buffers.proofs.Lists.{and_left, and_right, first-none, first_passes}
+use Rattle.buffers.proofs.Lists.{and_left, and_right}
 use Rattle.buffers.proofs.Regions.{put-append, put-split, put-over, length-region}
 use Rattle.json_members.specs.Names.{Entry}
 use Rattle.json_lists.specs.Lists.{product, held}
@@ -23,11 +23,11 @@ use Rattle.tensor_values.specs.declared.Kind.{Kind}
 use Rattle.tensor_values.specs.declared.Kind.TheVariants.{F32, BF16, F16}
 use Rattle.tensor_values.specs.Values.{size_of, values_of}
 use Rattle.tensor_values.proofs.Laws.{length-values}
-use Rattle.tensor_header.specs.Tensors.{Tensor, tensors, entry_at, count_at}
+use Rattle.tensor_header.specs.Tensors.{tensors, entry_at, count_at}
 use Rattle.weights.specs.File.{Found, missing, damaged, described, found_in, kind_of, other_count, misplaced_by, floats_in, weights_in}
-use Rattle.weights.specs.inner.Described.{summary_by, summary}
+use Rattle.weights.specs.inner.Described.{summary}
 use Rattle.weights.specs.inner.Sums.{sum_to}
-use Rattle.weights.specs.inner.Filled.{PutsOne, Good, Fills, AllGood}
+use Rattle.weights.specs.inner.Filled.{PutsOne, Good, AllGood}
 use Rattle.weights.proofs.Sums.{sum_is}
 use Rattle.weights.specs.declared.entry.Described.{Described}
 use Rattle.weights.specs.declared.entry.Described.TheVariants as D

@@ -3,7 +3,7 @@ use mathlib.Core.Path.{◌≡◌, refl, sym, ap, ◌∙◌}
 use mathlib.Core.Bool.{Bool, true, false, not}
 use mathlib.Core.List.{List}
 use mathlib.Core.Option.{Option, none, some}
-use Prim.Native.Nat.{ℕ, ◌^◌, ◌≤◌, ◌<◌}
+use Prim.Native.Nat.{ℕ, ◌^◌, ◌<◌}
 use native.Mathlib.Decide.{dec_lt}
 use native.Mathlib.Omega.{arith}
 use lib.Dec.{eqb}
@@ -16,7 +16,7 @@ use Rattle.encoder_settings.specs.declared.EncoderSettings.{EncoderSettings}
 use Rattle.encoder_settings.specs.Settings.{allowed}
 use Rattle.tensor_values.specs.declared.Kind.{Kind}
 use Rattle.tensor_header.specs.Tensors.{tensors, entry_at, count_at}
-use Rattle.weights.specs.File.{Found, missing, damaged, described, found_in, kind_of, other_count, is_damaged, is_misplaced, misplaced_by}
+use Rattle.weights.specs.File.{Found, missing, damaged, described, found_in, kind_of, other_count, misplaced_by}
 use Rattle.weights.specs.inner.Described.{summary_by, summary, Describes, fails_damaged, fails_other, fails_misplaced, fails, failing, Holds}
 use Rattle.weights.specs.declared.test.Test.{Test}
 use Rattle.weights.specs.declared.test.Test.TheVariants as T

@@ -1,22 +1,21 @@
 -- The answer for a file by what the header's reader says. Assumes nothing.
 use mathlib.Core.Path.{◌≡◌, refl, sym, ap, subst, ◌∙◌}
-use mathlib.Core.Bool.{Bool, true, false, cond, false≢true}
+use mathlib.Core.Bool.{Bool, true, false, cond}
 use mathlib.Core.List.{List}
-use Prim.Native.Nat.{ℕ, ◌+◌, ◌-◌, ◌≤◌, ◌<◌}
+use Prim.Native.Nat.{ℕ, ◌+◌, ◌-◌, ◌≤◌}
 use native.Mathlib.Omega.{arith}
-use lib.ListN.{length, get_or}
+use lib.ListN.{length}
 use Rattle.buffers.specs.Rows.{tab}
 use Rattle.json_grammar.specs.Grammar.{Ws, Value, Text, text}
 use Rattle.json_members.specs.Names.{entries_of}
 use Rattle.picture_limits.specs.declared.Refusal.{Refusal}
 use Rattle.picture_limits.specs.declared.Refusal.TheVariants.{Header}
 use Rattle.encoder_settings.specs.declared.EncoderSettings.{EncoderSettings}
-use Rattle.encoder_settings.specs.Settings.{allowed}
 use Rattle.tensor_header.specs.Tensors.{tensors, entry_at}
-use Rattle.tensor_header.specs.Header.{framed, header_of, data_of, is_object, place_in, damaged, opened, placed, Opening}
+use Rattle.tensor_header.specs.Header.{header_of, data_of, is_object, place_in, damaged, opened, placed, Opening}
 use Rattle.tensor_header.specs.declared.Opened.{Opened}
 use Rattle.tensor_header.specs.declared.Opened.TheVariants as O
-use Rattle.tensor_header.proofs.Unique.{open-not, one_of, entries-stand, entries-placed}
+use Rattle.tensor_header.proofs.Unique.{open-not, entries-stand, entries-placed}
 use Rattle.weights.specs.File.{answered, left_by, left, Weighing}
 use Rattle.weights.specs.inner.Described.{Holds}
 use Rattle.weights.specs.inner.Filled.{Reads}

@@ -2,7 +2,6 @@
 -- and the floats. Assumes nothing.
 use Rattle.std.specs.Prelude.{◌≡◌, Bool, true, false, cond, not, ◌&&◌, List, [], ◌∷◌, ℕ, suc, ◌+◌, ◌-◌, ◌*◌, eqb, leb, ltb, length}
 use Rattle.std.proofs.Math.Option.{Option, none, some}
-use Prim.Native.String.{String}
 use Rattle.buffers.specs.Rows.{rows, first}
 use Rattle.buffers.specs.Region.{region, over}
 use Rattle.json_grammar.specs.Grammar as G

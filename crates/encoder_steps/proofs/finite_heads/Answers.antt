@@ -31,8 +31,8 @@ returns c =
     let past : let a = c.args in length c.args.s.now < c.args.y + c.args.heads * (c.args.half + c.args.half) = let a = c.args in
     let e = twice c.args.heads c.args.half in
     elim c.if-rows_inside.branch-raw [
-      | inl p ↦ let h = leb-false (c.args.y + 2 * (c.args.heads * c.args.half)) (length c.args.s.now) (sym p.1.ensures ∙ p.2.false) in omega arith
-      | inr p ↦ let h = leb-false (c.args.y + c.args.heads * c.args.half) (length c.args.s.now) (sym c.rows_inside.ensures ∙ p.false) in omega arith
+      | inl p ↦ let h = leb-false (c.args.y + 2 * (c.args.heads * c.args.half)) (length c.args.s.now) (sym p.rows_inside-then-rows_inside.ensures ∙ p.if-rows_inside-2.false) in omega arith
+      | inr p ↦ let h = leb-false (c.args.y + c.args.heads * c.args.half) (length c.args.s.now) (sym c.rows_inside.ensures ∙ p.if-rows_inside.false) in omega arith
     ] in
     let a = c.args in
     ap (λ b. eqb c.args.n 0 && b) c.finite_at.ensures ∙ no_row c.args.s.now c.args.y c.args.n (c.args.heads * (c.args.half + c.args.half)) (past)

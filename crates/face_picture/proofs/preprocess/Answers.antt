@@ -14,8 +14,7 @@ returns-in-Patches c =
     (preprocessed s (length c.args.rgb.now) c.args.height c.args.width (length old) ≡ c.pixtral_preprocess-found.result)
     × (c.pixtral_preprocess-found.new.out ≡ patches_left (preprocessed s (length c.args.rgb.now) c.args.height c.args.width (length old)) (patches_of s c.args.rgb.now c.args.height c.args.width) old) = let a = c.args in
     let old = c.args.out.now in
-    let e = c.settings.ensures in
-    (
+    let e = c.settings.ensures in (
       sym (c.pixtral_preprocess-found.ensures.answer ∙ ap (λ (s : PictureSettings). preprocessed s (length c.args.rgb.now) c.args.height c.args.width (length old)) e),
       c.pixtral_preprocess-found.ensures.output ∙ ap (λ (s : PictureSettings). patches_left (preprocessed s (length c.args.rgb.now) c.args.height c.args.width (length old)) (patches_of s c.args.rgb.now c.args.height c.args.width) old) e,
     ) in record {
@@ -29,8 +28,7 @@ returns-in-Refused c =
     (preprocessed s (length c.args.rgb.now) c.args.height c.args.width (length old) ≡ c.pixtral_preprocess-found.result)
     × (c.pixtral_preprocess-found.new.out ≡ patches_left (preprocessed s (length c.args.rgb.now) c.args.height c.args.width (length old)) (patches_of s c.args.rgb.now c.args.height c.args.width) old) = let a = c.args in
     let old = c.args.out.now in
-    let e = c.settings.ensures in
-    (
+    let e = c.settings.ensures in (
       sym (c.pixtral_preprocess-found.ensures.answer ∙ ap (λ (s : PictureSettings). preprocessed s (length c.args.rgb.now) c.args.height c.args.width (length old)) e),
       c.pixtral_preprocess-found.ensures.output ∙ ap (λ (s : PictureSettings). patches_left (preprocessed s (length c.args.rgb.now) c.args.height c.args.width (length old)) (patches_of s c.args.rgb.now c.args.height c.args.width) old) e,
     ) in

@@ -14,8 +14,7 @@ returns-in-Picture c =
     (restored s c.args.patches.now c.args.grid_h c.args.grid_w (length old) ≡ c.restore-found.result)
     × (c.restore-found.new.out ≡ bytes_left (restored s c.args.patches.now c.args.grid_h c.args.grid_w (length old)) (bytes_of s c.args.patches.now c.args.grid_h c.args.grid_w) old) = let a = c.args in
     let old = c.args.out.now in
-    let e = c.settings.ensures in
-    (
+    let e = c.settings.ensures in (
       sym (c.restore-found.ensures.answer ∙ ap (λ (s : PictureSettings). restored s c.args.patches.now c.args.grid_h c.args.grid_w (length old)) e),
       c.restore-found.ensures.output ∙ ap (λ (s : PictureSettings). bytes_left (restored s c.args.patches.now c.args.grid_h c.args.grid_w (length old)) (bytes_of s c.args.patches.now c.args.grid_h c.args.grid_w) old) e,
     ) in record {
@@ -29,8 +28,7 @@ returns-in-Refused c =
     (restored s c.args.patches.now c.args.grid_h c.args.grid_w (length old) ≡ c.restore-found.result)
     × (c.restore-found.new.out ≡ bytes_left (restored s c.args.patches.now c.args.grid_h c.args.grid_w (length old)) (bytes_of s c.args.patches.now c.args.grid_h c.args.grid_w) old) = let a = c.args in
     let old = c.args.out.now in
-    let e = c.settings.ensures in
-    (
+    let e = c.settings.ensures in (
       sym (c.restore-found.ensures.answer ∙ ap (λ (s : PictureSettings). restored s c.args.patches.now c.args.grid_h c.args.grid_w (length old)) e),
       c.restore-found.ensures.output ∙ ap (λ (s : PictureSettings). bytes_left (restored s c.args.patches.now c.args.grid_h c.args.grid_w (length old)) (bytes_of s c.args.patches.now c.args.grid_h c.args.grid_w) old) e,
     ) in

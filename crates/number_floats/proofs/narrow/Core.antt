@@ -1,6 +1,5 @@
 -- A whole number m times 2 ^ j, rounded to the 24 digits of an f32: the bits that `closest` gives are the nearest. Assumes nothing.
-use Rattle.std.proofs.Common.{◌≡◌, ℕ, zero, suc, ◌+◌, ◌-◌, ◌*◌, ◌/◌, ◌%◌, ◌^◌, ◌<◌, ◌≤◌, ◌⊎◌, sym, refl, ap, ◌∙◌, subst, inl, inr, le_trans, le_of_eq, lt_of_lt_of_le, le_of_suc-le-suc, le_of_lt, lt_irrefl, mul-le-mul_right, mod-lt, mul_assoc, eq-or-lt_of_le, mul-lt-mul_of_pos_right, div-add-mod', arith, lit<, pow_pos, pow-add}
-use Prim.Native.Nat.{compare}
+use Rattle.std.proofs.Common.{◌≡◌, ℕ, zero, suc, ◌+◌, ◌*◌, ◌/◌, ◌%◌, ◌^◌, ◌<◌, ◌≤◌, ◌⊎◌, sym, refl, ap, ◌∙◌, subst, inl, inr, le_trans, le_of_eq, lt_of_lt_of_le, le_of_suc-le-suc, le_of_lt, lt_irrefl, mul-le-mul_right, mod-lt, mul_assoc, eq-or-lt_of_le, mul-lt-mul_of_pos_right, div-add-mod', arith, lit<, pow_pos, pow-add}
 use lib.Ieee.{nearest}
 use lib.Ieee.Nearest.{closest}
 use Rattle.number_floats.specs.Size.{count, Nearest}

@@ -1,5 +1,5 @@
 -- Which of the sizes of a growing f is nearest to v, from the two that v lies between. Assumes nothing.
-use Rattle.std.proofs.Common.{◌≡◌, ℕ, zero, suc, ◌+◌, ◌-◌, ◌*◌, ◌%◌, ◌<◌, ◌≤◌, ◌⊎◌, sym, refl, ap, ◌∙◌, subst, inl, inr, le_of_eq, le_refl, le_of_lt, eq-or-lt_of_le, arith}
+use Rattle.std.proofs.Common.{◌≡◌, ℕ, suc, ◌+◌, ◌*◌, ◌%◌, ◌<◌, ◌≤◌, sym, ap, inl, inr, le_of_eq, le_refl, le_of_lt, eq-or-lt_of_le, arith}
 use Rattle.number_floats.proofs.Ways.{lt-or-ge}
 use Rattle.number_floats.specs.Size.{gap, Nearest}
 

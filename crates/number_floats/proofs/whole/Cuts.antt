@@ -1,5 +1,5 @@
 -- What `truncating_f64_to_u64` asks, and what it gives of a small number; and which side of zero a number is on. Assumes nothing.
-use Rattle.std.proofs.Common.{◌≡◌, ℕ, ◌+◌, ◌*◌, ◌/◌, ◌^◌, ◌<◌, ◌≤◌, true, false, T, ℤ, pos, sym, ap, ◌∙◌, le_of_suc-le-suc, div-lt_iff_lt-mul, mul-lt-mul_of_pos_right, arith, lt→ltb, ltb-false, ltb-true}
+use Rattle.std.proofs.Common.{◌≡◌, ℕ, ◌+◌, ◌*◌, ◌/◌, ◌^◌, ◌<◌, ◌≤◌, true, false, T, ℤ, pos, le_of_suc-le-suc, div-lt_iff_lt-mul, mul-lt-mul_of_pos_right, arith, lt→ltb, ltb-false, ltb-true}
 use lib.Ieee.{Float, fin, binary64, up, down, lt, of_bits, to_unsigned}
 use lib.Ieee.Fits.{down_pos}
 

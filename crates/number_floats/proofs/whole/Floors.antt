@@ -1,12 +1,12 @@
 -- What each way through `floor` gives. Assumes nothing.
-use Rattle.std.proofs.Common.{◌≡◌, ℕ, zero, suc, ◌+◌, ◌-◌, ◌*◌, ◌/◌, ◌%◌, ◌^◌, ◌<◌, ◌≤◌, min, Bool, true, false, not, ◌&&◌, T, eqb, ltb, leb, ℤ, pos, negsuc, sym, refl, ap, ◌∙◌, subst, ap₂, true≢false, le_trans, le_of_eq, lt_of_lt_of_le, le_of_suc-le-suc, add-zero, le_of_lt, lt_irrefl, mod-lt, zero-lt-suc, mul_assoc, mul_comm, div-lt_iff_lt-mul, lt_of_mul-lt-mul_right, mul-le-mul_left, mul-lt-mul_of_pos_right, div-add-mod', zero-mul, mul-one, mul_right_comm, not-le_of_lt, le_of_mul-le-mul_right, div-one, add-one, arith, lit<, lit≤, ltb→lt, pow_mono, pow-add, shl_lt, ltb-false, ltb-true}
+use Rattle.std.proofs.Common.{◌≡◌, ℕ, zero, suc, ◌+◌, ◌-◌, ◌*◌, ◌/◌, ◌%◌, ◌^◌, ◌<◌, ◌≤◌, Bool, true, false, ◌&&◌, T, eqb, ltb, leb, ℤ, pos, negsuc, sym, refl, ap, ◌∙◌, subst, true≢false, le_trans, le_of_eq, lt_of_lt_of_le, add-zero, le_of_lt, mod-lt, zero-lt-suc, mul_assoc, div-lt_iff_lt-mul, lt_of_mul-lt-mul_right, div-add-mod', zero-mul, mul-one, mul_right_comm, le_of_mul-le-mul_right, div-one, arith, lit<, lit≤, ltb→lt, pow_mono, pow-add, shl_lt, ltb-false, ltb-true}
 use native.Mathlib.Nat.{div-eq_of_lt, min-eq_left}
 use lib.Arith.{digits_div}
-use lib.Ieee.{Float, nan, inf, fin, binary64, prec, emax, low, up, down, neg, lt, round, of_int, of_bits, to_unsigned, fits}
-use lib.Ieee.Fits.{round-fits, down_pos, up_pos, and_l, and_r}
+use lib.Ieee.{Float, nan, inf, fin, binary64, up, down, neg, lt, round, of_int, of_bits, to_unsigned, fits}
+use lib.Ieee.Fits.{round-fits, down_pos, and_l, and_r}
 use lib.Ieee.Exact.{HasValue, round_exact}
 use lib.Ieee.Back.{round_whole, whole_unique}
-use Rattle.number_floats.specs.Whole.{floor_size, floor}
+use Rattle.number_floats.specs.Whole.{floor}
 use Rattle.number_floats.proofs.Bound.{neg-round}
 use Rattle.number_floats.proofs.whole.Cuts.{Zero, Cuttable, cuttable, below-zero, not-below}
 

@@ -1,5 +1,5 @@
 -- What each way through `away_size` and `round64` gives. Assumes nothing.
-use Rattle.std.proofs.Common.{◌≡◌, ℕ, zero, suc, ◌+◌, ◌-◌, ◌*◌, ◌/◌, ◌%◌, ◌^◌, ◌<◌, ◌≤◌, Bool, true, false, not, T, ℤ, pos, negsuc, sym, refl, ap, ◌∙◌, subst, ap₂, true≢false, le_of_eq, lt_of_lt_of_le, le_of_lt, mul-le-mul_right, mod-lt, lt_of_mul-lt-mul_right, mul-lt-mul_of_pos_right, mul-pos, div-add-mod', zero-mul, mul-one, mul_right_comm, le_of_mul-le-mul_right, arith, lit<, lit≤, shl_lt, ltb-false, ltb-true}
+use Rattle.std.proofs.Common.{◌≡◌, ℕ, ◌+◌, ◌-◌, ◌*◌, ◌/◌, ◌%◌, ◌^◌, ◌<◌, ◌≤◌, Bool, true, false, T, ℤ, pos, sym, refl, ap, ◌∙◌, subst, ap₂, true≢false, lt_of_lt_of_le, le_of_lt, mod-lt, lt_of_mul-lt-mul_right, mul-pos, div-add-mod', zero-mul, mul-one, le_of_mul-le-mul_right, arith, lit<, lit≤, shl_lt, ltb-false, ltb-true}
 use native.Mathlib.Nat.{div-eq_of_lt, eq_of_mul-eq-mul_right}
 use lib.Arith.{digits_div}
 use lib.Ieee.{Float, nan, inf, fin, binary64, up, down, neg, lt, mul, round, of_int, of_bits, to_unsigned, fits}

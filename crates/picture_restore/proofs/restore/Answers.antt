@@ -14,16 +14,16 @@ use Rattle.picture_samples.specs.Samples.{channels_allowed, value_of}
 use Rattle.picture_samples.proofs.Channels.{allowed_of}
 use Rattle.picture_restore.specs.Restore.{restored}
 use Rattle.picture_restore.proofs.Ladder.{agrees}
-use Rattle.picture_restore.proofs.Numbers.{settled}
+use Rattle.picture_restore.proofs.Numbers.{numbered}
 use Rattle.picture_restore.proofs.restore.Goals as goal
 
 pub returns-then-not-settings_allowed : goal.returns-then-not-settings_allowed
 returns-then-not-settings_allowed c =
     let b = sym c.settings_allowed.ensures ∙ not-true _ c.if-not-settings_allowed.true-raw in
     let e : restored c.args.s c.args.patches.now c.args.grid_h c.args.grid_w (length c.args.out.now) ≡ Refused Setting = agrees c.args.s c.args.patches.now c.args.grid_h c.args.grid_w (length c.args.out.now) ∙ rw b refl in record {
-      answer = (settled c.args.s c.args.patches.now c.args.grid_h c.args.grid_w (length c.args.out.now) (sym e) (rw e)).0;
-      output = (settled c.args.s c.args.patches.now c.args.grid_h c.args.grid_w (length c.args.out.now) (sym e) (rw e)).1.0;
-      numbers = (settled c.args.s c.args.patches.now c.args.grid_h c.args.grid_w (length c.args.out.now) (sym e) (rw e)).1.1;
+      answer = sym e;
+      output = rw e;
+      numbers = numbered c.args.s c.args.patches.now c.args.grid_h c.args.grid_w (length c.args.out.now) _ (sym e);
     }
 
 pub returns-then-not-channels_allowed : goal.returns-then-not-channels_allowed
@@ -33,9 +33,9 @@ returns-then-not-channels_allowed c =
     let b = settings in
     let d = sym (channels) ∙ not-true _ c.if-not-channels_allowed.true-raw in
     let e : restored c.args.s c.args.patches.now c.args.grid_h c.args.grid_w (length c.args.out.now) ≡ Refused Channel = agrees c.args.s c.args.patches.now c.args.grid_h c.args.grid_w (length c.args.out.now) ∙ rw (b, d) refl in record {
-      answer = (settled c.args.s c.args.patches.now c.args.grid_h c.args.grid_w (length c.args.out.now) (sym e) (rw e)).0;
-      output = (settled c.args.s c.args.patches.now c.args.grid_h c.args.grid_w (length c.args.out.now) (sym e) (rw e)).1.0;
-      numbers = (settled c.args.s c.args.patches.now c.args.grid_h c.args.grid_w (length c.args.out.now) (sym e) (rw e)).1.1;
+      answer = sym e;
+      output = rw e;
+      numbers = numbered c.args.s c.args.patches.now c.args.grid_h c.args.grid_w (length c.args.out.now) _ (sym e);
     }
 
 pub restore_shaped-requires : goal.restore_shaped-requires
@@ -54,9 +54,9 @@ returns-in-Unshaped c =
     let d = sym (channels) ∙ not-false _ c.if-not-channels_allowed.false-raw in
     let r : shaped c.args.s c.args.grid_h c.args.grid_w (length c.args.patches.now) ≡ Unshaped c.in-Unshaped.r = sym c.shape-found.ensures ∙ c.in-Unshaped.is in
     let e : restored c.args.s c.args.patches.now c.args.grid_h c.args.grid_w (length c.args.out.now) ≡ Refused c.in-Unshaped.r = agrees c.args.s c.args.patches.now c.args.grid_h c.args.grid_w (length c.args.out.now) ∙ rw (b, d, r) refl in record {
-      answer = (settled c.args.s c.args.patches.now c.args.grid_h c.args.grid_w (length c.args.out.now) (sym e) (rw e)).0;
-      output = (settled c.args.s c.args.patches.now c.args.grid_h c.args.grid_w (length c.args.out.now) (sym e) (rw e)).1.0;
-      numbers = (settled c.args.s c.args.patches.now c.args.grid_h c.args.grid_w (length c.args.out.now) (sym e) (rw e)).1.1;
+      answer = sym e;
+      output = rw e;
+      numbers = numbered c.args.s c.args.patches.now c.args.grid_h c.args.grid_w (length c.args.out.now) _ (sym e);
     }
 
 pub shape_of-out : goal.shape_of-out
@@ -64,7 +64,7 @@ shape_of-out c = c.restore_shaped.auto.out
 
 pub returns-in-Shaped : goal.returns-in-Shaped
 returns-in-Shaped c = record {
-      answer = (settled c.args.s c.args.patches.now c.args.grid_h c.args.grid_w (length c.args.out.now) c.restore_shaped.ensures.answer c.restore_shaped.ensures.output).0;
-      output = (settled c.args.s c.args.patches.now c.args.grid_h c.args.grid_w (length c.args.out.now) c.restore_shaped.ensures.answer c.restore_shaped.ensures.output).1.0;
-      numbers = (settled c.args.s c.args.patches.now c.args.grid_h c.args.grid_w (length c.args.out.now) c.restore_shaped.ensures.answer c.restore_shaped.ensures.output).1.1;
-    }
+  answer = c.restore_shaped.ensures.answer;
+  output = c.restore_shaped.ensures.output;
+  numbers = numbered c.args.s c.args.patches.now c.args.grid_h c.args.grid_w (length c.args.out.now) _ c.restore_shaped.ensures.answer;
+}

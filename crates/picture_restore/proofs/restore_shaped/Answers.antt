@@ -61,7 +61,7 @@ returns-then-not-restore_view c =
     (unless (known (pattern_of c.args.s) p c.args.patches.now) (Refused Sample) (Picture (c.args.grid_h * p) (c.args.grid_w * p))) = let a = c.args in
     let s = c.args.s in
     agreed s c.args.patches.now c.args.grid_h c.args.grid_w (length c.args.out.now) (c.args.grid_h * c.args.grid_w) c.requires.patches_value
-    (sym (allowed_of c.mean c.deviation c.args.t.now c.requires.t_value.0) ∙ c.requires.t_value.1) in
+    (sym (allowed_of c.args.s.mean c.args.s.deviation c.args.t.now c.requires.t_value.0) ∙ c.requires.t_value.1) in
     let same : Same (entry c.args.t.now) (pattern_of c.args.s) = let a = c.args in entry-of c.args.s.mean c.args.s.deviation c.args.t.now c.requires.t_value.0 in
     let answer : let a = c.args in c.restore_view.result ≡ known (pattern_of c.args.s) c.args.s.patch_size c.args.patches.now = let s = c.before.before.before.before.before.before.before.before in
     let a = c.args in
@@ -85,7 +85,7 @@ returns c =
     (unless (known (pattern_of c.args.s) p c.args.patches.now) (Refused Sample) (Picture (c.args.grid_h * p) (c.args.grid_w * p))) = let a = c.args in
     let s = c.args.s in
     agreed s c.args.patches.now c.args.grid_h c.args.grid_w (length c.args.out.now) (c.args.grid_h * c.args.grid_w) c.requires.patches_value
-    (sym (allowed_of c.mean c.deviation c.args.t.now c.requires.t_value.0) ∙ c.requires.t_value.1) in
+    (sym (allowed_of c.args.s.mean c.args.s.deviation c.args.t.now c.requires.t_value.0) ∙ c.requires.t_value.1) in
     let same : Same (entry c.args.t.now) (pattern_of c.args.s) = let a = c.args in entry-of c.args.s.mean c.args.s.deviation c.args.t.now c.requires.t_value.0 in
     let answer : let a = c.args in c.restore_view.result ≡ known (pattern_of c.args.s) c.args.s.patch_size c.args.patches.now = let s = c.before.before.before.before.before.before.before.before in
     let a = c.args in

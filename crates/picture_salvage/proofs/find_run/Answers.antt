@@ -41,8 +41,7 @@ bounds-found-k c = omega (arith, c.loop-k.invariant.1, c.requires.2)
 pub loop-k-preserved : goal.loop-k-preserved
 loop-k-preserved c =
     let told : let a = c.args in c.byte_of.result ≡ byte_of (entry c.args.t.now) c.args.c (get_or c.args.bits.now (c.args.at + c.loop-k.k) 0) = let a = c.args in c.byte_of.ensures ∙ tried-byte c.args.t.now (spotted c.args.w (entry c.args.t.now)) c.requires.3 c.args.c c.requires.0 _ in
-    let a = c.args in
-    (
+    let a = c.args in (
       omega arith,
       simp length-set c.loop-k.invariant.1,
       tab-step-0 c.args.found.now c.loop-k.found c.loop-k.k (λ i. byte_of (entry c.args.t.now) c.args.c (get_or c.args.bits.now (c.args.at + i) 0)) _ c.loop-k.invariant.2 (told),

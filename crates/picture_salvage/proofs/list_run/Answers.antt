@@ -63,8 +63,8 @@ loop-k-preserved c =
     → (c.if-found-k-ge256.e ≡ c.args.o + count (c.loop-k.k + 1) f * 3) × (c.if-found-k-ge256.list ≡ put c.args.list.now c.args.o (entries_by f c.args.bits.now c.args.at c.args.q c.args.d (c.loop-k.k + 1)))
     = λ b h x y. list-step f c.args.bits.now c.args.at c.args.q c.args.d c.args.list.now c.loop-k.list c.if-found-k-ge256.list c.args.o c.loop-k.e c.if-found-k-ge256.e c.loop-k.k b h c.loop-k.invariant.1 c.loop-k.invariant.3 x y in
     ⊎_elim
-    (λ w. step true (le-leb 256 _ w.0.true) w.7 (w.6 ∙ w.3.ensures))
-    (λ w. step false (lt-leb 256 _ w.0.false) (w.2 ∙ sym (add-zero c.loop-k.e)) (w.1 ∙ sym (put-nil c.loop-k.list c.loop-k.e)))
+    (λ w. step true (le-leb 256 _ w.if-found-k-ge256.true) w.e-is (w.list-is ∙ w.list_one.ensures))
+    (λ w. step false (lt-leb 256 _ w.if-found-k-ge256.false) (w.e-is ∙ sym (add-zero c.loop-k.e)) (w.list-is ∙ sym (put-nil c.loop-k.list c.loop-k.e)))
     c.if-found-k-ge256.branch-raw in
     let a = c.args in
     let z = wrote in

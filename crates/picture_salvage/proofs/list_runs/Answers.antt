@@ -29,7 +29,15 @@ unfolding bad_run put rows
 loop-r-init c = (omega arith, omega arith, refl, refl, simp length-replicate)
 
 pub overflow_mul-r : goal.overflow_mul-r
-overflow_mul-r c = let z = sizes c in omega (arith, z.inside, c.well_formed)
+overflow_mul-r c =
+    let sizes : let a = c.args in Sizes c.args.p c.loop-r.r (length c.args.bits.now) = let a = c.args in
+    let h : c.loop-r.r % 3 < 3 = omega arith in
+    record {
+      small = square c.args.p c.requires.0;
+      inside = omega (arith, fit (c.args.p * c.args.p) c.loop-r-test.true, c.requires.2);
+      place = fit (c.args.p * c.args.p) h;
+    } in
+    omega (arith, sizes.inside, c.well_formed)
 
 pub slice_bounds-find_run-end : goal.slice_bounds-find_run-end
 slice_bounds-find_run-end c = sym c.loop-r.invariant.4
@@ -138,8 +146,7 @@ loop-r-preserved c =
     let l = c.loop-r in
     let k = entry c.args.t.now in
     let n = c.args.p * c.args.p in
-    let g : ℕ → List ℕ = λ r. entries_by (bad_in k c.args.bits.now (r * n) (r % 3)) c.args.bits.now (r * n) (r / 3) (r % 3 * n) n in
-    (
+    let g : ℕ → List ℕ = λ r. entries_by (bad_in k c.args.bits.now (r * n) (r % 3)) c.args.bits.now (r * n) (r / 3) (r % 3 * n) n in (
       omega arith,
       omega (arith, c.list_run-e.ensures.answer, none.0, c.loop-r.invariant.1, counted),
       c.list_run-e.auto.list ∙ c.loop-r.invariant.2,

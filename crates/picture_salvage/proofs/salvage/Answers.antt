@@ -38,9 +38,9 @@ returns-then-not-channels_allowed c =
 
 pub salvage_shaped-requires : goal.salvage_shaped-requires
 salvage_shaped-requires c = record {
-      bits_value = sym c.shape-found.ensures ∙ c.in-Shaped.is;
-      t_value = (c.samples-t.ensures, sym c.channels_allowed.ensures ∙ not-false _ c.if-not-channels_allowed.false-raw);
-    }
+  bits_value = sym c.shape-found.ensures ∙ c.in-Shaped.is;
+  t_value = (c.samples-t.ensures, sym c.channels_allowed.ensures ∙ not-false _ c.if-not-channels_allowed.false-raw);
+}
 
 pub returns-in-Unshaped : goal.returns-in-Unshaped
 returns-in-Unshaped c =
@@ -57,7 +57,7 @@ returns-in-Unshaped c =
 
 pub returns-in-Shaped : goal.returns-in-Shaped
 returns-in-Shaped c = record {
-      answer = c.salvage_shaped.ensures.0;
-      output = c.salvage_shaped.ensures.1.0;
-      entries = c.salvage_shaped.ensures.1.1;
-    }
+  answer = c.salvage_shaped.ensures.answer;
+  output = c.salvage_shaped.ensures.output;
+  entries = c.salvage_shaped.ensures.entries;
+}

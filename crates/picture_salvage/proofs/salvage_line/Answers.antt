@@ -57,15 +57,14 @@ overflow_add-k-in-loop-b c =
     omega (arith, room)
 
 pub loop-b-preserved : goal.loop-b-preserved
-loop-b-preserved c =
-    (
-      omega arith,
-      omega (arith, turn c.loop-b.b (c.args.p * 3)),
-      omega (arith, turn c.loop-b.b (patch_floats c.args.p)),
-      c.salvage_run.auto.out ∙ c.loop-b.invariant.3,
-      rows_step _ (c.args.p * 3) (λ j. length-saved_run (entry c.args.t.now) c.args.p c.args.bits.now (c.args.from + j * patch_floats c.args.p + c.args.i * c.args.p)) c.args.out.now c.loop-b.out _ c.args.at c.loop-b.o c.loop-b.b c.loop-b.invariant.4 c.loop-b.invariant.1
-          (c.salvage_run.ensures ∙ ap (λ (k : ℕ). put c.loop-b.out c.loop-b.o (saved_run (entry c.args.t.now) c.args.p c.args.bits.now (k + c.args.i * c.args.p))) c.loop-b.invariant.2),
-    )
+loop-b-preserved c = (
+  omega arith,
+  omega (arith, turn c.loop-b.b (c.args.p * 3)),
+  omega (arith, turn c.loop-b.b (patch_floats c.args.p)),
+  c.salvage_run.auto.out ∙ c.loop-b.invariant.3,
+  rows_step _ (c.args.p * 3) (λ j. length-saved_run (entry c.args.t.now) c.args.p c.args.bits.now (c.args.from + j * patch_floats c.args.p + c.args.i * c.args.p)) c.args.out.now c.loop-b.out _ c.args.at c.loop-b.o c.loop-b.b c.loop-b.invariant.4 c.loop-b.invariant.1
+      (c.salvage_run.ensures ∙ ap (λ (k : ℕ). put c.loop-b.out c.loop-b.o (saved_run (entry c.args.t.now) c.args.p c.args.bits.now (k + c.args.i * c.args.p))) c.loop-b.invariant.2),
+)
 
 pub shape_of-out : goal.shape_of-out
 shape_of-out c = c.loop-b.invariant.3

@@ -112,8 +112,7 @@ list_bad-requires c =
     let n = c.args.s.patch_size * c.args.s.patch_size in
     sym (k.samples ∙ ap (λ (x : ℕ). x * patch_floats c.args.s.patch_size) (sym k.tokens) ∙ sym (mul_assoc c.args.tokens 3 n) ∙ ap (λ (x : ℕ). x * n) (mul_comm c.args.tokens 3)) in
     let spots : let a = c.args in Spots c.args.t.now (spotted c.way_of-w.result (entry c.args.t.now)) = spots-of _ c.args.t.now _ _ c.way_of-w.ensures c.requires.t_value.1 in
-    let few : 3 * c.args.tokens ≤ 12582912 = let k = accepted in omega (arith, k.tokens, k.grids.tokens) in
-    (
+    let few : 3 * c.args.tokens ≤ 12582912 = let k = accepted in omega (arith, k.tokens, k.grids.tokens) in (
       accepted.grids.settings.patch-high,
       few,
       omega (arith, runs),

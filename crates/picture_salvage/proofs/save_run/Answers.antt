@@ -14,13 +14,12 @@ unfolding put rows
 loop-j-init c = (omega arith, omega arith, refl, refl)
 
 pub loop-j-preserved : goal.loop-j-preserved
-loop-j-preserved c =
-    (
-      omega arith,
-      omega arith,
-      c.save_pixel.auto.out ∙ c.loop-j.invariant.2,
-      rows_step (λ j. saved_pixel (get_or c.args.red.now j 0) (get_or c.args.green.now j 0) (get_or c.args.blue.now j 0)) 3 (λ j. refl) c.args.out.now c.loop-j.out _ c.args.at c.loop-j.o c.loop-j.j c.loop-j.invariant.3 c.loop-j.invariant.1 c.save_pixel.ensures,
-    )
+loop-j-preserved c = (
+  omega arith,
+  omega arith,
+  c.save_pixel.auto.out ∙ c.loop-j.invariant.2,
+  rows_step (λ j. saved_pixel (get_or c.args.red.now j 0) (get_or c.args.green.now j 0) (get_or c.args.blue.now j 0)) 3 (λ j. refl) c.args.out.now c.loop-j.out _ c.args.at c.loop-j.o c.loop-j.j c.loop-j.invariant.3 c.loop-j.invariant.1 c.save_pixel.ensures,
+)
 
 pub shape_of-out : goal.shape_of-out
 shape_of-out c = c.loop-j.invariant.2

@@ -42,8 +42,7 @@ pub loop-q-preserved : goal.loop-q-preserved
 loop-q-preserved c =
     let answer : let a = c.args in c.patch_known.result ≡ seen c.args.t.now c.args.p c.args.patches.now c.loop-q.q = let a = c.args in
     c.patch_known.ensures ∙ ap (λ (o : ℕ). known_patch (entry c.args.t.now) c.args.p c.args.patches.now o) c.loop-q.invariant.1 in
-    let a = c.args in
-    (
+    let a = c.args in (
       omega arith,
       omega (arith, turn c.loop-q.q (patch_floats c.args.p)),
       all-step c.loop-q.q (seen c.args.t.now c.args.p c.args.patches.now) c.loop-q.invariant.2 (sym (answer) ∙ not-false _ c.if-not-patch_known.false-raw),

@@ -24,12 +24,11 @@ pub overflow_cast-bytes : goal.overflow_cast-bytes
 overflow_cast-bytes c = omega (arith, byte _ _ _ _ c.guess.ensures)
 
 pub loop-k-preserved : goal.loop-k-preserved
-loop-k-preserved c =
-    (
-      omega arith,
-      simp length-set c.loop-k.invariant.1,
-      tab-step c.args.bytes.now c.loop-k.bytes c.args.at c.loop-k.k (λ i. guessed c.args.slope c.args.shift (get_or c.args.patches.now (c.args.from + i) nan)) _ c.loop-k.invariant.2 c.guess.ensures,
-    )
+loop-k-preserved c = (
+  omega arith,
+  simp length-set c.loop-k.invariant.1,
+  tab-step c.args.bytes.now c.loop-k.bytes c.args.at c.loop-k.k (λ i. guessed c.args.slope c.args.shift (get_or c.args.patches.now (c.args.from + i) nan)) _ c.loop-k.invariant.2 c.guess.ensures,
+)
 
 pub shape_of-bytes : goal.shape_of-bytes
 shape_of-bytes c = c.loop-k.invariant.1

@@ -35,12 +35,11 @@ overflow_cast-bytes c =
     omega (arith, c.spot.ensures, c.requires.3.low c.args.c (get_or c.args.patches.now (c.args.from + c.loop-k.k) nan))
 
 pub loop-k-preserved : goal.loop-k-preserved
-loop-k-preserved c =
-    (
-      omega arith,
-      simp length-set c.loop-k.invariant.1,
-      tab-step c.args.bytes.now c.loop-k.bytes c.args.at c.loop-k.k (λ i. spotted c.args.w (entry c.args.t.now) c.args.c (get_or c.args.patches.now (c.args.from + i) nan)) _ c.loop-k.invariant.2 c.spot.ensures,
-    )
+loop-k-preserved c = (
+  omega arith,
+  simp length-set c.loop-k.invariant.1,
+  tab-step c.args.bytes.now c.loop-k.bytes c.args.at c.loop-k.k (λ i. spotted c.args.w (entry c.args.t.now) c.args.c (get_or c.args.patches.now (c.args.from + i) nan)) _ c.loop-k.invariant.2 c.spot.ensures,
+)
 
 pub shape_of-bytes : goal.shape_of-bytes
 shape_of-bytes c = c.loop-k.invariant.1

@@ -57,8 +57,7 @@ loop-k-preserved c =
     c.byte_of.result ≡ byte c.args.t.now c.args.patches.now c.args.at c.args.c c.loop-k.k = let a = c.args in
     let g = spotted c.args.w (entry c.args.t.now) in
     c.byte_of.ensures ∙ ap (tried (entry c.args.t.now) g c.args.c) c.bits_of_f32.ensures ∙ tried-byte c.args.t.now g c.requires.2 c.args.c c.requires.0 _ in
-    let a = c.args in
-    (
+    let a = c.args in (
       omega arith,
       all-step c.loop-k.k (seen c.args.t.now c.args.patches.now c.args.at c.args.c) c.loop-k.invariant.1
           (lt-ltb (byte c.args.t.now c.args.patches.now c.args.at c.args.c c.loop-k.k) 256 (omega (arith, c.if-byte_of-ge256.false, told))),

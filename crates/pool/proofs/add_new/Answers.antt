@@ -12,11 +12,11 @@ use Rattle.pool.proofs.add_new.Goals as goal
 
 pub returns-then-n-eq0 : goal.returns-then-n-eq0
 returns-then-n-eq0 c = record {
-      answer = (add-refused c.args.p c.args.s.now c.args.key c.args.vectors.now F.Refusal.NoVectors c.refuse.result c.refuse.ensures
-    (add_none c.args.p c.args.s.now c.args.key c.args.vectors.now c.requires.0 c.requires.3 c.if-n-eq0.true)).0;
-      output = (add-refused c.args.p c.args.s.now c.args.key c.args.vectors.now F.Refusal.NoVectors c.refuse.result c.refuse.ensures
-    (add_none c.args.p c.args.s.now c.args.key c.args.vectors.now c.requires.0 c.requires.3 c.if-n-eq0.true)).1;
-    }
+  answer = (add-refused c.args.p c.args.s.now c.args.key c.args.vectors.now F.Refusal.NoVectors c.refuse.result c.refuse.ensures
+      (add_none c.args.p c.args.s.now c.args.key c.args.vectors.now c.requires.0 c.requires.3 c.if-n-eq0.true)).0;
+  output = (add-refused c.args.p c.args.s.now c.args.key c.args.vectors.now F.Refusal.NoVectors c.refuse.result c.refuse.ensures
+      (add_none c.args.p c.args.s.now c.args.key c.args.vectors.now c.requires.0 c.requires.3 c.if-n-eq0.true)).1;
+}
 
 pub overflow_sub-s : goal.overflow_sub-s
 overflow_sub-s c =
@@ -35,11 +35,11 @@ returns-then-p-s c =
     let n = length c.args.s.now in
     (omega (arith, c.requires.2, order-end 0 n es m.order), omega (arith, c.requires.1, c.requires.2, order-floats 0 n es m.order)) in record {
       answer = (add-refused c.args.p c.args.s.now c.args.key c.args.vectors.now F.Refusal.PoolFull c.refuse-then-p-s.result c.refuse-then-p-s.ensures
-    (add-full c.args.p c.args.s.now c.args.key c.args.vectors.now c.requires.0 c.requires.3 c.if-n-eq0.false
-    (rw c.requires.1 at (full-says c.args.p.count c.args.sum (length c.args.s.now) (length c.args.vectors.now) (omega (arith, ends)) c.if-p-s.true)))).0;
+          (add-full c.args.p c.args.s.now c.args.key c.args.vectors.now c.requires.0 c.requires.3 c.if-n-eq0.false
+          (rw c.requires.1 at (full-says c.args.p.count c.args.sum (length c.args.s.now) (length c.args.vectors.now) (omega (arith, ends)) c.if-p-s.true)))).0;
       output = (add-refused c.args.p c.args.s.now c.args.key c.args.vectors.now F.Refusal.PoolFull c.refuse-then-p-s.result c.refuse-then-p-s.ensures
-    (add-full c.args.p c.args.s.now c.args.key c.args.vectors.now c.requires.0 c.requires.3 c.if-n-eq0.false
-    (rw c.requires.1 at (full-says c.args.p.count c.args.sum (length c.args.s.now) (length c.args.vectors.now) (omega (arith, ends)) c.if-p-s.true)))).1;
+          (add-full c.args.p c.args.s.now c.args.key c.args.vectors.now c.requires.0 c.requires.3 c.if-n-eq0.false
+          (rw c.requires.1 at (full-says c.args.p.count c.args.sum (length c.args.s.now) (length c.args.vectors.now) (omega (arith, ends)) c.if-p-s.true)))).1;
     }
 
 pub overflow_sub-s-2 : goal.overflow_sub-s-2
@@ -73,11 +73,11 @@ returns-then-n-s c =
     let k = c.before.before.before.before.before.before.before.before.before.before in
     let a = c.args in record {
       answer = (done-behind c.args.p c.args.s.now c.args.key c.args.vectors.now c.args.end c.store-pool.result c.store-pool.new.s c.requires.2 (omega (arith, ends, c.if-n-s.true)) c.store-pool.ensures.answer c.store-pool.ensures.output
-    (add_done c.args.p c.args.s.now c.args.key c.args.vectors.now c.requires.0 c.requires.3 c.if-n-eq0.false
-    (rw c.requires.1 at (room-is c.args.p.count c.args.sum (length c.args.s.now) (length c.args.vectors.now) fits.0 fits.1)))).0;
+          (add_done c.args.p c.args.s.now c.args.key c.args.vectors.now c.requires.0 c.requires.3 c.if-n-eq0.false
+          (rw c.requires.1 at (room-is c.args.p.count c.args.sum (length c.args.s.now) (length c.args.vectors.now) fits.0 fits.1)))).0;
       output = (done-behind c.args.p c.args.s.now c.args.key c.args.vectors.now c.args.end c.store-pool.result c.store-pool.new.s c.requires.2 (omega (arith, ends, c.if-n-s.true)) c.store-pool.ensures.answer c.store-pool.ensures.output
-    (add_done c.args.p c.args.s.now c.args.key c.args.vectors.now c.requires.0 c.requires.3 c.if-n-eq0.false
-    (rw c.requires.1 at (room-is c.args.p.count c.args.sum (length c.args.s.now) (length c.args.vectors.now) fits.0 fits.1)))).1;
+          (add_done c.args.p c.args.s.now c.args.key c.args.vectors.now c.requires.0 c.requires.3 c.if-n-eq0.false
+          (rw c.requires.1 at (room-is c.args.p.count c.args.sum (length c.args.s.now) (length c.args.vectors.now) fits.0 fits.1)))).1;
     }
 
 pub store-pool-requires-2 : goal.store-pool-requires-2
@@ -108,11 +108,11 @@ returns c =
     let k = c.before.before.before.before.before.before.before.before.before.before.before.before.before.before in
     let a = c.args in record {
       answer = (done-slid c.args.p c.args.s.now c.args.key c.args.vectors.now c.args.sum c.slide-slid.result c.store-pool-2.result c.slide-slid.new.s c.store-pool-2.new.s c.requires.1
-    (omega (arith, length-entries c.args.p (room), room)) (omega (arith, ends, c.requires.2, c.if-n-s.false)) c.slide-slid.ensures.answer c.slide-slid.ensures.output c.store-pool-2.ensures.answer c.store-pool-2.ensures.output
-    (add_done c.args.p c.args.s.now c.args.key c.args.vectors.now c.requires.0 c.requires.3 c.if-n-eq0.false
-    (rw c.requires.1 at (room-is c.args.p.count c.args.sum (length c.args.s.now) (length c.args.vectors.now) fits.0 fits.1)))).0;
+          (omega (arith, length-entries c.args.p (room), room)) (omega (arith, ends, c.requires.2, c.if-n-s.false)) c.slide-slid.ensures.answer c.slide-slid.ensures.output c.store-pool-2.ensures.answer c.store-pool-2.ensures.output
+          (add_done c.args.p c.args.s.now c.args.key c.args.vectors.now c.requires.0 c.requires.3 c.if-n-eq0.false
+          (rw c.requires.1 at (room-is c.args.p.count c.args.sum (length c.args.s.now) (length c.args.vectors.now) fits.0 fits.1)))).0;
       output = (done-slid c.args.p c.args.s.now c.args.key c.args.vectors.now c.args.sum c.slide-slid.result c.store-pool-2.result c.slide-slid.new.s c.store-pool-2.new.s c.requires.1
-    (omega (arith, length-entries c.args.p (room), room)) (omega (arith, ends, c.requires.2, c.if-n-s.false)) c.slide-slid.ensures.answer c.slide-slid.ensures.output c.store-pool-2.ensures.answer c.store-pool-2.ensures.output
-    (add_done c.args.p c.args.s.now c.args.key c.args.vectors.now c.requires.0 c.requires.3 c.if-n-eq0.false
-    (rw c.requires.1 at (room-is c.args.p.count c.args.sum (length c.args.s.now) (length c.args.vectors.now) fits.0 fits.1)))).1;
+          (omega (arith, length-entries c.args.p (room), room)) (omega (arith, ends, c.requires.2, c.if-n-s.false)) c.slide-slid.ensures.answer c.slide-slid.ensures.output c.store-pool-2.ensures.answer c.store-pool-2.ensures.output
+          (add_done c.args.p c.args.s.now c.args.key c.args.vectors.now c.requires.0 c.requires.3 c.if-n-eq0.false
+          (rw c.requires.1 at (room-is c.args.p.count c.args.sum (length c.args.s.now) (length c.args.vectors.now) fits.0 fits.1)))).1;
     }

@@ -25,5 +25,3 @@ read_header-requires c = few-layers c.args.s (sym c.settings_allowed.ensures ∙
 
 pub returns : goal.returns
 returns c = with-header c.args.s c.args.file.now c.args.places.now (sym c.settings_allowed.ensures ∙ not-false _ c.if-not-settings_allowed.false-raw) (in_frame c.args.s c.args.file.now c.args.places.now (omega arith) (rw (← c.header_length-n.ensures) (omega arith))) (ap (λ (n : ℕ). take n (drop 8 c.args.file.now)) (add-sub_cancel_left 8 _ ∙ c.header_length-n.ensures)) c.read_header.ensures
-
-pub open_spec : {M : Type 1} → statement M

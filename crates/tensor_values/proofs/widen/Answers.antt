@@ -19,31 +19,31 @@ module _ (kind k : Kind) (b out : List ℕ) (m : ℕ) (s : m ≡ size_of kind) (
   written g = g ∙ fits k b out room ∙ ap (λ (j : Kind). copied (values_of j b) out) (sym e)
 
 pub nonzero_div-n : goal.nonzero_div-n
-nonzero_div-n c = rw c.type_size.ensures (size-positive c.args.kind)
+nonzero_div-n c = rw c.size_of.ensures (size-positive c.args.kind)
 
 pub returns-then-out-n : goal.returns-then-out-n
-returns-then-out-n c = short c.args.kind c.args.bytes.now c.args.out.now (rw (← c.type_size.ensures) c.if-out-n.true)
+returns-then-out-n c = short c.args.kind c.args.bytes.now c.args.out.now (rw (← c.size_of.ensures) c.if-out-n.true)
 
 pub widen_f32-requires : goal.widen_f32-requires
 widen_f32-requires c =
-    room c.args.kind F32 c.args.bytes.now c.args.out.now c.type_size.result c.type_size.ensures c.in-F32.is c.if-out-n.false
+    room c.args.kind F32 c.args.bytes.now c.args.out.now c.size_of.result c.size_of.ensures c.in-F32.is c.if-out-n.false
 
 pub widen_bf16-requires : goal.widen_bf16-requires
 widen_bf16-requires c =
-    room c.args.kind BF16 c.args.bytes.now c.args.out.now c.type_size.result c.type_size.ensures c.in-BF16.is c.if-out-n.false
+    room c.args.kind BF16 c.args.bytes.now c.args.out.now c.size_of.result c.size_of.ensures c.in-BF16.is c.if-out-n.false
 
 pub widen_f16-requires : goal.widen_f16-requires
 widen_f16-requires c =
-    room c.args.kind F16 c.args.bytes.now c.args.out.now c.type_size.result c.type_size.ensures c.in-F16.is c.if-out-n.false
+    room c.args.kind F16 c.args.bytes.now c.args.out.now c.size_of.result c.size_of.ensures c.in-F16.is c.if-out-n.false
 
 pub returns-in-F32 : goal.returns-in-F32
 returns-in-F32 c =
-    written c.args.kind F32 c.args.bytes.now c.args.out.now c.type_size.result c.type_size.ensures c.in-F32.is c.if-out-n.false c.widen_f32.ensures
+    written c.args.kind F32 c.args.bytes.now c.args.out.now c.size_of.result c.size_of.ensures c.in-F32.is c.if-out-n.false c.widen_f32.ensures
 
 pub returns-in-BF16 : goal.returns-in-BF16
 returns-in-BF16 c =
-    written c.args.kind BF16 c.args.bytes.now c.args.out.now c.type_size.result c.type_size.ensures c.in-BF16.is c.if-out-n.false c.widen_bf16.ensures
+    written c.args.kind BF16 c.args.bytes.now c.args.out.now c.size_of.result c.size_of.ensures c.in-BF16.is c.if-out-n.false c.widen_bf16.ensures
 
 pub returns-in-F16 : goal.returns-in-F16
 returns-in-F16 c =
-    written c.args.kind F16 c.args.bytes.now c.args.out.now c.type_size.result c.type_size.ensures c.in-F16.is c.if-out-n.false c.widen_f16.ensures
+    written c.args.kind F16 c.args.bytes.now c.args.out.now c.size_of.result c.size_of.ensures c.in-F16.is c.if-out-n.false c.widen_f16.ensures

@@ -16,9 +16,9 @@ use Rattle.unpatch_text.proofs.unpatch.Goals as goal
 -- src/lib.rt:22:9
 pub returns-then-out-lt-ROOM : goal.returns-then-out-lt-ROOM
 returns-then-out-lt-ROOM c = record {
-      answer = (nothing_left c.args.out.now (answer c.args.input.now) c.if-out-lt-ROOM.true).0;
-      output = (nothing_left c.args.out.now (answer c.args.input.now) c.if-out-lt-ROOM.true).1;
-    }
+  answer = (nothing_left c.args.out.now (answer c.args.input.now) c.if-out-lt-ROOM.true).0;
+  output = (nothing_left c.args.out.now (answer c.args.input.now) c.if-out-lt-ROOM.true).1;
+}
 
 -- src/lib.rt:41:20
 pub slice_bounds-rgb-end : goal.slice_bounds-rgb-end

@@ -1,6 +1,5 @@
 -- What the functions inside write. Assumes nothing.
 use Rattle.std.specs.Prelude.{◌≡◌, false, List, ℕ, ◌+◌, ◌≤◌, ◌<◌, length}
-use Rattle.buffers.specs.Rows.{rows}
 use Rattle.buffers.specs.Region.{put}
 use Rattle.json_members.specs.Names.{Entry}
 use Rattle.encoder_settings.specs.declared.EncoderSettings.{EncoderSettings}

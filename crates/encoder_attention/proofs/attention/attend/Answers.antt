@@ -31,6 +31,6 @@ returns-then-attend_fits c =
 
 pub returns : goal.returns
 returns c = record {
-      value = rw (← c.attend_fits.ensures, c.if-attend_fits.false);
-      s_after = rw (← c.attend_fits.ensures, c.if-attend_fits.false);
-    }
+  value = rw (← c.attend_fits.ensures, c.if-attend_fits.false);
+  s_after = rw (← c.attend_fits.ensures, c.if-attend_fits.false);
+}

@@ -49,6 +49,6 @@ shape_of-s c = c.attend_tokens.auto.s
 
 pub returns : goal.returns
 returns c = record {
-      value = c.attend_tokens.ensures.0;
-      s_after = c.attend_tokens.ensures.1;
-    }
+  value = c.attend_tokens.ensures.value;
+  s_after = c.attend_tokens.ensures.s_after;
+}

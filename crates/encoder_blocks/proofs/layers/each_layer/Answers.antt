@@ -45,14 +45,13 @@ pub loop-l-smaller : goal.loop-l-smaller
 loop-l-smaller c = omega (arith, c.loop-l-test.true)
 
 pub loop-l-preserved : goal.loop-l-preserved
-loop-l-preserved c =
-    (
-      omega (arith, c.loop-l-test.true),
-      omega (arith, c.loop-l.invariant.1, next c.loop-l.l (floats (parts_of c.args.z)), c.layer_floats-size.ensures),
-      c.pixtral_block_forward-r.auto.s ∙ c.loop-l.invariant.2,
-      layers-turn c.args.z c.args.w.now (table_by c.args.f c.args.z c.args.cos.now c.args.column_cos.now) (table_by c.args.f c.args.z c.args.sin.now c.args.column_sin.now) (h_at c.args.z c.args.s.now) c.part.result.now (h_at c.args.z c.loop-l.s) (h_at c.args.z c.pixtral_block_forward-r.new.s) c.loop-l.l c.loop-l.ok c.pixtral_block_forward-r.result
-          (c.part.ensures ∙ ap (λ i. region c.args.w.now i c.layer_floats-size.result) c.loop-l.invariant.1 ∙ ap (λ i. region c.args.w.now (c.loop-l.l * floats (parts_of c.args.z)) i) c.layer_floats-size.ensures) c.loop-l.invariant.3 c.pixtral_block_forward-r.ensures,
-    )
+loop-l-preserved c = (
+  omega (arith, c.loop-l-test.true),
+  omega (arith, c.loop-l.invariant.1, next c.loop-l.l (floats (parts_of c.args.z)), c.layer_floats-size.ensures),
+  c.pixtral_block_forward-r.auto.s ∙ c.loop-l.invariant.2,
+  layers-turn c.args.z c.args.w.now (table_by c.args.f c.args.z c.args.cos.now c.args.column_cos.now) (table_by c.args.f c.args.z c.args.sin.now c.args.column_sin.now) (h_at c.args.z c.args.s.now) c.part.result.now (h_at c.args.z c.loop-l.s) (h_at c.args.z c.pixtral_block_forward-r.new.s) c.loop-l.l c.loop-l.ok c.pixtral_block_forward-r.result
+      (c.part.ensures ∙ ap (λ i. region c.args.w.now i c.layer_floats-size.result) c.loop-l.invariant.1 ∙ ap (λ i. region c.args.w.now (c.loop-l.l * floats (parts_of c.args.z)) i) c.layer_floats-size.ensures) c.loop-l.invariant.3 c.pixtral_block_forward-r.ensures,
+)
 
 pub shape_of-s : goal.shape_of-s
 shape_of-s c = c.loop-l.invariant.2

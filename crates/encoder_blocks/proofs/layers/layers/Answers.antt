@@ -54,6 +54,6 @@ returns-then-layers_fit c =
 
 pub returns : goal.returns
 returns c = record {
-      value = rw (← c.layers_fit.ensures, c.if-layers_fit.false);
-      s_after = rw (← c.layers_fit.ensures, c.if-layers_fit.false);
-    }
+  value = rw (← c.layers_fit.ensures, c.if-layers_fit.false);
+  s_after = rw (← c.layers_fit.ensures, c.if-layers_fit.false);
+}

@@ -17,12 +17,11 @@ unfolding put tab
 loop-i-init c = search rules
 
 pub loop-i-preserved : goal.loop-i-preserved
-loop-i-preserved c =
-    (
-      omega arith,
-      simp length-set c.loop-i.invariant.1,
-      cc (c.loop-i.invariant.2, c.gelu_quick.ensures, elem-step c.args.s.now c.args.y c.args.y c.args.n c.loop-i.i nan (λ _ u v. gelu_of u) (omega arith) (after (omega arith))),
-    )
+loop-i-preserved c = (
+  omega arith,
+  simp length-set c.loop-i.invariant.1,
+  cc (c.loop-i.invariant.2, c.gelu_quick.ensures, elem-step c.args.s.now c.args.y c.args.y c.args.n c.loop-i.i nan (λ _ u v. gelu_of u) (omega arith) (after (omega arith))),
+)
 
 pub shape_of-s : goal.shape_of-s
 shape_of-s c = c.loop-i.invariant.1

@@ -17,12 +17,11 @@ unfolding put tab
 loop-i-init c = search rules
 
 pub loop-i-preserved : goal.loop-i-preserved
-loop-i-preserved c =
-    (
-      omega arith,
-      simp length-set c.loop-i.invariant.1,
-      cc (c.loop-i.invariant.2, c.silu.ensures, elem-step c.args.s.now c.args.y c.args.z c.args.n c.loop-i.i nan (λ _ u v. mul binary32 (silu_of u) v) (omega arith) (apart-sub c.requires.apart (omega arith) (omega arith) (omega arith) (omega arith))),
-    )
+loop-i-preserved c = (
+  omega arith,
+  simp length-set c.loop-i.invariant.1,
+  cc (c.loop-i.invariant.2, c.silu.ensures, elem-step c.args.s.now c.args.y c.args.z c.args.n c.loop-i.i nan (λ _ u v. mul binary32 (silu_of u) v) (omega arith) (apart-sub c.requires.apart (omega arith) (omega arith) (omega arith) (omega arith))),
+)
 
 pub shape_of-s : goal.shape_of-s
 shape_of-s c = c.loop-i.invariant.1

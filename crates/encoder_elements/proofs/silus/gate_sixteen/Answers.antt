@@ -16,12 +16,11 @@ unfolding put tab
 loop-l-init c = (omega arith, refl, refl)
 
 pub loop-l-preserved : goal.loop-l-preserved
-loop-l-preserved c =
-    (
-      omega arith,
-      simp length-set c.loop-l.invariant.1,
-      cc (c.loop-l.invariant.2, elem-step c.args.s.now c.args.y c.args.z 16 c.loop-l.l nan (λ j u v. mul binary32 (div binary32 u (add binary32 one32 (get_or c.args.e j nan))) v) (omega arith) (apart-sub c.requires.apart (omega arith) (omega arith) (omega arith) (omega arith))),
-    )
+loop-l-preserved c = (
+  omega arith,
+  simp length-set c.loop-l.invariant.1,
+  cc (c.loop-l.invariant.2, elem-step c.args.s.now c.args.y c.args.z 16 c.loop-l.l nan (λ j u v. mul binary32 (div binary32 u (add binary32 one32 (get_or c.args.e j nan))) v) (omega arith) (apart-sub c.requires.apart (omega arith) (omega arith) (omega arith) (omega arith))),
+)
 
 pub shape_of-s : goal.shape_of-s
 shape_of-s c = c.loop-l.invariant.1

@@ -36,13 +36,12 @@ gate_sixteen-requires c =
     rw c.loop-i.invariant.1 (part-fits c.loop-i.i 16 c.requires (omega arith))
 
 pub loop-i-preserved : goal.loop-i-preserved
-loop-i-preserved c =
-    (
-      omega arith,
-      ap length c.gate_sixteen.ensures ∙ length-put _ _ _ ∙ c.loop-i.invariant.1,
-      c.gate_sixteen.ensures
-          ∙ more c.args.s.now c.loop-i.s _ c.args.y c.args.z c.args.n c.loop-i.i 16 (omega arith) c.requires.apart c.loop-i.invariant.2 (each c.loop-i.s c.sixteen_negated-x.result c.exp_sixteen.result (c.args.y + c.loop-i.i) (c.args.z + c.loop-i.i) c.sixteen_negated-x.ensures c.exp_sixteen.ensures),
-    )
+loop-i-preserved c = (
+  omega arith,
+  ap length c.gate_sixteen.ensures ∙ length-put _ _ _ ∙ c.loop-i.invariant.1,
+  c.gate_sixteen.ensures
+      ∙ more c.args.s.now c.loop-i.s _ c.args.y c.args.z c.args.n c.loop-i.i 16 (omega arith) c.requires.apart c.loop-i.invariant.2 (each c.loop-i.s c.sixteen_negated-x.result c.exp_sixteen.result (c.args.y + c.loop-i.i) (c.args.z + c.loop-i.i) c.sixteen_negated-x.ensures c.exp_sixteen.ensures),
+)
 
 pub shape_of-s : goal.shape_of-s
 shape_of-s c = c.loop-i.invariant.1

@@ -9,8 +9,7 @@ use Rattle.encoder_kernels.proofs.room.norm_fits.Goals as goal
 
 pub overflow_mul-n : goal.overflow_mul-n
 overflow_mul-n c =
-    let held : (let a = c.args in (c.args.x + c.args.n * c.args.dim ≤ c.args.lens) × (c.args.y + c.args.n * c.args.dim ≤ c.args.lens)) = let a = c.args in
-    (
+    let held : (let a = c.args in (c.args.x + c.args.n * c.args.dim ≤ c.args.lens) × (c.args.y + c.args.n * c.args.dim ≤ c.args.lens)) = let a = c.args in (
       leb-true (c.args.x + c.args.n * c.args.dim) c.args.lens (sym c.rows_inside.ensures ∙ and_left c.rows_inside.result c.rows_inside-2.result c.if-rows_inside.true),
       leb-true (c.args.y + c.args.n * c.args.dim) c.args.lens (sym c.rows_inside-2.ensures ∙ and_right c.rows_inside.result c.rows_inside-2.result c.if-rows_inside.true),
     ) in
@@ -18,8 +17,7 @@ overflow_mul-n c =
 
 pub overflow_mul-n-then-rows_inside : goal.overflow_mul-n-then-rows_inside
 overflow_mul-n-then-rows_inside c =
-    let held : (let a = c.args in (c.args.x + c.args.n * c.args.dim ≤ c.args.lens) × (c.args.y + c.args.n * c.args.dim ≤ c.args.lens)) = let a = c.args in
-    (
+    let held : (let a = c.args in (c.args.x + c.args.n * c.args.dim ≤ c.args.lens) × (c.args.y + c.args.n * c.args.dim ≤ c.args.lens)) = let a = c.args in (
       leb-true (c.args.x + c.args.n * c.args.dim) c.args.lens (sym c.rows_inside.ensures ∙ and_left c.rows_inside.result c.rows_inside-2.result c.if-rows_inside.true),
       leb-true (c.args.y + c.args.n * c.args.dim) c.args.lens (sym c.rows_inside-2.ensures ∙ and_right c.rows_inside.result c.rows_inside-2.result c.if-rows_inside.true),
     ) in

@@ -25,8 +25,7 @@ overflow_add-at c = omega (arith, fit c.args.d c.loop-r-test.true, c.requires.yi
 
 pub loop-r-preserved : goal.loop-r-preserved
 loop-r-preserved c =
-    let f = fit c.args.d c.loop-r-test.true in
-    (
+    let f = fit c.args.d c.loop-r-test.true in (
       omega arith,
       rw (add-one, suc-mul) (omega arith),
       c.add_row.auto.s ∙ c.loop-r.invariant.2,

@@ -18,11 +18,10 @@ add_cells-next-requires c =
     record { cells = ap length c.loop-k.invariant.1 ∙ length-tab 16 _; tin = omega (arith, c.requires.tin, c.loop-k-test.true); win = omega (arith, c.requires.win, c.loop-k-test.true) }
 
 pub loop-k-preserved : goal.loop-k-preserved
-loop-k-preserved c =
-    (
-      omega (arith, c.loop-k-test.true),
-      cell-step c.loop-k.k c.args.at c.args.nin c.args.a c.args.xt.now c.args.w.now c.loop-k.b c.add_cells-next.result c.loop-k.invariant.1 c.add_cells-next.ensures,
-    )
+loop-k-preserved c = (
+  omega (arith, c.loop-k-test.true),
+  cell-step c.loop-k.k c.args.at c.args.nin c.args.a c.args.xt.now c.args.w.now c.loop-k.b c.add_cells-next.result c.loop-k.invariant.1 c.add_cells-next.ensures,
+)
 
 pub returns : goal.returns
 returns c =

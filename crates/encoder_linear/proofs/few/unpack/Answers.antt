@@ -37,12 +37,11 @@ copy_spread-requires c =
     record { to = λ i k. omega (arith, c.loop-l.invariant.1); from = λ i k. omega (arith, c.requires.rows, c.requires.cells, c.loop-l-test.true) }
 
 pub loop-l-preserved : goal.loop-l-preserved
-loop-l-preserved c =
-    (
-      omega (arith, c.loop-l-test.true),
-      c.copy_spread.auto.d ∙ c.loop-l.invariant.1,
-      turn c.args.s.now c.loop-l.s c.copy_spread.new.d c.args.b.now c.args.at c.args.nout c.loop-l.l c.requires.wide c.loop-l.invariant.2 c.copy_spread.ensures,
-    )
+loop-l-preserved c = (
+  omega (arith, c.loop-l-test.true),
+  c.copy_spread.auto.d ∙ c.loop-l.invariant.1,
+  turn c.args.s.now c.loop-l.s c.copy_spread.new.d c.args.b.now c.args.at c.args.nout c.loop-l.l c.requires.wide c.loop-l.invariant.2 c.copy_spread.ensures,
+)
 
 pub shape_of-s : goal.shape_of-s
 shape_of-s c = c.loop-l.invariant.1

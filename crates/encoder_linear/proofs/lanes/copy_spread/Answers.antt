@@ -38,12 +38,11 @@ bounds-d-at c = omega (arith, c.requires.to c.loop-i.i c.loop-i-test.true)
 
 pub loop-i-preserved : goal.loop-i-preserved
 unfolding spread
-loop-i-preserved c =
-    (
-      omega arith,
-      simp length-set c.loop-i.invariant.1,
-      rw (add-one c.loop-i.i, ← c.loop-i.invariant.2),
-    )
+loop-i-preserved c = (
+  omega arith,
+  simp length-set c.loop-i.invariant.1,
+  rw (add-one c.loop-i.i, ← c.loop-i.invariant.2),
+)
 
 pub returns : goal.returns
 returns c =

@@ -17,11 +17,10 @@ pub add_products-next-requires : goal.add_products-next-requires
 add_products-next-requires c = (ap length c.loop-k.invariant.1 ∙ length-tab 16 _, omega arith)
 
 pub loop-k-preserved : goal.loop-k-preserved
-loop-k-preserved c =
-    (
-      omega arith,
-      lane-step c.loop-k.k c.args.a c.args.xt.now c.args.w.now c.loop-k.b c.add_products-next.result c.loop-k.invariant.1 c.add_products-next.ensures,
-    )
+loop-k-preserved c = (
+  omega arith,
+  lane-step c.loop-k.k c.args.a c.args.xt.now c.args.w.now c.loop-k.b c.add_products-next.result c.loop-k.invariant.1 c.add_products-next.ensures,
+)
 
 pub returns : goal.returns
 returns c = c.loop-k.invariant.1 ∙ ap (λ k. tab 16 (lane_of k c.args.a c.args.xt.now c.args.w.now)) (omega arith)

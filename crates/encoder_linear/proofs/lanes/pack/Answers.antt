@@ -35,12 +35,11 @@ copy_spread-requires c =
     record { to = λ i k. let f = fit c.args.m k in omega (arith, c.requires.rows, c.requires.tin, c.loop-l.invariant.1, c.loop-l-test.true); from = λ i k. omega arith }
 
 pub loop-l-preserved : goal.loop-l-preserved
-loop-l-preserved c =
-    (
-      omega arith,
-      c.copy_spread.auto.d ∙ c.loop-l.invariant.1,
-      lane-more c.args.xt.now c.args.x.now c.args.m c.args.at c.args.nin c.args.n c.loop-l.l c.loop-l.xt c.copy_spread.new.d c.loop-l.invariant.2 c.copy_spread.ensures,
-    )
+loop-l-preserved c = (
+  omega arith,
+  c.copy_spread.auto.d ∙ c.loop-l.invariant.1,
+  lane-more c.args.xt.now c.args.x.now c.args.m c.args.at c.args.nin c.args.n c.loop-l.l c.loop-l.xt c.copy_spread.new.d c.loop-l.invariant.2 c.copy_spread.ensures,
+)
 
 pub shape_of-xt : goal.shape_of-xt
 shape_of-xt c = c.loop-l.invariant.1

@@ -26,16 +26,14 @@ pub add_products-other-requires : goal.add_products-other-requires
 add_products-other-requires c = (ap length c.loop-k.invariant.2 ∙ length-tab 16 _, omega (arith, c.loop-k-test.true, c.requires.tin))
 
 pub loop-k-preserved : goal.loop-k-preserved
-loop-k-preserved c =
-    (
-      omega (arith, c.loop-k-test.true),
-      lane-step c.loop-k.k c.args.a c.args.xt.now c.args.w.now c.loop-k.c c.add_products-next.result c.loop-k.invariant.1 c.add_products-next.ensures,
-      lane-step c.loop-k.k c.args.b c.args.xt.now c.args.v.now c.loop-k.d c.add_products-other.result c.loop-k.invariant.2 c.add_products-other.ensures,
-    )
+loop-k-preserved c = (
+  omega (arith, c.loop-k-test.true),
+  lane-step c.loop-k.k c.args.a c.args.xt.now c.args.w.now c.loop-k.c c.add_products-next.result c.loop-k.invariant.1 c.add_products-next.ensures,
+  lane-step c.loop-k.k c.args.b c.args.xt.now c.args.v.now c.loop-k.d c.add_products-other.result c.loop-k.invariant.2 c.add_products-other.ensures,
+)
 
 pub returns : goal.returns
-returns c =
-    (
-      c.loop-k.invariant.1 ∙ ap (λ k. tab 16 (lane_of k c.args.a c.args.xt.now c.args.w.now)) (omega arith),
-      c.loop-k.invariant.2 ∙ ap (λ k. tab 16 (lane_of k c.args.b c.args.xt.now c.args.v.now)) (omega arith),
-    )
+returns c = (
+  c.loop-k.invariant.1 ∙ ap (λ k. tab 16 (lane_of k c.args.a c.args.xt.now c.args.w.now)) (omega arith),
+  c.loop-k.invariant.2 ∙ ap (λ k. tab 16 (lane_of k c.args.b c.args.xt.now c.args.v.now)) (omega arith),
+)

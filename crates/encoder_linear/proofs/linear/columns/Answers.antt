@@ -20,12 +20,11 @@ pub loop-c-smaller-then-r-lt5 : goal.loop-c-smaller-then-r-lt5
 loop-c-smaller-then-r-lt5 c = omega (arith, c.if-nout-c-ge4.true, c.loop-c.invariant.0)
 
 pub loop-c-preserved-then-r-lt5 : goal.loop-c-preserved-then-r-lt5
-loop-c-preserved-then-r-lt5 c =
-    (
-      omega (arith, c.if-nout-c-ge4.true, c.loop-c.invariant.0),
-      c.four_columns.auto.s ∙ c.loop-c.invariant.1,
-      four-turn c.args.w.now c.args.xt.now c.args.y c.args.r c.args.nin c.args.nout c.args.k c.args.n c.args.s.now c.loop-c.s c.four_columns.new.s c.loop-c.c (omega (arith, c.if-nout-c-ge4.true, c.loop-c.invariant.0)) c.loop-c.invariant.2 c.four_columns.ensures,
-    )
+loop-c-preserved-then-r-lt5 c = (
+  omega (arith, c.if-nout-c-ge4.true, c.loop-c.invariant.0),
+  c.four_columns.auto.s ∙ c.loop-c.invariant.1,
+  four-turn c.args.w.now c.args.xt.now c.args.y c.args.r c.args.nin c.args.nout c.args.k c.args.n c.args.s.now c.loop-c.s c.four_columns.new.s c.loop-c.c (omega (arith, c.if-nout-c-ge4.true, c.loop-c.invariant.0)) c.loop-c.invariant.2 c.four_columns.ensures,
+)
 
 pub wide_columns-requires : goal.wide_columns-requires
 wide_columns-requires c = record { fits = rw c.loop-c.invariant.1 c.requires; columns = omega (arith, c.if-nout-c-ge4.true, c.loop-c.invariant.0) }
@@ -37,12 +36,11 @@ pub loop-c-smaller-then-wide : goal.loop-c-smaller-then-wide
 loop-c-smaller-then-wide c = omega (arith, c.if-nout-c-ge4.true, c.loop-c.invariant.0)
 
 pub loop-c-preserved-then-wide : goal.loop-c-preserved-then-wide
-loop-c-preserved-then-wide c =
-    (
-      omega (arith, c.if-nout-c-ge4.true, c.loop-c.invariant.0),
-      c.wide_columns.auto.s ∙ c.loop-c.invariant.1,
-      four-turn c.args.w.now c.args.xt.now c.args.y c.args.r c.args.nin c.args.nout c.args.k c.args.n c.args.s.now c.loop-c.s c.wide_columns.new.s c.loop-c.c (omega (arith, c.if-nout-c-ge4.true, c.loop-c.invariant.0)) c.loop-c.invariant.2 c.wide_columns.ensures,
-    )
+loop-c-preserved-then-wide c = (
+  omega (arith, c.if-nout-c-ge4.true, c.loop-c.invariant.0),
+  c.wide_columns.auto.s ∙ c.loop-c.invariant.1,
+  four-turn c.args.w.now c.args.xt.now c.args.y c.args.r c.args.nin c.args.nout c.args.k c.args.n c.args.s.now c.loop-c.s c.wide_columns.new.s c.loop-c.c (omega (arith, c.if-nout-c-ge4.true, c.loop-c.invariant.0)) c.loop-c.invariant.2 c.wide_columns.ensures,
+)
 
 pub two_columns-requires : goal.two_columns-requires
 two_columns-requires c = record { fits = rw c.loop-c.invariant.1 c.requires; column = omega (arith, c.if-nout-c-ge4.true, c.loop-c.invariant.0) }
@@ -54,12 +52,11 @@ pub loop-c-smaller-else-wide : goal.loop-c-smaller-else-wide
 loop-c-smaller-else-wide c = omega (arith, c.if-nout-c-ge4.true, c.loop-c.invariant.0)
 
 pub loop-c-preserved-else-wide : goal.loop-c-preserved-else-wide
-loop-c-preserved-else-wide c =
-    (
-      omega (arith, c.if-nout-c-ge4.true, c.loop-c.invariant.0),
-      c.two_columns.auto.s ∙ c.loop-c.invariant.1,
-      pair_turn c.args.w.now c.args.xt.now c.args.y c.args.r c.args.nin c.args.nout c.args.k c.args.n c.args.s.now c.loop-c.s c.two_columns.new.s c.loop-c.c (omega (arith, c.if-nout-c-ge4.true, c.loop-c.invariant.0)) c.loop-c.invariant.2 c.two_columns.ensures,
-    )
+loop-c-preserved-else-wide c = (
+  omega (arith, c.if-nout-c-ge4.true, c.loop-c.invariant.0),
+  c.two_columns.auto.s ∙ c.loop-c.invariant.1,
+  pair_turn c.args.w.now c.args.xt.now c.args.y c.args.r c.args.nin c.args.nout c.args.k c.args.n c.args.s.now c.loop-c.s c.two_columns.new.s c.loop-c.c (omega (arith, c.if-nout-c-ge4.true, c.loop-c.invariant.0)) c.loop-c.invariant.2 c.two_columns.ensures,
+)
 
 pub one_column-requires : goal.one_column-requires
 one_column-requires c = record { fits = rw c.loop-c.invariant.1 c.requires; column = c.loop-c-test.true }
@@ -71,12 +68,11 @@ pub loop-c-smaller : goal.loop-c-smaller
 loop-c-smaller c = omega (arith, c.loop-c-test.true)
 
 pub loop-c-preserved : goal.loop-c-preserved
-loop-c-preserved c =
-    (
-      omega (arith, c.loop-c-test.true),
-      c.one_column.auto.s ∙ c.loop-c.invariant.1,
-      column-turn c.args.w.now c.args.xt.now c.args.y c.args.r c.args.nin c.args.nout c.args.k c.args.n c.args.s.now c.loop-c.s c.one_column.new.s c.loop-c.c (omega (arith, c.loop-c-test.true)) c.loop-c.invariant.2 c.one_column.ensures,
-    )
+loop-c-preserved c = (
+  omega (arith, c.loop-c-test.true),
+  c.one_column.auto.s ∙ c.loop-c.invariant.1,
+  column-turn c.args.w.now c.args.xt.now c.args.y c.args.r c.args.nin c.args.nout c.args.k c.args.n c.args.s.now c.loop-c.s c.one_column.new.s c.loop-c.c (omega (arith, c.loop-c-test.true)) c.loop-c.invariant.2 c.one_column.ensures,
+)
 
 pub shape_of-s : goal.shape_of-s
 shape_of-s c = c.loop-c.invariant.1

@@ -33,18 +33,16 @@ overflow_add-a c =
     omega (arith, c.requires.v_is, c.requires.places, fit c.args.dim c.loop-j-test.true)
 
 pub loop-j-preserved : goal.loop-j-preserved
-loop-j-preserved c =
-    (
-      omega (arith, c.loop-j-test.true),
-      rw (add-one, suc-mul) (omega (arith, c.loop-j.invariant.1)),
-      column-step c.loop-j.j c.args.dim c.args.o c.loop-j.a c.args.p.now c.args.v.now c.loop-j.b c.add_products-next.result c.loop-j.invariant.1 c.loop-j.invariant.2 c.add_products-next.ensures,
-      column-step c.loop-j.j c.args.dim c.args.o c.loop-j.a c.args.r.now c.args.v.now c.loop-j.c c.add_products-other.result c.loop-j.invariant.1 c.loop-j.invariant.3 c.add_products-other.ensures,
-    )
+loop-j-preserved c = (
+  omega (arith, c.loop-j-test.true),
+  rw (add-one, suc-mul) (omega (arith, c.loop-j.invariant.1)),
+  column-step c.loop-j.j c.args.dim c.args.o c.loop-j.a c.args.p.now c.args.v.now c.loop-j.b c.add_products-next.result c.loop-j.invariant.1 c.loop-j.invariant.2 c.add_products-next.ensures,
+  column-step c.loop-j.j c.args.dim c.args.o c.loop-j.a c.args.r.now c.args.v.now c.loop-j.c c.add_products-other.result c.loop-j.invariant.1 c.loop-j.invariant.3 c.add_products-other.ensures,
+)
 
 pub returns : goal.returns
 unfolding column_of
-returns c =
-    (
-      c.loop-j.invariant.2 ∙ ap (λ n. tab 16 (begun_column n c.args.dim c.args.o c.args.p.now c.args.v.now)) (omega arith),
-      c.loop-j.invariant.3 ∙ ap (λ n. tab 16 (begun_column n c.args.dim c.args.o c.args.r.now c.args.v.now)) (omega arith),
-    )
+returns c = (
+  c.loop-j.invariant.2 ∙ ap (λ n. tab 16 (begun_column n c.args.dim c.args.o c.args.p.now c.args.v.now)) (omega arith),
+  c.loop-j.invariant.3 ∙ ap (λ n. tab 16 (begun_column n c.args.dim c.args.o c.args.r.now c.args.v.now)) (omega arith),
+)

@@ -59,10 +59,9 @@ loop-j-preserved c =
 
 pub returns : goal.returns
 unfolding column_of
-returns c =
-    (
-      c.loop-j.invariant.2 ∙ ap (λ n. tab 16 (begun_column n c.args.dim c.args.o c.args.p.now c.args.v.now)) (omega arith),
-      c.loop-j.invariant.3 ∙ ap (λ n. tab 16 (begun_column n c.args.dim (c.args.o + 16) c.args.p.now c.args.v.now)) (omega arith),
-      c.loop-j.invariant.4 ∙ ap (λ n. tab 16 (begun_column n c.args.dim c.args.o c.args.r.now c.args.v.now)) (omega arith),
-      c.loop-j.invariant.5 ∙ ap (λ n. tab 16 (begun_column n c.args.dim (c.args.o + 16) c.args.r.now c.args.v.now)) (omega arith),
-    )
+returns c = (
+  c.loop-j.invariant.2 ∙ ap (λ n. tab 16 (begun_column n c.args.dim c.args.o c.args.p.now c.args.v.now)) (omega arith),
+  c.loop-j.invariant.3 ∙ ap (λ n. tab 16 (begun_column n c.args.dim (c.args.o + 16) c.args.p.now c.args.v.now)) (omega arith),
+  c.loop-j.invariant.4 ∙ ap (λ n. tab 16 (begun_column n c.args.dim c.args.o c.args.r.now c.args.v.now)) (omega arith),
+  c.loop-j.invariant.5 ∙ ap (λ n. tab 16 (begun_column n c.args.dim (c.args.o + 16) c.args.r.now c.args.v.now)) (omega arith),
+)

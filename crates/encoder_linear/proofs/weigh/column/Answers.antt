@@ -25,12 +25,11 @@ overflow_add-a c = omega (arith, fit c.args.dim c.loop-j-test.true)
 
 pub loop-j-preserved : goal.loop-j-preserved
 unfolding sum_of
-loop-j-preserved c =
-    (
-      omega arith,
-      rw (add-one, suc-mul) (omega arith),
-      rw (add-one, ← c.loop-j.invariant.2, ← c.loop-j.invariant.1),
-    )
+loop-j-preserved c = (
+  omega arith,
+  rw (add-one, suc-mul) (omega arith),
+  rw (add-one, ← c.loop-j.invariant.2, ← c.loop-j.invariant.1),
+)
 
 pub returns : goal.returns
 unfolding column_of

@@ -25,12 +25,11 @@ overflow_add-a c = omega (arith, fit c.args.dim c.loop-j-test.true)
 
 -- src/attention.rt:143:5
 pub loop-j-preserved : goal.loop-j-preserved
-loop-j-preserved c =
-    (
-      omega arith,
-      rw (add-one, suc-mul) (omega arith),
-      column-step c.loop-j.j c.args.dim c.args.o c.loop-j.a c.args.p.now c.args.v.now c.loop-j.b c.add_products-next.result c.loop-j.invariant.1 c.loop-j.invariant.2 c.add_products-next.ensures,
-    )
+loop-j-preserved c = (
+  omega arith,
+  rw (add-one, suc-mul) (omega arith),
+  column-step c.loop-j.j c.args.dim c.args.o c.loop-j.a c.args.p.now c.args.v.now c.loop-j.b c.add_products-next.result c.loop-j.invariant.1 c.loop-j.invariant.2 c.add_products-next.ensures,
+)
 
 -- src/attention.rt:136:1
 pub returns : goal.returns

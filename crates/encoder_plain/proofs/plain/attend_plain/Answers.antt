@@ -25,6 +25,6 @@ returns-then-plain_fits c =
 
 pub returns : goal.returns
 returns c = record {
-      value = rw (← c.plain_fits.ensures, c.if-plain_fits.false);
-      s_after = rw (← c.plain_fits.ensures, c.if-plain_fits.false);
-    }
+  value = rw (← c.plain_fits.ensures, c.if-plain_fits.false);
+  s_after = rw (← c.plain_fits.ensures, c.if-plain_fits.false);
+}

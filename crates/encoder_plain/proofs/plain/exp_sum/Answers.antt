@@ -33,13 +33,12 @@ loop-i-init c = (omega arith, refl, refl, refl)
 
 pub loop-i-preserved : goal.loop-i-preserved
 unfolding sum_of
-loop-i-preserved c =
-    (
-      omega arith,
-      simp length-set c.loop-i.invariant.1,
-      cc (c.loop-i.invariant.2, c.exp_f32-sv.ensures, elem-step c.args.s.now c.args.row c.args.row c.args.n c.loop-i.i nan (λ _ u v. E (sub binary32 u c.args.max_val)) (omega arith) (after (omega arith))),
-      rw (add-one, ← c.loop-i.invariant.3, ← here c.args.s.now c.loop-i.s c.args.row c.args.n c.loop-i.i c.args.max_val c.exp_f32-sv.result c.loop-i-test.true c.loop-i.invariant.2 c.exp_f32-sv.ensures),
-    )
+loop-i-preserved c = (
+  omega arith,
+  simp length-set c.loop-i.invariant.1,
+  cc (c.loop-i.invariant.2, c.exp_f32-sv.ensures, elem-step c.args.s.now c.args.row c.args.row c.args.n c.loop-i.i nan (λ _ u v. E (sub binary32 u c.args.max_val)) (omega arith) (after (omega arith))),
+  rw (add-one, ← c.loop-i.invariant.3, ← here c.args.s.now c.loop-i.s c.args.row c.args.n c.loop-i.i c.args.max_val c.exp_f32-sv.result c.loop-i-test.true c.loop-i.invariant.2 c.exp_f32-sv.ensures),
+)
 
 pub shape_of-s : goal.shape_of-s
 shape_of-s c = c.loop-i.invariant.1

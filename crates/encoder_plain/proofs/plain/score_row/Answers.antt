@@ -58,12 +58,11 @@ pub bounds-s-row : goal.bounds-s-row
 bounds-s-row c = omega (arith, bounds c.args.t c.args.heads c.args.hd c.args.h c.args.qi c.requires.1 c.requires.2, c.requires.0, c.loop-ki-test.true, c.loop-ki.invariant.1)
 
 pub loop-ki-preserved : goal.loop-ki-preserved
-loop-ki-preserved c =
-    (
-      omega arith,
-      simp length-set c.loop-ki.invariant.1,
-      score-step c.args.s.now c.args.q c.args.k c.args.m c.args.t c.args.heads c.args.hd c.args.h c.args.qi c.args.scaling c.requires.0 c.requires.1 c.requires.2 c.loop-ki.s c.loop-ki.ki _ c.loop-ki-test.true c.loop-ki.invariant.2 (ap (λ z. mul binary32 z c.args.scaling) c.dot.ensures),
-    )
+loop-ki-preserved c = (
+  omega arith,
+  simp length-set c.loop-ki.invariant.1,
+  score-step c.args.s.now c.args.q c.args.k c.args.m c.args.t c.args.heads c.args.hd c.args.h c.args.qi c.args.scaling c.requires.0 c.requires.1 c.requires.2 c.loop-ki.s c.loop-ki.ki _ c.loop-ki-test.true c.loop-ki.invariant.2 (ap (λ z. mul binary32 z c.args.scaling) c.dot.ensures),
+)
 
 pub shape_of-s : goal.shape_of-s
 shape_of-s c = c.loop-ki.invariant.1

@@ -27,12 +27,11 @@ pub softmax_row-requires : goal.softmax_row-requires
 softmax_row-requires c = omega (arith, fit c.args.t c.loop-qi-test.true, c.requires, c.loop-qi.invariant.1)
 
 pub loop-qi-preserved : goal.loop-qi-preserved
-loop-qi-preserved c =
-    (
-      omega arith,
-      c.softmax_row.auto.s ∙ c.loop-qi.invariant.1,
-      cc (c.softmax_row.ensures, c.loop-qi.invariant.2, row_step c.args.s.now c.args.m c.args.m c.args.t c.args.t c.args.t c.loop-qi.qi (λ _. softmax_of c.args.t) (λ _ x. length-softmax c.args.t x) (after (omega arith)) c.loop-qi-test.true),
-    )
+loop-qi-preserved c = (
+  omega arith,
+  c.softmax_row.auto.s ∙ c.loop-qi.invariant.1,
+  cc (c.softmax_row.ensures, c.loop-qi.invariant.2, row_step c.args.s.now c.args.m c.args.m c.args.t c.args.t c.args.t c.loop-qi.qi (λ _. softmax_of c.args.t) (λ _ x. length-softmax c.args.t x) (after (omega arith)) c.loop-qi-test.true),
+)
 
 pub shape_of-s : goal.shape_of-s
 shape_of-s c = c.loop-qi.invariant.1

@@ -55,12 +55,11 @@ pub bounds-s-out_off : goal.bounds-s-out_off
 bounds-s-out_off c = omega (arith, bounds c.args.t c.args.heads c.args.hd c.args.h c.args.qi c.requires.1 c.requires.2, c.requires.0, c.loop-d-test.true, c.loop-d.invariant.1)
 
 pub loop-d-preserved : goal.loop-d-preserved
-loop-d-preserved c =
-    (
-      omega arith,
-      simp length-set c.loop-d.invariant.1,
-      sum_step c.args.s.now c.args.v c.args.m c.args.out c.args.t c.args.heads c.args.hd c.args.h c.args.qi c.requires.0 c.requires.1 c.requires.2 c.loop-d.s c.loop-d.d _ c.loop-d-test.true c.loop-d.invariant.2 c.weighed.ensures,
-    )
+loop-d-preserved c = (
+  omega arith,
+  simp length-set c.loop-d.invariant.1,
+  sum_step c.args.s.now c.args.v c.args.m c.args.out c.args.t c.args.heads c.args.hd c.args.h c.args.qi c.requires.0 c.requires.1 c.requires.2 c.loop-d.s c.loop-d.d _ c.loop-d-test.true c.loop-d.invariant.2 c.weighed.ensures,
+)
 
 pub shape_of-s : goal.shape_of-s
 shape_of-s c = c.loop-d.invariant.1

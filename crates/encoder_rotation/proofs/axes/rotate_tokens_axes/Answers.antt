@@ -74,7 +74,7 @@ loop-i-preserved c =
       c.rotate_token_axes.auto.s ∙ c.loop-i.invariant.2,
       axes-step c.args.tokens c.args.heads c.args.q c.args.gw c.args.side c.args.row_cos.now c.args.row_sin.now c.args.column_cos.now c.args.column_sin.now
           c.requires.rows-cos c.requires.rows-sin c.requires.columns-cos c.requires.columns-sin c.args.s.now c.loop-i.s _ c.args.x c.loop-i.xa c.loop-i.i _ _ _ _
-          c.loop-i-test.true c.loop-i.i.0 c.loop-i.i.1 c.loop-i.invariant.1 c.loop-i.invariant.3
+          c.loop-i-test.true inside.0 inside.1 c.loop-i.invariant.1 c.loop-i.invariant.3
           c.part.ensures c.part-in-loop-i.ensures c.part-in-loop-i-2.ensures c.part-in-loop-i-3.ensures c.rotate_token_axes.ensures,
     )
 

@@ -16,12 +16,11 @@ pub bounds-s-z-in-loop-j : goal.bounds-s-z-in-loop-j
 bounds-s-z-in-loop-j c = simp length-set (omega (arith, c.requires))
 
 pub loop-j-preserved : goal.loop-j-preserved
-loop-j-preserved c =
-    (
-      omega arith,
-      simp length-set c.loop-j.invariant.1,
-      cc (c.loop-j.invariant.2, rotate-step c.args.s.now c.args.cos.now c.args.sin.now c.args.x c.args.half c.loop-j.j (omega arith)),
-    )
+loop-j-preserved c = (
+  omega arith,
+  simp length-set c.loop-j.invariant.1,
+  cc (c.loop-j.invariant.2, rotate-step c.args.s.now c.args.cos.now c.args.sin.now c.args.x c.args.half c.loop-j.j (omega arith)),
+)
 
 pub shape_of-s : goal.shape_of-s
 shape_of-s c = c.loop-j.invariant.1

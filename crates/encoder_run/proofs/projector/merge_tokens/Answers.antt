@@ -36,12 +36,11 @@ bounds-s-x c =
     omega (arith, inside)
 
 pub loop-p-preserved : goal.loop-p-preserved
-loop-p-preserved c =
-    (
-      omega arith,
-      simp length-set c.loop-p.invariant.1,
-      cc (c.loop-p.invariant.2, c.source-i.ensures, merge-turn c.args.s.now c.args.x c.args.y c.args.total c.args.merge c.args.gh c.args.gw c.args.dim c.loop-p.p c.requires (omega arith)),
-    )
+loop-p-preserved c = (
+  omega arith,
+  simp length-set c.loop-p.invariant.1,
+  cc (c.loop-p.invariant.2, c.source-i.ensures, merge-turn c.args.s.now c.args.x c.args.y c.args.total c.args.merge c.args.gh c.args.gw c.args.dim c.loop-p.p c.requires (omega arith)),
+)
 
 pub shape_of-s : goal.shape_of-s
 shape_of-s c = c.loop-p.invariant.1

@@ -36,9 +36,9 @@ overflow_add-at-2 c = omega (arith, c.requires.run_fits.regions.hiddens, c.requi
 
 pub encode-ok-requires : goal.encode-ok-requires
 encode-ok-requires c = record {
-      bound = c.requires.bound;
-      run_fits = c.requires.run_fits;
-    }
+  bound = c.requires.bound;
+  run_fits = c.requires.run_fits;
+}
 
 pub shape_of-scratch-then-ok : goal.shape_of-scratch-then-ok
 shape_of-scratch-then-ok c = c.clear.auto.s ∙ c.encode-ok.auto.scratch

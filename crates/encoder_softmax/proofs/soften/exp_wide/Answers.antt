@@ -27,13 +27,12 @@ unfolding put tab exp_less
 loop-i-init c = search rules
 
 pub loop-i-preserved : goal.loop-i-preserved
-loop-i-preserved c =
-    (
-      omega arith,
-      ap length c.store_sixteen.ensures ∙ length-put _ _ _ ∙ c.loop-i.invariant.1,
-      c.store_sixteen.ensures
-          ∙ more c.args.s.now c.loop-i.s _ c.args.y c.args.n c.loop-i.i 16 c.args.m (omega arith) c.loop-i.invariant.2 (each c.loop-i.s c.sixteen_less-x.result _ (c.args.y + c.loop-i.i) c.args.m c.sixteen_less-x.ensures c.exp_sixteen.ensures),
-    )
+loop-i-preserved c = (
+  omega arith,
+  ap length c.store_sixteen.ensures ∙ length-put _ _ _ ∙ c.loop-i.invariant.1,
+  c.store_sixteen.ensures
+      ∙ more c.args.s.now c.loop-i.s _ c.args.y c.args.n c.loop-i.i 16 c.args.m (omega arith) c.loop-i.invariant.2 (each c.loop-i.s c.sixteen_less-x.result _ (c.args.y + c.loop-i.i) c.args.m c.sixteen_less-x.ensures c.exp_sixteen.ensures),
+)
 
 pub shape_of-s : goal.shape_of-s
 shape_of-s c = c.loop-i.invariant.1

@@ -14,8 +14,7 @@ returns-in-Picture c =
     (salvaged s c.args.patches.now c.args.grid_h c.args.grid_w (length c.args.out.now) (length c.args.list.now) ≡ c.salvage-found.result)
     × (c.salvage-found.new.out ≡ saved_out s c.args.patches.now c.args.grid_h c.args.grid_w (length c.args.list.now) c.args.out.now)
     × (c.salvage-found.new.list ≡ list_out s c.args.patches.now c.args.grid_h c.args.grid_w (length c.args.out.now) c.args.list.now) = let a = c.args in
-    let e = c.settings.ensures in
-    (
+    let e = c.settings.ensures in (
       sym (c.salvage-found.ensures.answer ∙ ap (λ (s : PictureSettings). salvaged s c.args.patches.now c.args.grid_h c.args.grid_w (length c.args.out.now) (length c.args.list.now)) e),
       c.salvage-found.ensures.output ∙ ap (λ (s : PictureSettings). saved_out s c.args.patches.now c.args.grid_h c.args.grid_w (length c.args.list.now) c.args.out.now) e,
       c.salvage-found.ensures.entries ∙ ap (λ (s : PictureSettings). list_out s c.args.patches.now c.args.grid_h c.args.grid_w (length c.args.out.now) c.args.list.now) e,
@@ -31,8 +30,7 @@ returns-in-Refused c =
     (salvaged s c.args.patches.now c.args.grid_h c.args.grid_w (length c.args.out.now) (length c.args.list.now) ≡ c.salvage-found.result)
     × (c.salvage-found.new.out ≡ saved_out s c.args.patches.now c.args.grid_h c.args.grid_w (length c.args.list.now) c.args.out.now)
     × (c.salvage-found.new.list ≡ list_out s c.args.patches.now c.args.grid_h c.args.grid_w (length c.args.out.now) c.args.list.now) = let a = c.args in
-    let e = c.settings.ensures in
-    (
+    let e = c.settings.ensures in (
       sym (c.salvage-found.ensures.answer ∙ ap (λ (s : PictureSettings). salvaged s c.args.patches.now c.args.grid_h c.args.grid_w (length c.args.out.now) (length c.args.list.now)) e),
       c.salvage-found.ensures.output ∙ ap (λ (s : PictureSettings). saved_out s c.args.patches.now c.args.grid_h c.args.grid_w (length c.args.list.now) c.args.out.now) e,
       c.salvage-found.ensures.entries ∙ ap (λ (s : PictureSettings). list_out s c.args.patches.now c.args.grid_h c.args.grid_w (length c.args.out.now) c.args.list.now) e,

@@ -3,7 +3,6 @@ use mathlib.Core.Path.{◌≡◌}
 use Prim.Native.Nat.{◌+◌, ◌-◌, ◌≤◌}
 use lib.ListN.{length, drop}
 use Rattle.json_grammar.specs.inner.Steps.{skip}
-use Rattle.json_grammar.proofs.Picks.{at}
 use Rattle.json_grammar.proofs.scan.blank.Given as goal
 
 abbrev pub invariant-loop-i : goal.invariant-loop-i

@@ -4,7 +4,6 @@ use Prim.Native.Nat.{ℕ, ◌+◌, ◌-◌, ◌≤◌}
 use lib.ListN.{length, drop}
 use Rattle.json_grammar.specs.inner.Machine as M
 use Rattle.json_grammar.specs.inner.Steps.{letters}
-use Rattle.json_grammar.proofs.Picks.{at}
 use Rattle.json_grammar.proofs.scan.word.Given as goal
 
 abbrev pub invariant-loop-j : goal.invariant-loop-j

@@ -5,13 +5,14 @@ use Rattle.json_grammar.proofs.Steps.{told}
 use Rattle.json_read.proofs.Values.{reads-told, parts-told}
 use Rattle.json_members.specs.inner.Turns.{Turn, nameless, valueless, unparted, last, more}
 use Rattle.json_members.proofs.Finding.{named-inside, no-tags}
+use borrow.Enum.Refused.{opened}
 use Rattle.json_members.proofs.member.read_member.Goals as goal
 
 pub returns-in_default : goal.returns-in_default
-returns-in_default c = nameless c.name.ensures (λ e. no-tags c.in_default.in_default-own.keys2 (rw e refl))
+returns-in_default c = nameless c.name.ensures (λ e. no-tags (opened c.in_default.in_default-own.keys2) (rw e refl))
 
 pub returns-in_default-read_value : goal.returns-in_default-read_value
-returns-in_default-read_value c = valueless (told c.in-Past.is c.name.ensures) c.blank-v.ensures c.read_value.ensures (λ e. no-tags c.in_default-read_value.in_default-read_value-own.keys2 (rw e refl))
+returns-in_default-read_value c = valueless (told c.in-Past.is c.name.ensures) c.blank-v.ensures c.read_value.ensures (λ e. no-tags (opened c.in_default-read_value.in_default-read_value-own.keys2) (rw e refl))
 
 pub overflow_add-q : goal.overflow_add-q
 overflow_add-q c =

@@ -3,7 +3,6 @@ use mathlib.Core.Path.{refl, ap}
 use mathlib.Core.List.{[], ◌∷◌}
 use lib.ListN.{get_or}
 use Rattle.json_grammar.specs.inner.Machine as M
-use Rattle.json_grammar.proofs.Picks.{at}
 use Rattle.json_grammar.proofs.Steps.{ends, stops, closes, takes}
 use Rattle.json_read.proofs.Characters.{escape-plain, escape-other}
 use Rattle.json_read.proofs.string.escape.Goals as goal

@@ -5,7 +5,6 @@ use Prim.Native.Nat.{ℕ, ◌<◌}
 use native.Mathlib.Omega.{arith}
 use lib.ListN.{get_or}
 use Rattle.json_grammar.specs.inner.Machine as M
-use Rattle.json_grammar.proofs.Picks.{at}
 use Rattle.json_grammar.proofs.Steps.{ends, stops, closes}
 use Rattle.json_grammar.proofs.Lexing.{class_low, class-high, class-in}
 use Rattle.json_read.proofs.string.one_of.Goals as goal

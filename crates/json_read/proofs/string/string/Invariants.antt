@@ -4,7 +4,6 @@ use mathlib.Core.List.{[], ◌∷◌}
 use Prim.Native.Nat.{ℕ, ◌+◌, ◌-◌, ◌≤◌}
 use lib.ListN.{length, drop}
 use Rattle.json_grammar.specs.inner.Machine as M
-use Rattle.json_grammar.proofs.Picks.{at}
 use Rattle.json_read.proofs.string.string.Given as goal
 
 abbrev pub invariant-loop-i : goal.invariant-loop-i

@@ -16,9 +16,9 @@ shape_of-out-else-i-out c = c.loop-i.invariant.long
 pub returns-else-i-out : goal.returns-else-i-out
 unfolding packed_all
 returns-else-i-out c = record {
-      count = (full c.loop-i.invariant (omega (arith, ltb-false))).0;
-      output = (full c.loop-i.invariant (omega (arith, ltb-false))).1;
-    }
+  count = (full c.loop-i.invariant (omega (arith, ltb-false))).0;
+  output = (full c.loop-i.invariant (omega (arith, ltb-false))).1;
+}
 
 pub shape_of-out-after-loop-i : goal.shape_of-out-after-loop-i
 shape_of-out-after-loop-i c = c.loop-i.invariant.long
@@ -26,6 +26,6 @@ shape_of-out-after-loop-i c = c.loop-i.invariant.long
 pub returns-after-loop-i : goal.returns-after-loop-i
 unfolding packed_all
 returns-after-loop-i c = record {
-      count = (all_read c.loop-i.invariant (omega arith)).0;
-      output = (all_read c.loop-i.invariant (omega arith)).1;
-    }
+  count = (all_read c.loop-i.invariant (omega arith)).0;
+  output = (all_read c.loop-i.invariant (omega arith)).1;
+}

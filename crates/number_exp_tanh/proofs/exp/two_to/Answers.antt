@@ -6,9 +6,9 @@ use Rattle.number_exp_tanh.proofs.exp.two_to.Goals as goal
 
 pub truncating_f64_to_u64-requires : goal.truncating_f64_to_u64-requires
 truncating_f64_to_u64-requires c = record {
-      lower_bound = ((under c.args.k c.if-k.true c.requires).0).0;
-      upper_bound = ((under c.args.k c.if-k.true c.requires).0).1;
-    }
+  lower_bound = ((under c.args.k c.if-k.true c.requires).0).0;
+  upper_bound = ((under c.args.k c.if-k.true c.requires).0).1;
+}
 
 pub overflow_sub-result : goal.overflow_sub-result
 overflow_sub-result c =
@@ -29,9 +29,9 @@ returns-then-k c =
 
 pub truncating_f64_to_u64-requires-2 : goal.truncating_f64_to_u64-requires-2
 truncating_f64_to_u64-requires-2 c = record {
-      lower_bound = ((over c.args.k c.if-k.false c.requires).0).0;
-      upper_bound = ((over c.args.k c.if-k.false c.requires).0).1;
-    }
+  lower_bound = ((over c.args.k c.if-k.false c.requires).0).0;
+  upper_bound = ((over c.args.k c.if-k.false c.requires).0).1;
+}
 
 pub overflow_add-result : goal.overflow_add-result
 overflow_add-result c =

@@ -6,9 +6,9 @@ use Rattle.number_floats.proofs.whole.f64_to_usize.Goals as goal
 pub truncating_f64_to_u64-requires : goal.truncating_f64_to_u64-requires
 unfolding of_bits
 truncating_f64_to_u64-requires c = let t = cast-in 64 c.args.x (lit≤ tt) c.if-x.true c.if-x-2.true in record {
-      lower_bound = t.0;
-      upper_bound = t.1;
-    }
+  lower_bound = t.0;
+  upper_bound = t.1;
+}
 
 pub returns-then-x : goal.returns-then-x
 unfolding of_bits

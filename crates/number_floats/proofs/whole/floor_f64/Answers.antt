@@ -6,9 +6,9 @@ use Rattle.number_floats.proofs.whole.floor_f64.Goals as goal
 
 pub truncating_f64_to_u64-requires : goal.truncating_f64_to_u64-requires
 truncating_f64_to_u64-requires c = record {
-      lower_bound = ((cut_high c.args.y c.if-y.true c.if-y-2.true).0).0;
-      upper_bound = ((cut_high c.args.y c.if-y.true c.if-y-2.true).0).1;
-    }
+  lower_bound = ((cut_high c.args.y c.if-y.true c.if-y-2.true).0).0;
+  upper_bound = ((cut_high c.args.y c.if-y.true c.if-y-2.true).0).1;
+}
 
 pub returns-then-y-2 : goal.returns-then-y-2
 returns-then-y-2 c =

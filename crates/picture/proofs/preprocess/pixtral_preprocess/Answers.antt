@@ -7,16 +7,16 @@ use Rattle.picture_limits.specs.Settings.{allowed}
 use Rattle.picture_samples.specs.Samples.{channels_allowed, value_of}
 use Rattle.picture_samples.proofs.Channels.{allowed_of}
 use Rattle.picture.specs.Preprocess.{preprocessed}
-use Rattle.picture.proofs.Numbers.{settled}
+use Rattle.picture.proofs.Numbers.{numbered}
 use Rattle.picture.proofs.preprocess.pixtral_preprocess.Goals as goal
 
 pub returns-then-not-settings_allowed : goal.returns-then-not-settings_allowed
 unfolding preprocessed
 returns-then-not-settings_allowed c =
     let e : allowed c.args.s ≡ false = sym c.settings_allowed.ensures ∙ not-true _ c.if-not-settings_allowed.true-raw in record {
-      answer = (settled c.args.s (length c.args.rgb.now) c.args.height c.args.width (length c.args.out.now) (simp e) (simp e)).0;
-      output = (settled c.args.s (length c.args.rgb.now) c.args.height c.args.width (length c.args.out.now) (simp e) (simp e)).1.0;
-      numbers = (settled c.args.s (length c.args.rgb.now) c.args.height c.args.width (length c.args.out.now) (simp e) (simp e)).1.1;
+      answer = simp e;
+      output = simp e;
+      numbers = numbered c.args.s (length c.args.rgb.now) c.args.height c.args.width (length c.args.out.now) _ (simp e);
     }
 
 pub returns-then-not-channels_allowed : goal.returns-then-not-channels_allowed
@@ -26,9 +26,9 @@ returns-then-not-channels_allowed c =
     let channels : c.channels_allowed.result ≡ channels_allowed (value_of c.args.s) = c.channels_allowed.ensures ∙ allowed_of c.args.s.mean c.args.s.deviation _ c.samples-t.ensures in
     let e = settings in
     let d : channels_allowed (value_of c.args.s) ≡ false = sym (channels) ∙ not-true _ c.if-not-channels_allowed.true-raw in record {
-      answer = (settled c.args.s (length c.args.rgb.now) c.args.height c.args.width (length c.args.out.now) (simp (e, d)) (simp (e, d))).0;
-      output = (settled c.args.s (length c.args.rgb.now) c.args.height c.args.width (length c.args.out.now) (simp (e, d)) (simp (e, d))).1.0;
-      numbers = (settled c.args.s (length c.args.rgb.now) c.args.height c.args.width (length c.args.out.now) (simp (e, d)) (simp (e, d))).1.1;
+      answer = simp (e, d);
+      output = simp (e, d);
+      numbers = numbered c.args.s (length c.args.rgb.now) c.args.height c.args.width (length c.args.out.now) _ (simp (e, d));
     }
 
 pub preprocess_by-requires : goal.preprocess_by-requires
@@ -38,7 +38,7 @@ preprocess_by-requires c =
 
 pub returns : goal.returns
 returns c = record {
-      answer = (settled c.args.s (length c.args.rgb.now) c.args.height c.args.width (length c.args.out.now) c.preprocess_by.ensures.answer c.preprocess_by.ensures.output).0;
-      output = (settled c.args.s (length c.args.rgb.now) c.args.height c.args.width (length c.args.out.now) c.preprocess_by.ensures.answer c.preprocess_by.ensures.output).1.0;
-      numbers = (settled c.args.s (length c.args.rgb.now) c.args.height c.args.width (length c.args.out.now) c.preprocess_by.ensures.answer c.preprocess_by.ensures.output).1.1;
-    }
+  answer = c.preprocess_by.ensures.answer;
+  output = c.preprocess_by.ensures.output;
+  numbers = numbered c.args.s (length c.args.rgb.now) c.args.height c.args.width (length c.args.out.now) _ c.preprocess_by.ensures.answer;
+}

@@ -9,6 +9,7 @@ use borrow.Author.Tests.{not-true, not-false, eq-eqb, ne_eqb, le-leb, lt-leb}
 use lib.ListN.{length}
 use lib.Ieee.{Float}
 use Rattle.buffers.specs.Region.{over}
+use Rattle.picture_limits.specs.declared.PictureSettings.{PictureSettings}
 use Rattle.picture_limits.specs.Settings.{sided, align}
 use Rattle.picture_limits.specs.Sides.{kept, resized, th_of, tw_of}
 use Rattle.picture_limits.specs.Places.{patch_floats}
@@ -16,7 +17,7 @@ use Rattle.picture.specs.Preprocess.{floats_of, preprocessed}
 use Rattle.picture.proofs.Accepts.{Accepts, accepted, written}
 use Rattle.picture_limits.proofs.Places.{square, times}
 use Rattle.picture_limits.proofs.Sides.{Allowed, allowed-says, sided-says, side-le, Spans, spans}
-use Rattle.picture_samples.specs.Samples.{channels_allowed, value, entry, value_of}
+use Rattle.picture_samples.specs.Samples.{channels_allowed, sample_table, value, entry, value_of}
 use Rattle.picture_samples.proofs.Channels.{value-of, allowed_of}
 use Rattle.picture_resize.specs.Resize.{resized_at}
 use Rattle.picture_resize.proofs.Same.{byte-below}
@@ -28,9 +29,9 @@ use Rattle.picture_patches.proofs.Fits.{fits-where}
 use Rattle.picture.proofs.preprocess.preprocess_by.Goals as goal
 
 -- the table's values are the samples
-sampled : (c : goal.Start) (p gh gw : ℕ) (v : ℕ → ℕ → ℕ → ℕ) → ((y x k : ℕ) → v y x k < 256)
-    → patches p gh gw (λ y x k. value (entry c.args.t.now) k (v y x k)) ≡ patches p gh gw (λ y x k. value_of c.args.s k (v y x k))
-sampled c p gh gw v h = patches-ext p gh gw _ _ (λ y x k _ _ hk. value-of c.args.s.mean c.args.s.deviation c.args.t.now c.requires.2 k (v y x k) hk (h y x k))
+sampled : (s : PictureSettings) (t : List ℕ) → t ≡ sample_table s.mean s.deviation → (p gh gw : ℕ) (v : ℕ → ℕ → ℕ → ℕ) → ((y x k : ℕ) → v y x k < 256)
+    → patches p gh gw (λ y x k. value (entry t) k (v y x k)) ≡ patches p gh gw (λ y x k. value_of s k (v y x k))
+sampled s t e p gh gw v h = patches-ext p gh gw _ _ (λ y x k _ _ hk. value-of s.mean s.deviation t e k (v y x k) hk (h y x k))
 
 pub returns-then-not-sides_allowed : goal.returns-then-not-sides_allowed
 unfolding preprocessed
@@ -175,13 +176,13 @@ returns c =
     let channels : channels_allowed (value_of c.args.s) ≡ true = let a = c.args in sym (allowed_of c.args.s.mean c.args.s.deviation c.args.t.now c.requires.2) ∙ c.requires.1 in
     let counted : c.resized_side-th.result / c.args.s.patch_size * (c.resized_side-tw.result / c.args.s.patch_size) * patch_floats c.args.s.patch_size ≡ floats_of c.args.s c.args.height c.args.width = cc (c.resized_side-th.ensures, c.resized_side-tw.ensures, c.longer-m.ensures) in
     let asked : Accepts c.args.s (length c.args.rgb.now) c.args.height c.args.width (length c.args.out.now) = record {
-  settings = c.requires.0;
-  channels = channels;
-  sides = sides;
-  bytes = c.if-rgb-height.false;
-  image = c.if-n-a.false;
-  fits = omega (arith, c.if-out-floats.false, counted);
-} in
+      settings = c.requires.0;
+      channels = channels;
+      sides = sides;
+      bytes = c.if-rgb-height.false;
+      image = c.if-n-a.false;
+      fits = omega (arith, c.if-out-floats.false, counted);
+    } in
     let known : Allowed c.args.s.patch_size c.args.s.spatial_merge_size c.args.s.image_size = allowed-says c.args.s c.requires.0 in
     let tall : Spans (c.resized_side-th.result / c.args.s.patch_size) c.args.s.patch_size = let s = c.args.s in
     let k = known in
@@ -223,6 +224,6 @@ returns c =
           ∙ W.written (entry c.args.t.now) c.args.rgb.now h w _ _ p c.args.out.now c.requires.1 (handed)
           ∙ ap (λ (t : ℕ). over (resized_patches v c.args.rgb.now h w t c.resized_side-tw.result p) c.args.out.now) y
           ∙ ap (λ (t : ℕ). over (resized_patches v c.args.rgb.now h w th t p) c.args.out.now) x
-          ∙ ap (λ (l : List Float). over l c.args.out.now) (sampled r p (th / p) (tw / p) (resized_at c.args.rgb.now h w th tw) (byte-below c.args.rgb.now h w th tw))
+          ∙ ap (λ (l : List Float). over l c.args.out.now) (sampled c.args.s c.args.t.now c.requires.2 p (th / p) (tw / p) (resized_at c.args.rgb.now h w th tw) (byte-below c.args.rgb.now h w th tw))
           ∙ written c.args.s c.args.rgb.now h w c.args.out.now q;
     }

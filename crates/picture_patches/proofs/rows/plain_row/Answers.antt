@@ -29,12 +29,11 @@ bounds-rgb-from c =
     inside
 
 pub loop-j-preserved : goal.loop-j-preserved
-loop-j-preserved c =
-    (
-      omega arith,
-      simp length-set c.loop-j.invariant.1,
-      tab-step c.args.out.now c.loop-j.out c.args.at c.loop-j.j (λ k. value (entry c.args.t.now) c.args.c (get_or c.args.rgb.now (c.args.from + k * 3) 0)) c.sample_of.result c.loop-j.invariant.2 c.sample_of.ensures,
-    )
+loop-j-preserved c = (
+  omega arith,
+  simp length-set c.loop-j.invariant.1,
+  tab-step c.args.out.now c.loop-j.out c.args.at c.loop-j.j (λ k. value (entry c.args.t.now) c.args.c (get_or c.args.rgb.now (c.args.from + k * 3) 0)) c.sample_of.result c.loop-j.invariant.2 c.sample_of.ensures,
+)
 
 pub shape_of-out : goal.shape_of-out
 shape_of-out c = c.loop-j.invariant.1

@@ -26,15 +26,14 @@ pub loop-i-smaller : goal.loop-i-smaller
 loop-i-smaller c = omega (arith, c.loop-i-test.true)
 
 pub loop-i-preserved : goal.loop-i-preserved
-loop-i-preserved c =
-    (
-      omega (arith, c.loop-i-test.true),
-      c.strip_row.auto.left ∙ c.loop-i.invariant.1,
-      c.strip_row.auto.right ∙ c.loop-i.invariant.2,
-      c.strip_row.auto.band ∙ c.loop-i.invariant.3,
-      c.strip_row.ensures.held,
-      banded-step c.args.rgb.now c.args.f c.args.r c.args.x c.args.n c.loop-i.i c.loop-i.band _ c.requires.3.columns c.loop-i.invariant.5 c.strip_row.ensures.row_at c.strip_row.ensures.by_index,
-    )
+loop-i-preserved c = (
+  omega (arith, c.loop-i-test.true),
+  c.strip_row.auto.left ∙ c.loop-i.invariant.1,
+  c.strip_row.auto.right ∙ c.loop-i.invariant.2,
+  c.strip_row.auto.band ∙ c.loop-i.invariant.3,
+  c.strip_row.ensures.held,
+  banded-step c.args.rgb.now c.args.f c.args.r c.args.x c.args.n c.loop-i.i c.loop-i.band _ c.requires.3.columns c.loop-i.invariant.5 c.strip_row.ensures.row_at c.strip_row.ensures.by_index,
+)
 
 pub shape_of-left : goal.shape_of-left
 shape_of-left c = c.loop-i.invariant.1

@@ -59,8 +59,8 @@ returns c =
     let e = c.mix_row.ensures ∙ ap (λ (m : Near). put c.args.band.now c.args.at (mixed_row l r (m.low % 2 * span) (m.high % 2 * span) (sub binary64 one64 m.part) m.part k)) c.near_at-y.ensures in record {
       held = c.hold-2.ensures.held;
       row_at = row-mixed c.args.rgb.now c.args.f c.args.r c.args.x c.args.n c.hold-2.new.held l r c.requires.0.frame.tall c.hold-2.ensures.held
-            (ap (λ (s : List ℕ). get_or s (y.low % 2) 0) (both) ∙ first-stays c.args.held.now y.low y.high c.requires.4.two N.0 N.1)
-            (ap (λ (s : List ℕ). get_or s (y.high % 2) 0) (both) ∙ second_is c.args.held.now y.low y.high c.requires.4.two)
-            c.args.band.now _ c.args.at (omega (arith, c.requires.5)) e;
+          (ap (λ (s : List ℕ). get_or s (y.low % 2) 0) (both) ∙ first-stays c.args.held.now y.low y.high c.requires.4.two N.0 N.1)
+          (ap (λ (s : List ℕ). get_or s (y.high % 2) 0) (both) ∙ second_is c.args.held.now y.low y.high c.requires.4.two)
+          c.args.band.now _ c.args.at (omega (arith, c.requires.5)) e;
       by_index = (λ i h. ap (λ (s : List ℕ). get_or s i 0) e ∙ get_or-put c.args.band.now c.args.at (mixed_row l r (y.low % 2 * span) (y.high % 2 * span) (sub binary64 one64 y.part) y.part k) i 0 (before (omega arith)));
     }

@@ -112,12 +112,11 @@ overflow_add-at c =
     omega (arith, c.requires.6, c.well_formed, c.own_columns-n.ensures, own-le c.args.f.view c.args.f.p c.args.r c.args.x)
 
 pub zero_row-requires : goal.zero_row-requires
-zero_row-requires c =
-    (
-      omega (arith, c.requires.6, c.own_columns-n.ensures, own-le c.args.f.view c.args.f.p c.args.r c.args.x, c.plain_row.auto.out),
-      c.requires.5,
-      c.requires.1,
-    )
+zero_row-requires c = (
+  omega (arith, c.requires.6, c.own_columns-n.ensures, own-le c.args.f.view c.args.f.p c.args.r c.args.x, c.plain_row.auto.out),
+  c.requires.5,
+  c.requires.1,
+)
 
 pub returns : goal.returns
 returns c =

@@ -21,9 +21,9 @@ shape_of-right c = ⊎_elim (λ w. ap length w.right-is ∙ w.weigh_row.auto.rig
 
 pub returns : goal.returns
 returns c = record {
-      held_after = refl;
-      held = ⊎_elim
-          (λ w. weighed-held c.args.rgb.now c.args.f c.args.x c.args.n c.args.held.now c.args.left.now c.args.right.now c.requires.4 c.requires.5 c.args.y (w.left-is ∙ w.weigh_row.ensures.left_after) (w.right-is ∙ w.weigh_row.ensures.right_after))
-          (λ w. there-held c.args.rgb.now c.args.f c.args.x c.args.n c.args.held.now c.args.left.now c.args.right.now c.requires.4 c.requires.5 c.args.y w.if-held-s.false w.left-is w.right-is)
-          c.if-held-s.branch-raw;
-    }
+  held_after = refl;
+  held = ⊎_elim
+      (λ w. weighed-held c.args.rgb.now c.args.f c.args.x c.args.n c.args.held.now c.args.left.now c.args.right.now c.requires.4 c.requires.5 c.args.y (w.left-is ∙ w.weigh_row.ensures.left_after) (w.right-is ∙ w.weigh_row.ensures.right_after))
+      (λ w. there-held c.args.rgb.now c.args.f c.args.x c.args.n c.args.held.now c.args.left.now c.args.right.now c.requires.4 c.requires.5 c.args.y w.if-held-s.false w.left-is w.right-is)
+      c.if-held-s.branch-raw;
+}

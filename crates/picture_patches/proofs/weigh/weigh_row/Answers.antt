@@ -76,8 +76,7 @@ loop-j-smaller c = omega (arith, c.loop-j-test.true)
 
 pub loop-j-preserved : goal.loop-j-preserved
 loop-j-preserved c =
-    let s = c.args.rgb.now in
-    (
+    let s = c.args.rgb.now in (
       omega (arith, c.loop-j-test.true),
       omega (arith, c.loop-j.invariant.1),
       c.weigh_pixel.auto.out ∙ c.loop-j.invariant.2,

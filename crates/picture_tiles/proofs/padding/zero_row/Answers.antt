@@ -1,6 +1,6 @@
 -- `picture_tiles::padding::zero_row` meets its contract. The invariant: the pixels passed behind the view's are byte 0's. Assumes nothing.
 use mathlib.Core.Path.{◌≡◌, sym, ap, ◌∙◌}
-use mathlib.Core.Bool.{true}
+use mathlib.Core.Bool.{Bool, true}
 use Prim.Native.Nat.{ℕ, ◌+◌, ◌*◌, ◌≤◌, ◌<◌}
 use native.Mathlib.Omega.{arith}
 use native.Mathlib.Decide.{dec_lt}
@@ -12,6 +12,14 @@ use Rattle.picture_samples.specs.Samples.{entry}
 use Rattle.picture_tiles.specs.inner.Padding.{zero_pixel}
 use Rattle.picture_tiles.proofs.Paddings.{pixel-in, zero_is, own-le, row-passes, row-fails}
 use Rattle.picture_tiles.proofs.padding.zero_row.Goals as goal
+
+-- what holds from o on below x, and at x, holds below x + 1
+more : (f : ℕ → Bool) (x o : ℕ) → ((j : ℕ) → o ≤ j → j < x → f j ≡ true) → f x ≡ true → (j : ℕ) → o ≤ j → j < x + 1 → f j ≡ true
+more f x o i e j h k = go (dec_lt j x)
+  where
+    go : Dec (j < x) → f j ≡ true
+    go (yes d) = i j h d
+    go (no d) = let q : j ≡ x = omega arith in rw q e
 
 pub overflow_mul-n : goal.overflow_mul-n
 overflow_mul-n c = omega (arith, square c.args.p c.requires.1)
@@ -54,15 +62,9 @@ loop-x-preserved c =
     let l = c.loop-x in (
       omega arith,
       omega arith,
-      λ j h k. more c j h k (dec_lt j c.loop-x.x),
+      more (λ j. zero_pixel (entry c.args.t.now) (c.args.p * c.args.p) c.args.patches.now (sample_place c.args.p c.args.gw c.args.y j 0)) c.loop-x.x _ c.loop-x.invariant.2
+          (sym told ∙ not-false _ c.if-not-zero_pixel.false-raw),
     )
-  where
-    more : (c : tie.Else1 invariant-loop decreases-loop) → let a = c.args in let l = c.loop-x in
-        (j : ℕ) → c.own_width-x.result ≤ j → j < c.loop-x.x + 1 → Dec (j < c.loop-x.x) → zero_pixel (entry c.args.t.now) (c.args.p * c.args.p) c.args.patches.now (sample_place c.args.p c.args.gw c.args.y j 0) ≡ true
-    more c j h k (yes d) = c.loop-x.invariant.2 j h d
-    more c j h k (no d) =
-        let e : j ≡ c.loop-x.x = omega arith in
-        rw e (sym (told) ∙ not-false _ c.if-not-zero_pixel.false-raw)
 
 pub returns : goal.returns
 returns c =

@@ -34,6 +34,6 @@ preprocess_tile_by-requires c =
 
 pub returns : goal.returns
 returns c = record {
-      answer = c.preprocess_tile_by.ensures.0;
-      output = c.preprocess_tile_by.ensures.1;
-    }
+  answer = c.preprocess_tile_by.ensures.answer;
+  output = c.preprocess_tile_by.ensures.output;
+}

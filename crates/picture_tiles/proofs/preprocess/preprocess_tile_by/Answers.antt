@@ -208,10 +208,10 @@ pub returns : goal.returns
 returns c =
     let tall : let a = c.args in
     c.grid_side-gh.result ≡ grid_h c.args.s c.args.height c.args.width c.args.index = let s = c.args.s in
-    c.grid_side-gh.ensures ∙ ap (λ (v : View). up (align s) c.tile_view-v.height / c.args.s.patch_size) c.tile_view-v.ensures in
+    c.grid_side-gh.ensures ∙ ap (λ (v : View). up (align s) v.height / c.args.s.patch_size) c.tile_view-v.ensures in
     let wide : let a = c.args in
     c.grid_side-gw.result ≡ grid_w c.args.s c.args.width c.args.index = let s = c.args.s in
-    c.grid_side-gw.ensures ∙ ap (λ (v : View). up (align s) c.tile_view-v.width / c.args.s.patch_size) c.tile_view-v.ensures in
+    c.grid_side-gw.ensures ∙ ap (λ (v : View). up (align s) v.width / c.args.s.patch_size) c.tile_view-v.ensures in
     let channels : channels_allowed (value_of c.args.s) ≡ true = let a = c.args in sym (allowed_of c.args.s.mean c.args.s.deviation c.args.t.now c.requires.2) ∙ c.requires.1 in
     let sides : let a = c.args in sided c.args.height c.args.width ≡ true = sym c.sides_allowed.ensures ∙ not-false _ c.if-not-sides_allowed.false-raw in
     let ready : Ready c.args.s = record { settings = c.requires.0; image = c.if-s-p.false } in

@@ -34,6 +34,6 @@ restore_tile_by-requires c =
 
 pub returns : goal.returns
 returns c = record {
-      answer = c.restore_tile_by.ensures.0;
-      output = c.restore_tile_by.ensures.1;
-    }
+  answer = c.restore_tile_by.ensures.answer;
+  output = c.restore_tile_by.ensures.output;
+}

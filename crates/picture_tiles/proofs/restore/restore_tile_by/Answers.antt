@@ -22,7 +22,7 @@ use Rattle.picture_tiles.specs.declared.Tiled as D
 use Rattle.picture_tiles.specs.Answer.{tile_floats, tile_of, untiled, bytes_out}
 use Rattle.picture_tiles.proofs.Bounds.{Inside, inside_of}
 use Rattle.picture_tiles.specs.Undo.{Given}
-use Rattle.picture_tiles.proofs.Answers.{given, padded-is, restored-out}
+use Rattle.picture_tiles.proofs.Answers.{given, padded-is, back_is, restored-out}
 use Rattle.picture_tiles.proofs.restore.restore_tile_by.Goals as goal
 
 pub returns-then-not-sides_allowed : goal.returns-then-not-sides_allowed
@@ -208,10 +208,10 @@ zero_rows-requires c =
     let inside : let a = c.args in Inside c.args.s c.args.height c.args.width c.args.index = inside_of _ _ _ _ (ready) (ltb-true _ _ (within)) in
     let tall : let a = c.args in
     c.grid_side-gh.result ≡ grid_h c.args.s c.args.height c.args.width c.args.index = let s = c.args.s in
-    c.grid_side-gh.ensures ∙ ap (λ (v : View). up (align s) c.tile_view-v.ensures.height / c.args.s.patch_size) c.tile_view-v.ensures in
+    c.grid_side-gh.ensures ∙ ap (λ (v : View). up (align s) v.height / c.args.s.patch_size) c.tile_view-v.ensures in
     let wide : let a = c.args in
     c.grid_side-gw.result ≡ grid_w c.args.s c.args.width c.args.index = let s = c.args.s in
-    c.grid_side-gw.ensures ∙ ap (λ (v : View). up (align s) c.tile_view-v.ensures.width / c.args.s.patch_size) c.tile_view-v.ensures in
+    c.grid_side-gw.ensures ∙ ap (λ (v : View). up (align s) v.width / c.args.s.patch_size) c.tile_view-v.ensures in
     let channels : channels_allowed (value_of c.args.s) ≡ true = let a = c.args in sym (allowed_of c.args.s.mean c.args.s.deviation c.args.t.now c.requires.2) ∙ c.requires.1 in
     let sides : let a = c.args in sided c.args.height c.args.width ≡ true = sym c.sides_allowed.ensures ∙ not-false _ c.if-not-sides_allowed.false-raw in
     let counted : let a = c.args in
@@ -274,27 +274,64 @@ returns-then-not-zero_rows c =
       output = rw g refl;
     }
 
--- the answer and the output, by what was found
-ends : (c : goal.After-slice_known-2-1) → let a = c.args in
-    let g = c.before.before.before.before.before.before.before.before in
+pub returns-then-not-restore_view : goal.returns-then-not-restore_view
+returns-then-not-restore_view c =
+    let tall : let a = c.args in
+    c.grid_side-gh.result ≡ grid_h c.args.s c.args.height c.args.width c.args.index = let s = c.args.s in
+    c.grid_side-gh.ensures ∙ ap (λ (v : View). up (align s) v.height / c.args.s.patch_size) c.tile_view-v.ensures in
+    let wide : let a = c.args in
+    c.grid_side-gw.result ≡ grid_w c.args.s c.args.width c.args.index = let s = c.args.s in
+    c.grid_side-gw.ensures ∙ ap (λ (v : View). up (align s) v.width / c.args.s.patch_size) c.tile_view-v.ensures in
+    let channels : channels_allowed (value_of c.args.s) ≡ true = let a = c.args in sym (allowed_of c.args.s.mean c.args.s.deviation c.args.t.now c.requires.2) ∙ c.requires.1 in
+    let sides : let a = c.args in sided c.args.height c.args.width ≡ true = sym c.sides_allowed.ensures ∙ not-false _ c.if-not-sides_allowed.false-raw in
+    let ready : Ready c.args.s = record { settings = c.requires.0; image = c.if-s-p.false } in
+    let within : let a = c.args in in_cut c.args.s c.args.height c.args.width c.args.index ≡ true = sym c.in_cut.ensures ∙ not-false _ c.if-not-in_cut.false-raw in
+    let counted : let a = c.args in
+    c.grid_side-gh.result * c.grid_side-gw.result * patch_floats c.args.s.patch_size ≡ tile_floats c.args.s c.args.height c.args.width c.args.index = rw (tall, wide) refl in
+    let asked : let a = c.args in
+    Given c.args.s (length c.args.patches.now) c.args.height c.args.width c.args.index (length c.args.out.now) = record {
+      ready = ready;
+      channels = channels;
+      sides = sides;
+      cut = ltb-true _ _ (within);
+      samples = c.if-patches-floats.false ∙ counted;
+      space = c.if-out-height.false;
+    } in
+    let padding : let a = c.args in
+    c.zero_rows.result ≡ padded (pattern_of c.args.s) c.args.s c.args.patches.now c.args.height c.args.width c.args.index = let x = c.before.before.before.before.before.before.before in
+    let r = c.before.before.before.before.before.before.before.before.before.before.before.before.before.before.before.before.before.before.before.before.before in
+    let a = c.args in
+    let g = c.before.before.before.before.before.before.before.before.before in
+    c.zero_rows.ensures
+    ∙ rw (tall, wide, c.tile_view-v.ensures) (padded-is c.args.s c.args.t.now c.requires.2 c.args.patches.now c.args.height c.args.width c.args.index (length c.args.out.now) (asked)) in
+    let passed : let a = c.args in
+    padded (pattern_of c.args.s) c.args.s c.args.patches.now c.args.height c.args.width c.args.index ≡ true = sym (padding) ∙ not-false _ c.if-not-zero_rows.false-raw in
+    let told : let a = c.args in
+    c.restore_view.result ≡ tile_known (pattern_of c.args.s) c.args.s c.args.patches.now c.args.height c.args.width c.args.index = let y = c.before.before.before.before.before in
+    let x = c.before.before.before.before.before.before.before in
+    let r = c.before.before.before.before.before.before.before.before.before.before.before.before.before.before.before.before.before.before.before.before.before in
+    let a = c.args in
+    let g = c.before.before.before.before.before.before.before.before.before in
+    c.restore_view.ensures.answer
+    ∙ rw (tall, wide, c.tile_view-v.ensures)
+    (back_is c.args.s c.args.t.now c.requires.2 c.args.patches.now c.args.height c.args.width c.args.index (length c.args.out.now) (asked)
+    ∙ sym (ap (λ (b : Bool). known (pattern_of c.args.s) c.args.s.patch_size c.args.patches.now && b) (passed) ∙ and-true (known (pattern_of c.args.s) c.args.s.patch_size c.args.patches.now))) in
+    let ends : let a = c.args in
+    let g = c.before.before.before.before.before.before.before.before.before in
     (b : Bool) → c.restore_view.result ≡ b
     → (untiled c.args.s c.args.patches.now c.args.height c.args.width c.args.index (length c.args.out.now) ≡ cond b (tile_of c.args.s c.args.height c.args.width c.args.index) (D.Tiled.Refused Sample))
-    × (view_out (entry c.args.t.now) c.args.s.patch_size c.grid_side-gh.result c.grid_side-gw.result c.args.patches.now c.tile_view-v.result c.args.height c.args.width c.args.out.now ≡ bytes_out c.args.s c.args.patches.now c.args.height c.args.width c.args.index c.args.out.now)
-ends c b e =
-    let v = c.before.before in
-    let y = c.before.before.before.before in
-    let x = c.before.before.before.before.before.before in
+    × (view_out (entry c.args.t.now) c.args.s.patch_size c.grid_side-gh.result c.grid_side-gw.result c.args.patches.now c.tile_view-v.result c.args.height c.args.width c.args.out.now ≡ bytes_out c.args.s c.args.patches.now c.args.height c.args.width c.args.index c.args.out.now) = λ b e. let y = c.before.before.before.before.before in
+    let x = c.before.before.before.before.before.before.before in
+    let r = c.before.before.before.before.before.before.before.before.before.before.before.before.before.before.before.before.before.before.before.before.before in
     let a = c.args in
-    let g = c.before.before.before.before.before.before.before.before in
-    let q = asked x in
-    let k = sym (told v) ∙ e in
-    let n : known (pattern_of c.args.s) c.args.s.patch_size c.args.patches.now ≡ b = sym (ap (λ (t : Bool). known (pattern_of c.args.s) c.args.s.patch_size c.args.patches.now && t) (passed y) ∙ and-true (known (pattern_of c.args.s) c.args.s.patch_size c.args.patches.now)) ∙ k in (
+    let g = c.before.before.before.before.before.before.before.before.before in
+    let q = asked in
+    let k = sym (told) ∙ e in
+    let n : known (pattern_of c.args.s) c.args.s.patch_size c.args.patches.now ≡ b = sym (ap (λ (t : Bool). known (pattern_of c.args.s) c.args.s.patch_size c.args.patches.now && t) (passed) ∙ and-true (known (pattern_of c.args.s) c.args.s.patch_size c.args.patches.now)) ∙ k in (
       given c.args.s c.args.patches.now c.args.height c.args.width c.args.index (length c.args.out.now) q b k,
-      rw (tall g, wide g, c.tile_view-v.ensures) (restored-out c.args.s c.args.t.now c.requires.2 c.args.patches.now c.args.height c.args.width c.args.index (length c.args.out.now) q c.args.out.now b refl k n),
-    )
-
-pub returns-then-not-restore_view : goal.returns-then-not-restore_view
-returns-then-not-restore_view c = let z = ends c.before false (not-true _ c.if-not-restore_view.true-raw) in record {
+      rw (tall, wide, c.tile_view-v.ensures) (restored-out c.args.s c.args.t.now c.requires.2 c.args.patches.now c.args.height c.args.width c.args.index (length c.args.out.now) q c.args.out.now b refl k n),
+    ) in
+    let z = ends false (not-true _ c.if-not-restore_view.true-raw) in record {
       answer = sym z.0;
       output = c.restore_view.ensures.output ∙ z.1;
     }
@@ -307,7 +344,58 @@ returns c =
     let wide : let a = c.args in
     c.grid_side-gw.result ≡ grid_w c.args.s c.args.width c.args.index = let s = c.args.s in
     c.grid_side-gw.ensures ∙ ap (λ (v : View). up (align s) v.width / c.args.s.patch_size) c.tile_view-v.ensures in
-    let z = ends c.before true (not-false _ c.if-not-restore_view.false-raw) in record {
+    let channels : channels_allowed (value_of c.args.s) ≡ true = let a = c.args in sym (allowed_of c.args.s.mean c.args.s.deviation c.args.t.now c.requires.2) ∙ c.requires.1 in
+    let sides : let a = c.args in sided c.args.height c.args.width ≡ true = sym c.sides_allowed.ensures ∙ not-false _ c.if-not-sides_allowed.false-raw in
+    let ready : Ready c.args.s = record { settings = c.requires.0; image = c.if-s-p.false } in
+    let within : let a = c.args in in_cut c.args.s c.args.height c.args.width c.args.index ≡ true = sym c.in_cut.ensures ∙ not-false _ c.if-not-in_cut.false-raw in
+    let counted : let a = c.args in
+    c.grid_side-gh.result * c.grid_side-gw.result * patch_floats c.args.s.patch_size ≡ tile_floats c.args.s c.args.height c.args.width c.args.index = rw (tall, wide) refl in
+    let asked : let a = c.args in
+    Given c.args.s (length c.args.patches.now) c.args.height c.args.width c.args.index (length c.args.out.now) = record {
+      ready = ready;
+      channels = channels;
+      sides = sides;
+      cut = ltb-true _ _ (within);
+      samples = c.if-patches-floats.false ∙ counted;
+      space = c.if-out-height.false;
+    } in
+    let padding : let a = c.args in
+    c.zero_rows.result ≡ padded (pattern_of c.args.s) c.args.s c.args.patches.now c.args.height c.args.width c.args.index = let x = c.before.before.before.before.before.before.before in
+    let r = c.before.before.before.before.before.before.before.before.before.before.before.before.before.before.before.before.before.before.before.before.before in
+    let a = c.args in
+    let g = c.before.before.before.before.before.before.before.before.before in
+    c.zero_rows.ensures
+    ∙ rw (tall, wide, c.tile_view-v.ensures) (padded-is c.args.s c.args.t.now c.requires.2 c.args.patches.now c.args.height c.args.width c.args.index (length c.args.out.now) (asked)) in
+    let passed : let a = c.args in
+    padded (pattern_of c.args.s) c.args.s c.args.patches.now c.args.height c.args.width c.args.index ≡ true = sym (padding) ∙ not-false _ c.if-not-zero_rows.false-raw in
+    let told : let a = c.args in
+    c.restore_view.result ≡ tile_known (pattern_of c.args.s) c.args.s c.args.patches.now c.args.height c.args.width c.args.index = let y = c.before.before.before.before.before in
+    let x = c.before.before.before.before.before.before.before in
+    let r = c.before.before.before.before.before.before.before.before.before.before.before.before.before.before.before.before.before.before.before.before.before in
+    let a = c.args in
+    let g = c.before.before.before.before.before.before.before.before.before in
+    c.restore_view.ensures.answer
+    ∙ rw (tall, wide, c.tile_view-v.ensures)
+    (back_is c.args.s c.args.t.now c.requires.2 c.args.patches.now c.args.height c.args.width c.args.index (length c.args.out.now) (asked)
+    ∙ sym (ap (λ (b : Bool). known (pattern_of c.args.s) c.args.s.patch_size c.args.patches.now && b) (passed) ∙ and-true (known (pattern_of c.args.s) c.args.s.patch_size c.args.patches.now))) in
+    let ends : let a = c.args in
+    let g = c.before.before.before.before.before.before.before.before.before in
+    (b : Bool) → c.restore_view.result ≡ b
+    → (untiled c.args.s c.args.patches.now c.args.height c.args.width c.args.index (length c.args.out.now) ≡ cond b (tile_of c.args.s c.args.height c.args.width c.args.index) (D.Tiled.Refused Sample))
+    × (view_out (entry c.args.t.now) c.args.s.patch_size c.grid_side-gh.result c.grid_side-gw.result c.args.patches.now c.tile_view-v.result c.args.height c.args.width c.args.out.now ≡ bytes_out c.args.s c.args.patches.now c.args.height c.args.width c.args.index c.args.out.now) = λ b e. let y = c.before.before.before.before.before in
+    let x = c.before.before.before.before.before.before.before in
+    let r = c.before.before.before.before.before.before.before.before.before.before.before.before.before.before.before.before.before.before.before.before.before in
+    let a = c.args in
+    let g = c.before.before.before.before.before.before.before.before.before in
+    let q = asked in
+    let k = sym (told) ∙ e in
+    let n : known (pattern_of c.args.s) c.args.s.patch_size c.args.patches.now ≡ b = sym (ap (λ (t : Bool). known (pattern_of c.args.s) c.args.s.patch_size c.args.patches.now && t) (passed) ∙ and-true (known (pattern_of c.args.s) c.args.s.patch_size c.args.patches.now)) ∙ k in (
+      given c.args.s c.args.patches.now c.args.height c.args.width c.args.index (length c.args.out.now) q b k,
+      rw (tall, wide, c.tile_view-v.ensures) (restored-out c.args.s c.args.t.now c.requires.2 c.args.patches.now c.args.height c.args.width c.args.index (length c.args.out.now) q c.args.out.now b refl k n),
+    ) in
+    let z = ends true (not-false _ c.if-not-restore_view.false-raw) in
+    let x = c.before.before.before.before.before.before.before in
+    let g = c.before.before.before.before.before.before.before.before.before in record {
       answer = rw (z.0, tall, wide, c.tile_view-v.ensures) refl;
       output = c.restore_view.ensures.output ∙ z.1;
     }

@@ -24,13 +24,12 @@ unfolding put tab
 loop-i-init c = (omega arith, refl, refl)
 
 pub loop-i-preserved : goal.loop-i-preserved
-loop-i-preserved c =
-    (
-      omega arith,
-      simp length-set c.loop-i.invariant.1,
-      ap (λ (t : List Float). set t (c.args.to + c.loop-i.i) (get_or t (c.args.from + c.loop-i.i) nan)) c.loop-i.invariant.2
-          ∙ elem-step c.args.s.now c.args.to c.args.from c.args.n c.loop-i.i nan (λ j x y. y) c.loop-i-test.true (after (omega arith)),
-    )
+loop-i-preserved c = (
+  omega arith,
+  simp length-set c.loop-i.invariant.1,
+  ap (λ (t : List Float). set t (c.args.to + c.loop-i.i) (get_or t (c.args.from + c.loop-i.i) nan)) c.loop-i.invariant.2
+      ∙ elem-step c.args.s.now c.args.to c.args.from c.args.n c.loop-i.i nan (λ j x y. y) c.loop-i-test.true (after (omega arith)),
+)
 
 pub returns : goal.returns
 returns c =

@@ -2,12 +2,7 @@
 use mathlib.Core.Path.{sym, ◌∙◌}
 use native.Mathlib.Omega.{arith}
 use Rattle.tensor_header.proofs.Told.{no-object, an-object}
-use borrow.Author.Rules.{rules}
 use Rattle.tensor_header.proofs.walk.find.Goals as goal
-
-opens-requires : tie.Need-opens-requires
-
-opens-requires c κs = search rules
 
 pub overflow_add-at : goal.overflow_add-at
 overflow_add-at c = omega (arith, c.blank-at.ensures.high)

@@ -8,5 +8,3 @@ returns-then-h-at c = rw (le-ltb _ _ c.if-h-at.true) refl
 
 pub returns : goal.returns
 returns c = rw (lt-ltb _ _ c.if-h-at.false) refl
-
-pub opens-spec : {M : Type 1} → statement M

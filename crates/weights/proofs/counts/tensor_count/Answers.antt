@@ -19,6 +19,6 @@ overflow_add-result-2 c = let r = (allowed-says c.args.s c.requires).ranges in o
 
 pub returns : goal.returns
 returns c = let r = (allowed-says c.args.s c.requires).ranges in record {
-      value = sym (how-many c.args.s r.bias);
-      upper_bound = omega (arith, r.layers, r.bias);
-    }
+  value = sym (how-many c.args.s r.bias);
+  upper_bound = omega (arith, r.layers, r.bias);
+}

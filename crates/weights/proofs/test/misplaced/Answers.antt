@@ -12,7 +12,7 @@ pub returns-then-bytes-end : goal.returns-then-bytes-end
 returns-then-bytes-end c = rw (le-leb _ _ c.if-end-begin.false, lt-leb _ _ c.if-bytes-end.true) refl
 
 pub overflow_mul-result : goal.overflow_mul-result
-overflow_mul-result c = omega (arith, few c.args.count c.type_size.result c.args.kind c.type_size.ensures c.requires)
+overflow_mul-result c = omega (arith, few c.args.count c.size_of.result c.args.kind c.size_of.ensures c.requires)
 
 pub returns : goal.returns
-returns c = rw (le-leb _ _ c.if-end-begin.false, le-leb _ _ c.if-bytes-end.false, c.type_size.ensures) refl
+returns c = rw (le-leb _ _ c.if-end-begin.false, le-leb _ _ c.if-bytes-end.false, c.size_of.ensures) refl
