@@ -1,16 +1,15 @@
 -- Laws of hex digits that are read. Assumes nothing.
 use mathlib.Core.Path.{◌≡◌, refl, sym, ap, ◌∙◌}
-use mathlib.Core.List.{List, [], ◌∷◌, ◌++◌, append-nil}
+use mathlib.Core.List.{List, [], ◌∷◌, ◌++◌}
 use mathlib.Core.Option.{Option, none, some}
-use Prim.Native.Nat.{ℕ, zero, suc, ◌+◌, ◌-◌, ◌*◌, ◌≤◌, ◌<◌}
+use Prim.Native.Nat.{ℕ, suc, ◌+◌, ◌-◌, ◌*◌, ◌<◌}
 use native.Mathlib.Numerals.{add-one}
 use native.Mathlib.Omega.{arith}
-use lib.ListN.{length, get_or, take, drop, set, length-drop}
+use lib.ListN.{length, get_or, drop, set, length-drop}
 use lib.Seq.{drop-cons, drop-set-add, take-suc-set}
 use Rattle.buffers.specs.Region.{region}
 use Rattle.unpatch_form.specs.Words.{◌>>=◌, joined}
 use Rattle.unpatch_form.specs.Hex.{pair, hex_pairs, hex_bytes}
-use Rattle.unpatch_form.proofs.Pieces.{joined-joined}
 
 -- the next pair of digits
 pub pair-next : (s : List ℕ) (i : ℕ) → i + 1 < length s → hex_pairs (drop i s) ≡ (pair (get_or s i 0) (get_or s (i + 1) 0) >>= λ x. joined (x ∷ []) (hex_pairs (drop (i + 2) s)))

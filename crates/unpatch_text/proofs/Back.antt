@@ -1,25 +1,25 @@
 -- What is printed is read back: decimals, hex digits, lines and rows. Assumes nothing.
 use mathlib.Core.Path.{◌≡◌, refl, sym, ap, ◌∙◌}
-use mathlib.Core.Bool.{Bool, true, false, cond, ◌&&◌}
+use mathlib.Core.Bool.{Bool, true, false, cond}
 use mathlib.Core.List.{List, [], ◌∷◌, ◌++◌, append_assoc, append-nil}
 use mathlib.Core.Option.{Option, none, some}
 use Prim.Native.Nat.{ℕ, zero, suc, ◌+◌, ◌-◌, ◌*◌, ◌/◌, ◌%◌, ◌≤◌, ◌<◌}
-use native.Mathlib.Nat.{add-zero, add-suc, suc-add, suc-mul, zero-mul}
+use native.Mathlib.Nat.{suc-mul, zero-mul}
 use native.Mathlib.Omega.{arith}
 use native.Mathlib.Decide.{dec_lt}
 use borrow.Author.Tests.{eq-eqb, ne_eqb, lt-ltb, le-ltb, le-leb, lt-leb, ltb-true, ltb-false}
-use lib.Dec.{eqb, ltb, leb}
+use lib.Dec.{ltb}
 use lib.ListN.{length, get_or, take, drop, length-append, length-drop}
 use lib.Seq.{take-add, take_all, length-take-le}
 use Rattle.buffers.proofs.Lists.{fit}
 use Rattle.buffers.specs.Rows as B
 use Rattle.buffers.specs.Region.{region}
 use Rattle.buffers.specs.Lent.{Bytes}
-use Rattle.unpatch_form.specs.Words.{word, same, onto, pieces, ◌>>=◌, one_piece, end, joined, behind}
+use Rattle.unpatch_form.specs.Words.{word, same, onto, pieces, ◌>>=◌, joined}
 use Rattle.unpatch_form.specs.Decimal.{is_digit, digits_from, decimal}
-use Rattle.unpatch_form.specs.Hex.{nibble, pair, hex_pairs, hex_bytes}
-use Rattle.unpatch_text.specs.Print.{last_digits, decimal_text, glyph, hex_text, line, grid_line, row_line, row_lines}
-use Rattle.unpatch_form.specs.Form.{fields, lines, row_fields, read_row, read_rows}
+use Rattle.unpatch_form.specs.Hex.{nibble, pair, hex_pairs}
+use Rattle.unpatch_text.specs.Print.{last_digits, decimal_text, glyph, hex_text, row_line, row_lines}
+use Rattle.unpatch_form.specs.Form.{fields, lines, read_row, read_rows}
 use Rattle.unpatch_form.proofs.Decimals.{decimal-one, decimal-more}
 use Rattle.unpatch_form.proofs.Hexes.{hex-some}
 use Rattle.unpatch_text.proofs.Writes.{digits-one, digits_more, length-hex}

@@ -5,7 +5,7 @@ use mathlib.Core.Bool.{Bool, true, false, cond}
 use mathlib.Core.List.{List, [], ◌∷◌, ◌++◌}
 use mathlib.Core.Option.{Option, none, some, some-injective, none-ne-some}
 use Prim.Native.Nat.{ℕ, suc, ◌+◌, ◌-◌, ◌*◌, ◌/◌, ◌%◌, ◌≤◌, ◌<◌, max}
-use native.Mathlib.Nat.{le_refl, mul-pos}
+use native.Mathlib.Nat.{le_refl}
 use native.Mathlib.Omega.{arith}
 use borrow.Author.Tests.{ltb-false, leb-true}
 use lib.Dec.{eqb, ltb, leb}
@@ -24,7 +24,7 @@ use Rattle.picture.specs.Preprocess.{floats_of, preprocessed, resized_pixel, res
 use Rattle.picture_restore.specs.Restore.{restored, bytes_of}
 use Rattle.buffers.specs.Lent.{Bytes}
 use Rattle.picture_resize.proofs.Same.{byte-below}
-use Rattle.picture_limits.proofs.Sides.{side_same, allowed-says, sided-says}
+use Rattle.picture_limits.proofs.Sides.{allowed-says, sided-says}
 use Rattle.picture_limits.proofs.Shapes.{grid-side-says}
 use Rattle.picture_limits.proofs.Places.{times, length-picture}
 use Rattle.picture.proofs.Accepts.{acceptance}

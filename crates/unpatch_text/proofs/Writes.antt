@@ -14,7 +14,7 @@ use Rattle.buffers.specs.Rows.{rows}
 use Rattle.buffers.specs.Region.{put}
 use Rattle.buffers.proofs.Regions.{put_one, put-append}
 use Rattle.unpatch_form.specs.Words.{word}
-use Rattle.unpatch_text.specs.Print.{last_digits, decimal_text, glyph, hex_text, line, refused_line, grid_line, row_line}
+use Rattle.unpatch_text.specs.Print.{last_digits, decimal_text, glyph, hex_text, refused_line, grid_line, row_line}
 use Rattle.unpatch_text.specs.inner.Steps.{Wrote}
 
 -- ---- one text behind another

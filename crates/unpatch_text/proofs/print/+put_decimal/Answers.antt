@@ -2,7 +2,7 @@
 use Prim.Native.Nat.{ℕ, ◌+◌, ◌/◌, ◌%◌, ◌≤◌, ◌<◌}
 use native.Mathlib.Omega.{arith}
 use mathlib.Core.Path.{◌≡◌, sym, ap, ◌∙◌}
-use mathlib.Core.List.{List, [], ◌∷◌, ◌++◌}
+use mathlib.Core.List.{[], ◌∷◌}
 use lib.ListN.{length, length-append}
 use Rattle.unpatch_text.specs.Print.{decimal_text}
 use Rattle.unpatch_text.proofs.Writes.{wrote_then, wrote_as, wrote_one, digits-one, digits_more}

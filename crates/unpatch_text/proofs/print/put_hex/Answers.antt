@@ -7,7 +7,7 @@ use lib.ListN.{length, take, set, length-set}
 use lib.Seq.{take_all, length-take-le}
 use Rattle.buffers.specs.Region.{put}
 use Rattle.buffers.proofs.Regions.{put-nil, put-append}
-use Rattle.unpatch_text.specs.Print.{glyph, hex_text}
+use Rattle.unpatch_text.specs.Print.{hex_text}
 use Rattle.unpatch_text.proofs.Writes.{length-hex, hex-more, put_two}
 use Rattle.unpatch_text.proofs.print.put_hex.Goals as goal
 
