@@ -16,10 +16,8 @@ use crate::room::inside;
 pub fn clear(s: &mut [f32])
     ensures { s.new ≡ cleared s.old }
 {
-    let mut i = 0usize;
-    while i < s.len() {
+    for i in 0..s.len() {
         s[i] = 0.0;
-        i += 1;
     }
 }
 
@@ -38,10 +36,8 @@ pub fn copy(x: &[f32], out: &mut [f32])
     ensures { out.new ≡ copied x.now out.old }
 {
     if x.len() <= out.len() {
-        let mut i = 0usize;
-        while i < x.len() {
+        for i in 0..x.len() {
             out[i] = x[i];
-            i += 1;
         }
     }
 }

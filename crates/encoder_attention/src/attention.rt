@@ -93,8 +93,7 @@ pub(crate) fn attend_token(
 {
     let dim = heads * hd;
     let mut ok = true;
-    let mut h = 0usize;
-    while h < heads {
+    for h in 0..heads {
         let here = attend_head(
             s,
             q,
@@ -112,7 +111,6 @@ pub(crate) fn attend_token(
             h * hd,
         );
         ok = ok & here;
-        h += 1;
     }
     ok
 }
@@ -136,11 +134,9 @@ pub(crate) fn attend_tokens(
         (attention_of t heads hd scaling (region s.old q (t * (heads * hd))) (keys_of t (heads * hd) (region s.old k (t * (heads * hd)))) (region s.old v (t * (heads * hd)))) }
 {
     let mut ok = true;
-    let mut i = 0usize;
-    while i < t {
+    for i in 0..t {
         let here = attend_token(s, q, k, v, row, out, t, heads, hd, i, scaling);
         ok = ok & here;
-        i += 1;
     }
     ok
 }
@@ -150,10 +146,8 @@ pub(crate) fn turn_key(s: &mut [f32], k: usize, kt: usize, t: usize, dim: usize,
     requires { KeyAt (length s.old) k kt t dim j }
     ensures { s.new ≡ spread s.old (kt + j) t dim (λ d. get_or (region s.old k (t * dim)) (j * dim + d) nan) }
 {
-    let mut d = 0usize;
-    while d < dim {
+    for d in 0..dim {
         s[kt + j + d * t] = s[k + (j * dim + d)];
-        d += 1;
     }
 }
 
@@ -162,10 +156,8 @@ pub(crate) fn turn_keys(s: &mut [f32], k: usize, kt: usize, t: usize, dim: usize
     requires { TurnFits (length s.old) k kt t dim }
     ensures { s.new ≡ put s.old kt (turned_keys t dim (region s.old k (t * dim))) }
 {
-    let mut j = 0usize;
-    while j < t {
+    for j in 0..t {
         turn_key(s, k, kt, t, dim, j);
-        j += 1;
     }
 }
 

@@ -22,10 +22,8 @@ fn copy_floats(s: &mut [f32], x: usize, y: usize, n: usize)
     requires { CopyFits (length s.old) x y n }
     ensures { s.new ≡ put s.old y (tab n (λ d. get_or s.old (x + d) nan)) }
 {
-    let mut d = 0usize;
-    while d < n {
+    for d in 0..n {
         s[y + d] = s[x + d];
-        d += 1;
     }
 }
 
@@ -34,10 +32,8 @@ pub(crate) fn gather(s: &mut [f32], v: usize, g: usize, t: usize, dim: usize, hd
     requires { GatherFits (length s.old) v g t dim hd o }
     ensures { s.new ≡ put s.old g (head_values t dim hd o (region s.old v (t * dim))) }
 {
-    let mut j = 0usize;
-    while j < t {
+    for j in 0..t {
         copy_floats(s, v + (j * dim + o), g + j * hd, hd);
-        j += 1;
     }
 }
 
@@ -97,12 +93,10 @@ pub(crate) fn attend_heads(
     let dim = heads * hd;
     let row = g + t * hd;
     let mut ok = true;
-    let mut h = 0usize;
-    while h < heads {
+    for h in 0..heads {
         gather(s, v, g, t, dim, hd, h * hd);
         let here = attend_queries(s, q, k, g, row, out, t, heads, hd, h, scaling);
         ok = ok & here;
-        h += 1;
     }
     ok
 }

@@ -31,9 +31,8 @@ pub(crate) fn each_layer(
 {
     let size = layer_floats(z);
     let mut ok = true;
-    let mut l = 0usize;
     let mut a = 0usize;
-    while l < count {
+    for l in 0..count {
         let r = pixtral_block_forward(
             s,
             z,
@@ -47,7 +46,6 @@ pub(crate) fn each_layer(
         );
         ok = ok & r;
         a += size;
-        l += 1;
     }
     ok
 }

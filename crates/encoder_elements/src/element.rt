@@ -30,10 +30,8 @@ pub(crate) fn add_values(s: &mut [f32], y: usize, z: usize, n: usize)
     requires { PairFits (length s.old) y z n }
     ensures { s.new ≡ put s.old y (added n (region s.old y n) (region s.old z n)) }
 {
-    let mut i = 0usize;
-    while i < n {
+    for i in 0..n {
         s[y + i] = s[y + i] + s[z + i];
-        i += 1;
     }
 }
 
@@ -41,10 +39,8 @@ pub(crate) fn round_values(s: &mut [f32], y: usize, n: usize)
     requires { y + n ≤ length s.old }
     ensures { s.new ≡ put s.old y (rounded n (region s.old y n)) }
 {
-    let mut i = 0usize;
-    while i < n {
+    for i in 0..n {
         s[y + i] = bf16_f32(s[y + i]);
-        i += 1;
     }
 }
 
@@ -52,10 +48,8 @@ pub(crate) fn gelu_values(s: &mut [f32], y: usize, n: usize)
     requires { y + n ≤ length s.old }
     ensures { s.new ≡ put s.old y (gelued n (region s.old y n)) }
 {
-    let mut i = 0usize;
-    while i < n {
+    for i in 0..n {
         s[y + i] = gelu_quick(s[y + i]);
-        i += 1;
     }
 }
 

@@ -16,10 +16,8 @@ fn sixteen_negated(s: &[f32], y: usize) -> [f32; 16]
     ensures { result ≡ tab 16 (λ l. neg (get_or s.now (y + l) nan)) }
 {
     let mut x = [0.0f32; 16];
-    let mut l = 0usize;
-    while l < 16 {
+    for l in 0..16 {
         x[l] = -s[y + l];
-        l += 1;
     }
     x
 }
@@ -30,10 +28,8 @@ fn gate_sixteen(s: &mut [f32], y: usize, z: usize, e: [f32; 16])
     ensures { s.new ≡ put s.old y (tab 16 (λ l. mul binary32 (div binary32 (get_or (region s.old y 16) l nan) (add binary32 one32 (get_or e l nan)))
         (get_or (region s.old z 16) l nan))) }
 {
-    let mut l = 0usize;
-    while l < 16 {
+    for l in 0..16 {
         s[y + l] = s[y + l] / (1.0 + e[l]) * s[z + l];
-        l += 1;
     }
 }
 
@@ -56,10 +52,8 @@ fn gate_rest(s: &mut [f32], y: usize, z: usize, n: usize)
     requires { PairFits (length s.old) y z n }
     ensures { s.new ≡ put s.old y (gated n (region s.old y n) (region s.old z n)) }
 {
-    let mut i = 0usize;
-    while i < n {
+    for i in 0..n {
         s[y + i] = silu(s[y + i]) * s[z + i];
-        i += 1;
     }
 }
 

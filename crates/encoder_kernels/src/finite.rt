@@ -8,11 +8,9 @@ pub fn finite(x: &[f32]) -> bool
 {
     let inf = 1.0f32 / 0.0;
     let mut ok = true;
-    let mut i = 0usize;
-    while i < x.len() {
+    for i in 0..x.len() {
         let v = x[i];
         ok = ok & ((v < inf) & (-inf < v));
-        i += 1;
     }
     ok
 }

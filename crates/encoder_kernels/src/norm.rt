@@ -16,10 +16,8 @@ pub(crate) fn dot(x: &[f32], w: &[f32]) -> f32
     ensures { result ≡ dot_of x.now w.now }
 {
     let mut acc = 0.0f32;
-    let mut k = 0usize;
-    while k < x.len() {
+    for k in 0..x.len() {
         acc = acc + x[k] * w[k];
-        k += 1;
     }
     acc
 }
@@ -37,10 +35,8 @@ pub(crate) fn norm_row(s: &mut [f32], x: usize, y: usize, dim: usize, w: &[f32])
     ensures { s.new ≡ put s.old y (norm_row dim w.now (region s.old x dim)) }
 {
     let inv = inv_rms(part(s, x, dim), dim);
-    let mut j = 0usize;
-    while j < dim {
+    for j in 0..dim {
         s[y + j] = s[x + j] * inv * w[j];
-        j += 1;
     }
 }
 
@@ -49,14 +45,12 @@ pub(crate) fn norm_rows(s: &mut [f32], x: usize, y: usize, n: usize, dim: usize,
     requires { NormFits (length s.old) (length w.now) x y n dim }
     ensures { s.new ≡ put s.old y (norm_of n dim w.now (region s.old x (n * dim))) }
 {
-    let mut r = 0usize;
     let mut xa = x;
     let mut ya = y;
-    while r < n {
+    for r in 0..n {
         norm_row(s, xa, ya, dim, w);
         xa += dim;
         ya += dim;
-        r += 1;
     }
 }
 

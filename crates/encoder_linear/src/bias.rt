@@ -17,10 +17,8 @@ pub(crate) fn add_row(s: &mut [f32], y: usize, b: &[f32])
     requires { y + length b.now ≤ length s.old }
     ensures { s.new ≡ put s.old y (both nan (length b.now) (λ u v. add binary32 u v) (region s.old y (length b.now)) b.now) }
 {
-    let mut i = 0usize;
-    while i < b.len() {
+    for i in 0..b.len() {
         s[y + i] = s[y + i] + b[i];
-        i += 1;
     }
 }
 
@@ -29,12 +27,10 @@ pub(crate) fn add_rows(s: &mut [f32], y: usize, n: usize, d: usize, b: &[f32])
     requires { RowsFit (length s.old) (length b.now) y n d }
     ensures { s.new ≡ put s.old y (biased n d b.now (region s.old y (n * d))) }
 {
-    let mut r = 0usize;
     let mut at = y;
-    while r < n {
+    for r in 0..n {
         add_row(s, at, b);
         at += d;
-        r += 1;
     }
 }
 

@@ -22,10 +22,8 @@ pub(crate) fn add_cells(
     ensures { result ≡ tab 16 (λ i. add binary32 (get_or a i nan) (mul binary32 (get_or xt.now (j + i % 4) nan) (get_or w.now (at + i / 4 * nin) nan))) }
 {
     let mut b = a;
-    let mut i = 0usize;
-    while i < 16 {
+    for i in 0..16 {
         b[i] = b[i] + xt[j + i % 4] * w[at + i / 4 * nin];
-        i += 1;
     }
     b
 }
@@ -43,11 +41,9 @@ pub(crate) fn cells(
     ensures { result ≡ tab 16 (cell_of n a xt.now w.now at nin) }
 {
     let mut b = a;
-    let mut k = 0usize;
-    while k < n {
+    for k in 0..n {
         let next = add_cells(b, xt, k * 16, w, at + k, nin);
         b = next;
-        k += 1;
     }
     b
 }
@@ -57,10 +53,8 @@ pub(crate) fn unpack(s: &mut [f32], at: usize, nout: usize, r: usize, b: &[f32])
     requires { UnpackFits (length s.old) (length b.now) at nout r }
     ensures { s.new ≡ filled s.old at nout r 4 (λ l o. get_or b.now (l + o * 4) nan) }
 {
-    let mut l = 0usize;
-    while l < r {
+    for l in 0..r {
         copy_spread(s, at + l * nout, 1, b, l, 4, 4);
-        l += 1;
     }
 }
 

@@ -16,10 +16,8 @@ pub(crate) fn add_products(a: [f32; 16], xt: &[f32], j: usize, t: f32) -> [f32; 
     ensures { result ≡ tab 16 (λ l. add binary32 (get_or a l nan) (mul binary32 (get_or xt.now (j + l) nan) t)) }
 {
     let mut b = a;
-    let mut l = 0usize;
-    while l < 16 {
+    for l in 0..16 {
         b[l] = b[l] + xt[j + l] * t;
-        l += 1;
     }
     b
 }
@@ -30,12 +28,10 @@ pub(crate) fn lanes(a: [f32; 16], xt: &[f32], w: &[f32]) -> [f32; 16]
     ensures { result ≡ tab 16 (lane_of (length w.now) a xt.now w.now) }
 {
     let mut b = a;
-    let mut k = 0usize;
-    while k < w.len() {
+    for k in 0..w.len() {
         let t = w[k];
         let next = add_products(b, xt, k * 16, t);
         b = next;
-        k += 1;
     }
     b
 }
@@ -55,15 +51,13 @@ pub(crate) fn two_lanes(a: [f32; 16], b: [f32; 16], xt: &[f32], w: &[f32], v: &[
 {
     let mut c = a;
     let mut d = b;
-    let mut k = 0usize;
-    while k < w.len() {
+    for k in 0..w.len() {
         let t = w[k];
         let u = v[k];
         let next = add_products(c, xt, k * 16, t);
         let other = add_products(d, xt, k * 16, u);
         c = next;
         d = other;
-        k += 1;
     }
     Two {
         first: c,
@@ -103,8 +97,7 @@ pub(crate) fn four_lanes(
     let mut f = b;
     let mut g = c;
     let mut h = d;
-    let mut k = 0usize;
-    while k < w.len() {
+    for k in 0..w.len() {
         let j = k * 16;
         let e2 = add_products(e, xt, j, w[k]);
         let f2 = add_products(f, xt, j, v[k]);
@@ -114,7 +107,6 @@ pub(crate) fn four_lanes(
         f = f2;
         g = g2;
         h = h2;
-        k += 1;
     }
     Four {
         first: e,
@@ -137,10 +129,8 @@ pub(crate) fn copy_spread(
     requires { StrideFits (length d.old) at m (length v.now) o q n }
     ensures { d.new ≡ spread d.old at m n (λ i. get_or v.now (o + i * q) nan) }
 {
-    let mut i = 0usize;
-    while i < n {
+    for i in 0..n {
         d[at + i * m] = v[o + i * q];
-        i += 1;
     }
 }
 
@@ -158,10 +148,8 @@ pub(crate) fn pack(xt: &mut [f32], m: usize, x: &[f32], at: usize, r: usize, nin
     requires { PackFits (length xt.old) m (length x.now) at r nin n }
     ensures { xt.new ≡ filled xt.old 0 m n r (λ k l. get_or x.now (at + l * nin + k) nan) }
 {
-    let mut l = 0usize;
-    while l < r {
+    for l in 0..r {
         copy_spread(xt, l, m, x, at + l * nin, 1, n);
-        l += 1;
     }
 }
 
@@ -239,14 +227,12 @@ pub(crate) fn lanes_at(
     let mut second = [0.0f32; 16];
     let mut third = [0.0f32; 16];
     let mut fourth = [0.0f32; 16];
-    let mut i = 0usize;
-    while i < r {
+    for i in 0..r {
         let o = i * m;
         first[i] = s[a + o];
         second[i] = s[b + o];
         third[i] = s[c + o];
         fourth[i] = s[d + o];
-        i += 1;
     }
     Four {
         first,

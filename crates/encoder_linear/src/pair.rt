@@ -20,9 +20,8 @@ pub(crate) fn wide_pair(p: &[f32], r: &[f32], v: &[f32], o: usize, dim: usize) -
 {
     let mut b = [0.0f32; 16];
     let mut c = [0.0f32; 16];
-    let mut j = 0usize;
     let mut a = o;
-    while j < p.len() {
+    for j in 0..p.len() {
         let t = p[j];
         let u = r[j];
         let next = add_products(b, v, a, t);
@@ -30,7 +29,6 @@ pub(crate) fn wide_pair(p: &[f32], r: &[f32], v: &[f32], o: usize, dim: usize) -
         b = next;
         c = other;
         a += dim;
-        j += 1;
     }
     Two {
         first: b,
@@ -50,9 +48,8 @@ pub(crate) fn wider_pair(p: &[f32], r: &[f32], v: &[f32], o: usize, dim: usize) 
     let mut c = [0.0f32; 16];
     let mut d = [0.0f32; 16];
     let mut e = [0.0f32; 16];
-    let mut j = 0usize;
     let mut a = o;
-    while j < p.len() {
+    for j in 0..p.len() {
         let t = p[j];
         let u = r[j];
         let b2 = add_products(b, v, a, t);
@@ -64,7 +61,6 @@ pub(crate) fn wider_pair(p: &[f32], r: &[f32], v: &[f32], o: usize, dim: usize) 
         d = d2;
         e = e2;
         a += dim;
-        j += 1;
     }
     Four {
         first: b,

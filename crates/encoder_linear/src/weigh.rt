@@ -17,12 +17,10 @@ pub(crate) fn column(p: &[f32], v: &[f32], o: usize, dim: usize) -> f32
     ensures { result ≡ column_of (length p.now) dim o p.now v.now }
 {
     let mut acc = 0.0f32;
-    let mut j = 0usize;
     let mut a = o;
-    while j < p.len() {
+    for j in 0..p.len() {
         acc = acc + p[j] * v[a];
         a += dim;
-        j += 1;
     }
     acc
 }
@@ -33,14 +31,12 @@ pub(crate) fn wide(p: &[f32], v: &[f32], o: usize, dim: usize) -> [f32; 16]
     ensures { result ≡ tab 16 (λ l. column_of (length p.now) dim (o + l) p.now v.now) }
 {
     let mut b = [0.0f32; 16];
-    let mut j = 0usize;
     let mut a = o;
-    while j < p.len() {
+    for j in 0..p.len() {
         let t = p[j];
         let next = add_products(b, v, a, t);
         b = next;
         a += dim;
-        j += 1;
     }
     b
 }
@@ -84,11 +80,9 @@ pub(crate) fn weigh_rest(
     ensures { s.new ≡ put s.old out (weighed_row t dim hd o (region s.old row t) (region s.old v (t * dim))) }
 {
     let n = t * dim;
-    let mut d = 0usize;
-    while d < hd {
+    for d in 0..hd {
         let x = column(part(s, row, t), part(s, v, n), o + d, dim);
         s[out + d] = x;
-        d += 1;
     }
 }
 

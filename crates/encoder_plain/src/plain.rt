@@ -26,10 +26,8 @@ pub(crate) fn dot(s: &[f32], a: usize, b: usize, n: usize) -> f32
     ensures { result ≡ sum_of n (λ d. mul binary32 (get_or s.now (a + d) nan) (get_or s.now (b + d) nan)) }
 {
     let mut dot = 0.0f32;
-    let mut d = 0usize;
-    while d < n {
+    for d in 0..n {
         dot = dot + s[a + d] * s[b + d];
-        d += 1;
     }
     dot
 }
@@ -54,11 +52,9 @@ pub(crate) fn score_row(
     let o = h * hd;
     let row = m + qi * t;
     let q_off = q + (qi * dim + o);
-    let mut ki = 0usize;
-    while ki < t {
+    for ki in 0..t {
         let k_off = k + (ki * dim + o);
         s[row + ki] = dot(s, q_off, k_off, hd) * scaling;
-        ki += 1;
     }
 }
 
@@ -77,10 +73,8 @@ pub(crate) fn score_rows(
     requires { ScoresFit (length s.old) q k m t heads hd × (h < heads) }
     ensures { s.new ≡ put s.old m (scores t heads hd scaling (region s.old q (floats t heads hd)) (region s.old k (floats t heads hd)) h) }
 {
-    let mut qi = 0usize;
-    while qi < t {
+    for qi in 0..t {
         score_row(s, q, k, m, t, heads, hd, h, qi, scaling);
-        qi += 1;
     }
 }
 
@@ -91,12 +85,10 @@ pub(crate) fn exp_sum(s: &mut [f32], row: usize, n: usize, max_val: f32) -> f32
     ensures s_after { s.new ≡ put s.old row (exp_less n max_val (region s.old row n)) }
 {
     let mut sum = 0.0f32;
-    let mut i = 0usize;
-    while i < n {
+    for i in 0..n {
         let sv = exp_f32(s[row + i] - max_val);
         s[row + i] = sv;
         sum = sum + sv;
-        i += 1;
     }
     sum
 }
@@ -117,10 +109,8 @@ pub(crate) fn softmax_rows(s: &mut [f32], m: usize, t: usize)
     requires { m + t * t ≤ length s.old }
     ensures { s.new ≡ put s.old m (soft_rows t (region s.old m (t * t))) }
 {
-    let mut qi = 0usize;
-    while qi < t {
+    for qi in 0..t {
         softmax_row(s, m + qi * t, t);
-        qi += 1;
     }
 }
 
@@ -131,10 +121,8 @@ pub(crate) fn weighed(s: &[f32], p: usize, v: usize, t: usize, dim: usize, e: us
     ensures { result ≡ sum_of t (λ vi. mul binary32 (get_or s.now (p + vi) nan) (get_or s.now (v + (vi * dim + e)) nan)) }
 {
     let mut sum = 0.0f32;
-    let mut vi = 0usize;
-    while vi < t {
+    for vi in 0..t {
         sum = sum + s[p + vi] * s[v + (vi * dim + e)];
-        vi += 1;
     }
     sum
 }
@@ -158,10 +146,8 @@ pub(crate) fn sum_row(
     let o = h * hd;
     let row = m + qi * t;
     let out_off = out + (qi * dim + o);
-    let mut d = 0usize;
-    while d < hd {
+    for d in 0..hd {
         s[out_off + d] = weighed(s, row, v, t, dim, o + d);
-        d += 1;
     }
 }
 
@@ -179,10 +165,8 @@ pub(crate) fn sum_rows(
     requires { SumsFit (length s.old) v m out t heads hd × (h < heads) }
     ensures { s.new ≡ put_rows s.old t (λ qi. out + off t heads hd qi h) (sums t heads hd (region s.old v (floats t heads hd)) (region s.old m (t * t)) h) }
 {
-    let mut qi = 0usize;
-    while qi < t {
+    for qi in 0..t {
         sum_row(s, v, m, out, t, heads, hd, h, qi);
-        qi += 1;
     }
 }
 
@@ -231,11 +215,9 @@ pub(crate) fn every_head(
         (plain_of t heads hd scaling (region s.old q (floats t heads hd)) (region s.old k (floats t heads hd)) (region s.old v (floats t heads hd))) }
 {
     let mut ok = true;
-    let mut h = 0usize;
-    while h < heads {
+    for h in 0..heads {
         let here = one_head(s, q, k, v, m, out, t, heads, hd, h, scaling);
         ok = ok & here;
-        h += 1;
     }
     ok
 }

@@ -16,10 +16,8 @@ pub(crate) fn copy_at(t: &mut [f32], at: usize, x: &[f32])
     requires { at + length x.now ≤ length t.old }
     ensures { t.new ≡ put t.old at x.now }
 {
-    let mut j = 0usize;
-    while j < x.len() {
+    for j in 0..x.len() {
         t[at + j] = x[j];
-        j += 1;
     }
 }
 
@@ -80,9 +78,8 @@ pub(crate) fn rotate_tokens_axes(
 {
     let half = q + q;
     let dim = heads * (half + half);
-    let mut i = 0usize;
     let mut xa = x;
-    while i < tokens {
+    for i in 0..tokens {
         let h = i / gw * q;
         let w = i % gw * q;
         rotate_token_axes(
@@ -96,7 +93,6 @@ pub(crate) fn rotate_tokens_axes(
             part(column_sin, w, q),
         );
         xa += dim;
-        i += 1;
     }
 }
 

@@ -15,13 +15,11 @@ pub(crate) fn rotate_half_inplace(s: &mut [f32], x: usize, half: usize, cos: &[f
     ensures { s.new ≡ put s.old x (rotated_head half cos.now sin.now (region s.old x (half + half))) }
 {
     let z = x + half;
-    let mut j = 0usize;
-    while j < half {
+    for j in 0..half {
         let x1 = s[x + j];
         let x2 = s[z + j];
         s[x + j] = x1 * cos[j] + (-x2) * sin[j];
         s[z + j] = x2 * cos[j + half] + x1 * sin[j + half];
-        j += 1;
     }
 }
 
@@ -37,13 +35,11 @@ pub(crate) fn rotate_token(
     requires { TokenFits (length s.old) (length cos.now) (length sin.now) x heads half }
     ensures { s.new ≡ put s.old x (rotated_token heads half cos.now sin.now (region s.old x (heads * (half + half)))) }
 {
-    let mut r = 0usize;
     let mut xa = x;
-    while r < heads {
+    for r in 0..heads {
         rotate_half_inplace(s, xa, half, cos, sin);
         xa += half;
         xa += half;
-        r += 1;
     }
 }
 
@@ -64,13 +60,11 @@ pub(crate) fn rotate_tokens(
 {
     let hd = half + half;
     let dim = heads * hd;
-    let mut i = 0usize;
     let mut xa = x;
-    while i < tokens {
+    for i in 0..tokens {
         let p = (i / gw * side + i % gw) * hd;
         rotate_token(s, xa, heads, half, part(cos, p, hd), part(sin, p, hd));
         xa += dim;
-        i += 1;
     }
 }
 

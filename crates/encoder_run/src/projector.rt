@@ -42,11 +42,9 @@ pub(crate) fn merge_tokens(
     requires { MergeFits (length s.old) x y total merge gh gw dim }
     ensures { s.new ≡ put s.old y (merge_of merge gh gw dim (region s.old x (gh * gw * dim))) }
 {
-    let mut p = 0usize;
-    while p < total {
+    for p in 0..total {
         let i = source(p, merge, gh, gw, dim);
         s[y + p] = s[x + i];
-        p += 1;
     }
 }
 

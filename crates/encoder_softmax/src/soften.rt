@@ -15,10 +15,8 @@ fn sixteen_less(s: &[f32], y: usize, m: f32) -> [f32; 16]
     ensures { result ≡ tab 16 (λ l. sub binary32 (get_or s.now (y + l) nan) m) }
 {
     let mut x = [0.0f32; 16];
-    let mut l = 0usize;
-    while l < 16 {
+    for l in 0..16 {
         x[l] = s[y + l] - m;
-        l += 1;
     }
     x
 }
@@ -27,10 +25,8 @@ fn store_sixteen(s: &mut [f32], y: usize, x: [f32; 16])
     requires { y + 16 ≤ length s.old }
     ensures { s.new ≡ put s.old y x }
 {
-    let mut l = 0usize;
-    while l < 16 {
+    for l in 0..16 {
         s[y + l] = x[l];
-        l += 1;
     }
 }
 
@@ -53,10 +49,8 @@ fn exp_rest(s: &mut [f32], y: usize, n: usize, m: f32)
     requires { y + n ≤ length s.old }
     ensures { s.new ≡ put s.old y (exp_less n m (region s.old y n)) }
 {
-    let mut i = 0usize;
-    while i < n {
+    for i in 0..n {
         s[y + i] = exp_f32(s[y + i] - m);
-        i += 1;
     }
 }
 

@@ -21,10 +21,8 @@ pub fn row_max(x: &[f32]) -> f32
     ensures { result ≡ max_of x.now }
 {
     let mut m = -1.0f32 / 0.0;
-    let mut i = 0usize;
-    while i < x.len() {
+    for i in 0..x.len() {
         m = larger(m, x[i]);
-        i += 1;
     }
     m
 }
@@ -33,10 +31,8 @@ pub(crate) fn total(x: &[f32]) -> f32
     ensures { result ≡ total_of x.now }
 {
     let mut acc = 0.0f32;
-    let mut i = 0usize;
-    while i < x.len() {
+    for i in 0..x.len() {
         acc = acc + x[i];
-        i += 1;
     }
     acc
 }
@@ -52,10 +48,8 @@ pub(crate) fn scale_floats(s: &mut [f32], y: usize, n: usize, m: f32)
     requires { y + n ≤ length s.old }
     ensures { s.new ≡ put s.old y (scaled n m (region s.old y n)) }
 {
-    let mut i = 0usize;
-    while i < n {
+    for i in 0..n {
         s[y + i] = s[y + i] * m;
-        i += 1;
     }
 }
 

@@ -83,8 +83,7 @@ pub fn word(s: &[u8], at: usize, w: &[u8]) -> Read
     ensures { Lexes s.now at (letters w.now) result }
 {
     let mut i = at;
-    let mut j = 0usize;
-    while j < w.len() {
+    for j in 0..w.len() {
         if s.len() <= i {
             return Read::Stop(i);
         }
@@ -92,7 +91,6 @@ pub fn word(s: &[u8], at: usize, w: &[u8]) -> Read
             return Read::Stop(i);
         }
         i += 1;
-        j += 1;
     }
     Read::Past(i)
 }

@@ -120,8 +120,7 @@ pub fn behind(s: &[u8], at: usize, w: &[u8]) -> Rest
     ensures { placed result ≡ behind_at s.now at w.now }
 {
     let mut i = at;
-    let mut j = 0usize;
-    while j < w.len() {
+    for j in 0..w.len() {
         if s.len() <= i {
             return Rest::Not;
         }
@@ -133,7 +132,6 @@ pub fn behind(s: &[u8], at: usize, w: &[u8]) -> Rest
             return Rest::Not;
         }
         i += width(s, i);
-        j += 1;
     }
     Rest::From(i)
 }

@@ -31,10 +31,8 @@ fn k_lanes(x: [f32; 16]) -> [f64; 16]
     ensures { result ≡ tab 16 (λ l. k_of (get_or x l nan)) }
 {
     let mut k = [0.0f64; 16];
-    let mut l = 0usize;
-    while l < 16 {
+    for l in 0..16 {
         k[l] = k_of(number_floats::narrow::widen_f32(x[l]));
-        l += 1;
     }
     k
 }
@@ -43,10 +41,8 @@ fn r_lanes(x: [f32; 16], k: [f64; 16]) -> [f64; 16]
     ensures { result ≡ tab 16 (λ l. r_with (get_or x l nan) (get_or k l nan)) }
 {
     let mut r = [0.0f64; 16];
-    let mut l = 0usize;
-    while l < 16 {
+    for l in 0..16 {
         r[l] = r_of(number_floats::narrow::widen_f32(x[l]), k[l]);
-        l += 1;
     }
     r
 }
@@ -56,10 +52,8 @@ fn add_term(p: [f64; 16], r: [f64; 16], n: f64) -> [f64; 16]
     ensures { result ≡ tab 16 (λ l. term (get_or r l nan) (get_or p l nan) n) }
 {
     let mut q = p;
-    let mut l = 0usize;
-    while l < 16 {
+    for l in 0..16 {
         q[l] = 1.0 + (r[l] * q[l]) / n;
-        l += 1;
     }
     q
 }
@@ -82,10 +76,8 @@ fn end_lanes(x: [f32; 16], k: [f64; 16], p: [f64; 16]) -> [f32; 16]
     ensures { result ≡ tab 16 (λ l. E (get_or x l nan)) }
 {
     let mut r = [0.0f32; 16];
-    let mut l = 0usize;
-    while l < 16 {
+    for l in 0..16 {
         r[l] = end_of(x[l], k[l], p[l]);
-        l += 1;
     }
     r
 }

@@ -22,10 +22,8 @@ pub(crate) fn all_inside(x: [f32; 16]) -> bool
     ensures { result ≡ all 16 (λ l. inside (get_or x l nan)) }
 {
     let mut ok = true;
-    let mut l = 0usize;
-    while l < 16 {
+    for l in 0..16 {
         ok = ok & is_inside(x[l]);
-        l += 1;
     }
     ok
 }
@@ -52,10 +50,8 @@ pub(crate) fn k_inside(x: [f32; 16]) -> [f64; 16]
     ensures { result ≡ tab 16 (λ l. k_of (get_or x l nan)) }
 {
     let mut k = [0.0f64; 16];
-    let mut l = 0usize;
-    while l < 16 {
+    for l in 0..16 {
         k[l] = near_k(x[l] as f64);
-        l += 1;
     }
     k
 }
@@ -65,10 +61,8 @@ pub(crate) fn r_inside(x: [f32; 16], k: [f64; 16]) -> [f64; 16]
     ensures { result ≡ tab 16 (λ l. r_with (get_or x l nan) (get_or k l nan)) }
 {
     let mut r = [0.0f64; 16];
-    let mut l = 0usize;
-    while l < 16 {
+    for l in 0..16 {
         r[l] = r_of(x[l] as f64, k[l]);
-        l += 1;
     }
     r
 }
@@ -87,10 +81,8 @@ pub(crate) fn scaled(p: [f64; 16], k: [f64; 16]) -> [f64; 16]
     ensures { result ≡ tab 16 (λ l. mul binary64 (get_or p l nan) (two_to (get_or k l nan))) }
 {
     let mut v = [0.0f64; 16];
-    let mut l = 0usize;
-    while l < 16 {
+    for l in 0..16 {
         v[l] = p[l] * power_of(k[l]);
-        l += 1;
     }
     v
 }
@@ -109,10 +101,8 @@ pub(crate) fn narrow_lanes(v: [f64; 16]) -> [f32; 16]
     ensures { result ≡ tab 16 (λ l. narrow (get_or v l nan)) }
 {
     let mut r = [0.0f32; 16];
-    let mut l = 0usize;
-    while l < 16 {
+    for l in 0..16 {
         r[l] = narrow_normal(v[l]);
-        l += 1;
     }
     r
 }

@@ -33,14 +33,12 @@ pub(crate) fn read_hex(s: &[u8]) -> Word
     ensures { result ≡ word_of s.now }
 {
     let mut n: u32 = 0;
-    let mut i = 0;
-    while i < s.len() {
+    for i in 0..s.len() {
         let d = digit(s[i]);
         if d == 16 {
             return Word::Bad;
         }
         n = n * 16 + d;
-        i += 1;
     }
     Word::Value(n)
 }

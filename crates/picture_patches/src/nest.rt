@@ -24,12 +24,10 @@ fn patch_channel(
     ensures { out.new ≡ put out.old at (patch_channel f.p (viewed (entry t.now) f rgb.now) r x c) }
 {
     let p = f.p;
-    let mut i = 0usize;
     let mut o = at;
-    while i < p {
+    for i in 0..p {
         view_row(rgb, f, r + i, x, c, o, out, t);
         o += p;
-        i += 1;
     }
 }
 
@@ -40,12 +38,10 @@ fn patch_at(rgb: &[u8], f: Frame, r: usize, x: usize, at: usize, out: &mut [f32]
 {
     let p = f.p;
     let n = p * p;
-    let mut c = 0usize;
     let mut o = at;
-    while c < 3 {
+    for c in 0..3 {
         patch_channel(rgb, f, r, x, c, o, out, t);
         o += n;
-        c += 1;
     }
 }
 
@@ -57,14 +53,12 @@ pub(crate) fn patch_line(rgb: &[u8], f: Frame, r: usize, at: usize, out: &mut [f
     let p = f.p;
     let gw = f.gw;
     let n = 3 * (p * p);
-    let mut b = 0usize;
     let mut x = 0usize;
     let mut o = at;
-    while b < gw {
+    for b in 0..gw {
         patch_at(rgb, f, r, x, o, out, t);
         x += p;
         o += n;
-        b += 1;
     }
 }
 
@@ -77,13 +71,11 @@ pub(crate) fn all_patches(rgb: &[u8], f: Frame, out: &mut [f32], t: &[u32; 768])
     let gh = f.gh;
     let gw = f.gw;
     let n = gw * (3 * (p * p));
-    let mut a = 0usize;
     let mut r = 0usize;
     let mut o = 0usize;
-    while a < gh {
+    for a in 0..gh {
         patch_line(rgb, f, r, o, out, t);
         r += p;
         o += n;
-        a += 1;
     }
 }

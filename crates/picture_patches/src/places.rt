@@ -16,12 +16,10 @@ pub(crate) fn places(from: usize, to: usize, at: usize, lows: &mut [usize], part
     ensures lows_after { lows.new ≡ put lows.old at (tab to (λ j. (near from to j).low)) }
     ensures parts_after { parts.new ≡ put parts.old at (tab to (λ j. (near from to j).part)) }
 {
-    let mut j = 0usize;
-    while j < to {
+    for j in 0..to {
         let n = near_of(from, to, j);
         lows[at + j] = n.low;
         parts[at + j] = n.part;
-        j += 1;
     }
 }
 

@@ -43,9 +43,7 @@ pub(crate) fn plain_row(
     requires { ((j : ℕ) → j < n → from + j * 3 < length rgb.now) × (at + n ≤ length out.old) × (c < 3) × Clean t.now }
     ensures { out.new ≡ put out.old at (tab n (λ j. value (entry t.now) c (get_or rgb.now (from + j * 3) 0))) }
 {
-    let mut j = 0usize;
-    while j < n {
+    for j in 0..n {
         out[at + j] = sample_of(t, c, rgb[from + j * 3]);
-        j += 1;
     }
 }

@@ -77,8 +77,7 @@ fn fill_strip(
 {
     let p = f.p;
     let mut held = [0usize; 2];
-    let mut i = 0usize;
-    while i < p {
+    for i in 0..p {
         strip_row(
             rgb,
             f,
@@ -93,7 +92,6 @@ fn fill_strip(
             lows,
             parts,
         );
-        i += 1;
     }
 }
 
@@ -170,14 +168,12 @@ fn mixed_patches(
     let p = f.p;
     let gh = f.gh;
     let n = f.gw * (3 * (p * p));
-    let mut a = 0usize;
     let mut r = 0usize;
     let mut o = 0usize;
-    while a < gh {
+    for a in 0..gh {
         mixed_line(rgb, f, r, o, out, t, left, right, band, lows, parts);
         r += p;
         o += n;
-        a += 1;
     }
 }
 

@@ -29,10 +29,8 @@ fn zero_row(n: usize, c: usize, at: usize, out: &mut [f32], t: &[u32; 768])
     requires { (at + n ≤ length out.old) × (c < 3) × Clean t.now }
     ensures { out.new ≡ put out.old at (tab n (λ _. value (entry t.now) c 0)) }
 {
-    let mut j = 0usize;
-    while j < n {
+    for j in 0..n {
         out[at + j] = sample_of(t, c, 0);
-        j += 1;
     }
 }
 

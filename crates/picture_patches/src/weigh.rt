@@ -47,14 +47,12 @@ fn weigh_row(
 {
     let w = f.w;
     let tw = f.tw;
-    let mut j = 0usize;
     let mut o = at;
-    while j < n {
+    for j in 0..n {
         let s = near_at(w, tw, COLUMNS, x + j, lows, parts);
         weigh_pixel(rgb, (y * w + s.low) * 3, 1.0 - s.part, o, left);
         weigh_pixel(rgb, (y * w + s.high) * 3, s.part, o, right);
         o += 3;
-        j += 1;
     }
 }
 
@@ -98,9 +96,7 @@ pub(crate) fn mix_row(
     requires { Mixes u v k at (length left.now) (length right.now) (length out.old) }
     ensures { out.new ≡ put out.old at (mixed_row left.now right.now u v g f k) }
 {
-    let mut e = 0usize;
-    while e < k {
+    for e in 0..k {
         out[at + e] = weighed_byte(left[u + e], right[u + e], left[v + e], right[v + e], g, f);
-        e += 1;
     }
 }

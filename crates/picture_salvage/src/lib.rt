@@ -42,10 +42,8 @@ fn find_guessed(
 {
     let slope = w.slope[c];
     let shift = w.shift[c];
-    let mut k = 0usize;
-    while k < n {
+    for k in 0..n {
         found[k] = guess_of(t, slope, shift, c, bits[at + k]) as u16;
-        k += 1;
     }
 }
 
@@ -58,10 +56,8 @@ fn find_run(bits: &[u32], at: usize, n: usize, c: usize, found: &mut [u16], t: &
         find_guessed(bits, at, n, c, found, t, w);
         return;
     }
-    let mut k = 0usize;
-    while k < n {
+    for k in 0..n {
         found[k] = byte_of(t, w, c, bits[at + k]) as u16;
-        k += 1;
     }
 }
 
@@ -71,10 +67,8 @@ fn count_none(found: &[u16], n: usize) -> usize
     ensures { result ≡ count n (none_at found.now) }
 {
     let mut bad = 0usize;
-    let mut k = 0usize;
-    while k < n {
+    for k in 0..n {
         bad += (256 <= found[k]) as usize;
-        k += 1;
     }
     bad
 }
@@ -87,13 +81,11 @@ fn count_runs(bits: &[u32], p: usize, m: usize, t: &[u32; 768], w: Way) -> usize
     let n = p * p;
     let mut found = [0u16; 1024];
     let mut bad = 0usize;
-    let mut r = 0usize;
     let mut o = 0usize;
-    while r < m {
+    for r in 0..m {
         find_run(bits, o, n, r % 3, &mut found, t, w);
         bad += count_none(&found, n);
         o += n;
-        r += 1;
     }
     bad
 }
@@ -125,13 +117,11 @@ fn list_run(
     ensures output { list.new ≡ put list.old o (entries_by (none_at found.now) bits.now at q d n) }
 {
     let mut e = o;
-    let mut k = 0usize;
-    while k < n {
+    for k in 0..n {
         if 256 <= found[k] {
             list_one(list, e, q, d + k, bits[at + k]);
             e += 3;
         }
-        k += 1;
     }
     e
 }
@@ -144,12 +134,10 @@ fn list_runs(bits: &[u32], p: usize, m: usize, list: &mut [u32], t: &[u32; 768],
     let n = p * p;
     let mut found = [0u16; 1024];
     let mut e = 0usize;
-    let mut r = 0usize;
-    while r < m {
+    for r in 0..m {
         let c = r % 3;
         find_run(bits, r * n, n, c, &mut found, t, w);
         e = list_run(bits, r * n, n, r / 3, c * n, &found, list, e);
-        r += 1;
     }
 }
 
@@ -188,12 +176,10 @@ fn save_run(red: &[u16], green: &[u16], blue: &[u16], n: usize, at: usize, out: 
     requires { (n ≤ length red.now) × (n ≤ length green.now) × (n ≤ length blue.now) × (at + n * 3 ≤ length out.old) }
     ensures { out.new ≡ put out.old at (saved_pixels red.now green.now blue.now n) }
 {
-    let mut j = 0usize;
     let mut o = at;
-    while j < n {
+    for j in 0..n {
         save_pixel(red[j], green[j], blue[j], o, out);
         o += 3;
-        j += 1;
     }
 }
 
@@ -237,14 +223,12 @@ fn salvage_line(
 {
     let m = 3 * (p * p);
     let d = i * p;
-    let mut b = 0usize;
     let mut o = at;
     let mut k = from;
-    while b < gw {
+    for b in 0..gw {
         salvage_run(bits, p, k + d, o, out, t, w);
         o += p * 3;
         k += m;
-        b += 1;
     }
 }
 
@@ -264,12 +248,10 @@ fn salvage_rows(
     let m = gw * (3 * (p * p));
     let n = gw * (p * 3);
     let tall = gh * p;
-    let mut y = 0usize;
     let mut o = 0usize;
-    while y < tall {
+    for y in 0..tall {
         salvage_line(bits, p, gw, y % p, y / p * m, o, out, t, w);
         o += n;
-        y += 1;
     }
 }
 

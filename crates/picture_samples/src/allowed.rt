@@ -19,11 +19,9 @@ fn finite(t: &[u32; 768], c: usize) -> bool
 {
     let inf = 1.0f32 / 0.0;
     let mut ok = true;
-    let mut b = 0usize;
-    while b < 256 {
+    for b in 0..256 {
         let v = value_of(t, c, b);
         ok = ok & ((v < inf) & (-inf < v));
-        b += 1;
     }
     ok
 }
@@ -33,10 +31,8 @@ fn rises(t: &[u32; 768], c: usize) -> bool
     ensures { result ≡ rising (value (entry t.now) c) }
 {
     let mut ok = true;
-    let mut b = 0usize;
-    while b < 255 {
+    for b in 0..255 {
         ok = ok & (value_of(t, c, b) < value_of(t, c, b + 1));
-        b += 1;
     }
     ok
 }
@@ -46,10 +42,8 @@ fn falls(t: &[u32; 768], c: usize) -> bool
     ensures { result ≡ falling (value (entry t.now) c) }
 {
     let mut ok = true;
-    let mut b = 0usize;
-    while b < 255 {
+    for b in 0..255 {
         ok = ok & (value_of(t, c, b + 1) < value_of(t, c, b));
-        b += 1;
     }
     ok
 }

@@ -16,11 +16,9 @@ pub(crate) fn worked_out(mean: [f32; 3], deviation: [f32; 3]) -> [u32; 768]
     ensures { result ≡ sample_table mean deviation }
 {
     let mut t = [0u32; 768];
-    let mut i = 0usize;
-    while i < 768 {
+    for i in 0..768 {
         let c = i / 256;
         t[i] = bits_of_f32(sample_of(mean[c], deviation[c], (i % 256) as u8));
-        i += 1;
     }
     t
 }

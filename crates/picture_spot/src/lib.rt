@@ -68,12 +68,10 @@ fn guesses_right(t: &[u32; 768], slope: [f32; 3], shift: [f32; 3]) -> bool
     ensures { result ≡ guesses slope shift t.now }
 {
     let mut ok = true;
-    let mut i = 0usize;
-    while i < 768 {
+    for i in 0..768 {
         let c = i / 256;
         let v = f32_of_bits(t[i]);
         ok = ok & (guess(slope[c], shift[c], v) == i % 256);
-        i += 1;
     }
     ok
 }

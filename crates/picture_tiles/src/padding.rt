@@ -40,12 +40,10 @@ fn zero_row(patches: &[f32], p: usize, gw: usize, y: usize, v: View, t: &[u32; 7
 {
     let n = p * p;
     let wide = gw * p;
-    let mut x = own_width(v, y);
-    while x < wide {
+    for x in own_width(v, y)..wide {
         if !zero_pixel(patches, n, first_place(p, gw, y, x), t) {
             return false;
         }
-        x += 1;
     }
     true
 }
@@ -63,12 +61,10 @@ pub(crate) fn zero_rows(
     ensures { result ≡ zero_rows (entry t.now) p gh gw patches.now v }
 {
     let tall = gh * p;
-    let mut y = 0usize;
-    while y < tall {
+    for y in 0..tall {
         if !zero_row(patches, p, gw, y, v, t) {
             return false;
         }
-        y += 1;
     }
     true
 }

@@ -36,10 +36,8 @@ fn channel_exact(t: &[u32; 768], c: usize, mean: f32, deviation: f32) -> bool
     ensures { result ≡ channel_exact t.now c mean deviation }
 {
     let mut ok = true;
-    let mut b = 0usize;
-    while b < 256 {
+    for b in 0..256 {
         ok = ok & (t[c * 256 + b] == pattern_of(mean, deviation, b as u8));
-        b += 1;
     }
     ok
 }
@@ -72,12 +70,10 @@ fn run_exact(
     ensures { result ≡ exact_run slope shift mean deviation n patches.now at }
 {
     let mut ok = true;
-    let mut k = 0usize;
-    while k < n {
+    for k in 0..n {
         let v = patches[at + k];
         let b = guess(slope, shift, v) as u8;
         ok = ok & (pattern_of(mean, deviation, b) == bits_of_f32(v));
-        k += 1;
     }
     ok
 }
@@ -107,12 +103,10 @@ fn run_known(
             f.deviation[c],
         );
     }
-    let mut k = 0usize;
-    while k < n {
+    for k in 0..n {
         if 256 <= byte_of(t, w, c, bits_of_f32(patches[at + k])) {
             return false;
         }
-        k += 1;
     }
     true
 }
@@ -122,14 +116,12 @@ fn patch_known(patches: &[f32], at: usize, p: usize, t: &[u32; 768], w: Way, f: 
     ensures { result ≡ known_patch (entry t.now) p patches.now at }
 {
     let n = p * p;
-    let mut c = 0usize;
     let mut o = at;
-    while c < 3 {
+    for c in 0..3 {
         if !run_known(patches, o, n, c, t, w, f) {
             return false;
         }
         o += n;
-        c += 1;
     }
     true
 }
@@ -147,14 +139,12 @@ pub(crate) fn all_known(
     ensures { result ≡ known_patches (entry t.now) p n patches.now }
 {
     let m = 3 * (p * p);
-    let mut q = 0usize;
     let mut o = 0usize;
-    while q < n {
+    for q in 0..n {
         if !patch_known(patches, o, p, t, w, f) {
             return false;
         }
         o += m;
-        q += 1;
     }
     true
 }
@@ -172,10 +162,8 @@ fn guess_bytes(
     requires { (from + n ≤ length patches.now) × (at + n ≤ length bytes.old) }
     ensures { bytes.new ≡ put bytes.old at (tab n (λ k. guessed slope shift (get_or patches.now (from + k) nan))) }
 {
-    let mut k = 0usize;
-    while k < n {
+    for k in 0..n {
         bytes[at + k] = guess(slope, shift, patches[from + k]) as u8;
-        k += 1;
     }
 }
 
@@ -197,10 +185,8 @@ fn run_bytes(
         guess_bytes(patches, from, n, w.slope[c], w.shift[c], at, bytes);
         return;
     }
-    let mut k = 0usize;
-    while k < n {
+    for k in 0..n {
         bytes[at + k] = spot(t, w, c, patches[from + k]) as u8;
-        k += 1;
     }
 }
 
@@ -209,12 +195,10 @@ fn patch_bytes(patches: &[f32], from: usize, n: usize, bytes: &mut [u8], t: &[u3
     requires { (n ≤ 1024) × (from + 3 * n ≤ length patches.now) × (3 * n ≤ length bytes.old) × Spots t.now (spotted w (entry t.now)) }
     ensures { bytes.new ≡ put bytes.old 0 (patch_by (spotted w (entry t.now)) n patches.now from) }
 {
-    let mut c = 0usize;
     let mut o = 0usize;
-    while c < 3 {
+    for c in 0..3 {
         run_bytes(patches, from + o, n, c, o, bytes, t, w);
         o += n;
-        c += 1;
     }
 }
 
@@ -223,15 +207,13 @@ fn copy_run(bytes: &[u8], m: usize, n: usize, from: usize, at: usize, out: &mut 
     requires { ((j : ℕ) → j < n → from + j + 2 * m < length bytes.now) × (at + n * 3 ≤ length out.old) }
     ensures { out.new ≡ put out.old at (pixels_of bytes.now m n from) }
 {
-    let mut j = 0usize;
     let mut o = at;
-    while j < n {
+    for j in 0..n {
         let k = from + j;
         out[o] = bytes[k];
         out[o + 1] = bytes[k + m];
         out[o + 2] = bytes[k + 2 * m];
         o += 3;
-        j += 1;
     }
 }
 
@@ -250,10 +232,8 @@ fn copy_patch(
     ensures { out.new ≡ put_rows out.old tall (λ i. at + i * stride) (λ i. pixels_of bytes.now (p * p) wide (i * p)) }
 {
     let m = p * p;
-    let mut i = 0usize;
-    while i < tall {
+    for i in 0..tall {
         copy_run(bytes, m, wide, i * p, at + i * stride, out);
-        i += 1;
     }
 }
 

@@ -12,11 +12,9 @@ pub(crate) fn leave_out(p: Pool, i: usize) -> Pool
 {
     let last = p.count - 1;
     let mut q = p;
-    let mut j = i;
-    while j < last {
+    for j in i..last {
         let h = q.held[j + 1];
         q.held[j] = h;
-        j += 1;
     }
     q.count = last;
     q

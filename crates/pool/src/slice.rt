@@ -12,10 +12,8 @@ fn move_down(s: &mut [f32], from: usize, to: usize, n: usize)
     requires { (to ≤ from) × (from + n ≤ length s.old) }
     ensures { s.new ≡ put s.old to (region s.old from n) }
 {
-    let mut i = 0usize;
-    while i < n {
+    for i in 0..n {
         s[to + i] = s[from + i];
-        i += 1;
     }
 }
 
@@ -28,8 +26,7 @@ pub(crate) fn slide(p: Pool, s: &mut [f32]) -> Pool
     let count = p.count;
     let mut q = p;
     let mut to = 0usize;
-    let mut i = 0usize;
-    while i < count {
+    for i in 0..count {
         let h = q.held[i];
         move_down(s, h.start, to, h.len);
         let moved = Held {
@@ -39,7 +36,6 @@ pub(crate) fn slide(p: Pool, s: &mut [f32]) -> Pool
         };
         q.held[i] = moved;
         to += h.len;
-        i += 1;
     }
     q
 }

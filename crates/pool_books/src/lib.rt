@@ -68,8 +68,7 @@ pub fn scan(p: Pool, n: usize, key: u64) -> Books
     }
     let mut floats = 0usize;
     let mut end = 0usize;
-    let mut i = 0usize;
-    while i < count {
+    for i in 0..count {
         let h = p.held[i];
         if h.start < end {
             return Books::Unmade;
@@ -79,18 +78,15 @@ pub fn scan(p: Pool, n: usize, key: u64) -> Books
         }
         end = h.start + h.len;
         floats += h.len;
-        i += 1;
     }
     if n < end {
         return Books::Unmade;
     }
-    let mut j = 0usize;
-    while j < count {
+    for j in 0..count {
         let h = p.held[j];
         if h.key == key {
             return found_at(floats, end, j, h.start, h.len);
         }
-        j += 1;
     }
     found_at(floats, end, count, 0, 0)
 }

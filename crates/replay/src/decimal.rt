@@ -36,13 +36,11 @@ pub(crate) fn read_decimal(s: &[u8]) -> Number
         return Number::Bad;
     }
     let mut n: usize = 0;
-    let mut i = 0;
-    while i < s.len() {
+    for i in 0..s.len() {
         let Number::Value(m) = pushed(n, s[i]) else {
             return Number::Bad;
         };
         n = m;
-        i += 1;
     }
     Number::Value(n)
 }

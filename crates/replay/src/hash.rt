@@ -33,10 +33,8 @@ pub fn hash_bytes(s: &[u8]) -> u64
         first: 1,
         second: 1,
     };
-    let mut i = 0;
-    while i < s.len() {
+    for i in 0..s.len() {
         h = add(h, s[i] as u64);
-        i += 1;
     }
     sum(h)
 }
@@ -48,10 +46,8 @@ pub fn hash_words(s: &[u32]) -> u64
         first: 1,
         second: 1,
     };
-    let mut i = 0;
-    while i < s.len() {
+    for i in 0..s.len() {
         h = add(h, s[i] as u64);
-        i += 1;
     }
     sum(h)
 }
@@ -64,10 +60,8 @@ pub fn hash_floats(s: &[f32]) -> u64
         first: 1,
         second: 1,
     };
-    let mut i = 0;
-    while i < s.len() {
+    for i in 0..s.len() {
         h = add(h, number_floats::pattern::bits_of_f32(s[i]) as u64);
-        i += 1;
     }
     sum(h)
 }

@@ -49,8 +49,7 @@ pub fn read_line(line: &[u8], to: &mut [usize]) -> bool
     ensures output { to.new ≡ over (read_of (length to.old) line.now).list to.old }
 {
     let mut at = 0;
-    let mut k = 0usize;
-    while k < to.len() {
+    for k in 0..to.len() {
         if line.len() <= at {
             return false;
         }
@@ -60,7 +59,6 @@ pub fn read_line(line: &[u8], to: &mut [usize]) -> bool
         };
         to[k] = n;
         at = end;
-        k += 1;
     }
     line.len() <= at
 }

@@ -16,11 +16,9 @@ pub fn fill_bytes(seed: usize, to: &mut [u8])
     ensures { to.new ≡ bytes (seeded seed) (length to.old) }
 {
     let mut x = seed % 4294967296;
-    let mut i = 0usize;
-    while i < to.len() {
+    for i in 0..to.len() {
         x = step(x);
         to[i] = (x / 16777216) as u8;
-        i += 1;
     }
 }
 
@@ -28,11 +26,9 @@ pub fn fill_words(seed: usize, to: &mut [u32])
     ensures { to.new ≡ words (seeded seed) (length to.old) }
 {
     let mut x = seed % 4294967296;
-    let mut i = 0usize;
-    while i < to.len() {
+    for i in 0..to.len() {
         x = step(x);
         to[i] = x as u32;
-        i += 1;
     }
 }
 
@@ -40,11 +36,9 @@ pub fn fill_floats(seed: usize, to: &mut [f32])
     ensures { to.new ≡ floats (seeded seed) (length to.old) }
 {
     let mut x = seed % 4294967296;
-    let mut i = 0usize;
-    while i < to.len() {
+    for i in 0..to.len() {
         x = step(x);
         to[i] = std::num::nearest_u32_to_f32(x as u32);
-        i += 1;
     }
 }
 
@@ -60,10 +54,8 @@ pub fn fill_units(seed: usize, to: &mut [f32])
     ensures { to.new ≡ units (seeded seed) (length to.old) }
 {
     let mut x = seed % 4294967296;
-    let mut i = 0usize;
-    while i < to.len() {
+    for i in 0..to.len() {
         x = step(x);
         to[i] = unit(x);
-        i += 1;
     }
 }

@@ -121,10 +121,8 @@ fn fill(v: &[usize; 31], t: &[u32; 768], bytes: &[u8], to: &mut [u32])
     ensures { to.new ≡ patches_in v.now t.now bytes.now room }
 {
     let run = v[9];
-    let mut i = 0usize;
-    while i < to.len() {
+    for i in 0..to.len() {
         to[i] = change(v, i, t[i / run % 3 * 256 + bytes[i] as usize]);
-        i += 1;
     }
 }
 

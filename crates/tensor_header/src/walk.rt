@@ -34,11 +34,9 @@ fn note_each(
     requires rest_value { rest_is found rest ≡ behind_at h.now name (word "vision_tower.transformer.layers.") }
     ensures { places.new ≡ noted s (drop name h.now) value places.old }
 {
-    let mut i = 0usize;
-    while i < places.len() {
+    for i in 0..places.len() {
         let is = tensor_is(s, h, name, found, rest, i);
         places[i] = pick(is, value, places[i]);
-        i += 1;
     }
 }
 
@@ -55,10 +53,8 @@ fn note(s: EncoderSettings, h: &[u8], name: usize, value: usize, places: &mut [u
 fn clear(places: &mut [usize])
     ensures { places.new ≡ nowhere places.old }
 {
-    let mut i = 0usize;
-    while i < places.len() {
+    for i in 0..places.len() {
         places[i] = 0;
-        i += 1;
     }
 }
 

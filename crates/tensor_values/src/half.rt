@@ -38,10 +38,8 @@ fn widen_half(w: u32) -> u32
 fn widen_halves(out: &mut [u32])
     ensures { out.new ≡ each 0 (length out.old) (λ w. half (w / 2 ^ 16)) out.old }
 {
-    let mut i = 0usize;
-    while i < out.len() {
+    for i in 0..out.len() {
         out[i] = widen_half(out[i]);
-        i += 1;
     }
 }
 

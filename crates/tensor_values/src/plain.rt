@@ -25,11 +25,9 @@ pub(crate) fn widen_f32(bytes: &[u8], out: &mut [u32])
     ensures { out.new ≡ put out.old 0 (values_of F32 bytes.now) }
 {
     let n = bytes.len() / 4;
-    let mut i = 0usize;
-    while i < n {
+    for i in 0..n {
         let k = i * 4;
         out[i] = word(bytes[k], bytes[k + 1], bytes[k + 2], bytes[k + 3]);
-        i += 1;
     }
 }
 
@@ -38,10 +36,8 @@ pub(crate) fn widen_bf16(bytes: &[u8], out: &mut [u32])
     ensures { out.new ≡ put out.old 0 (values_of BF16 bytes.now) }
 {
     let n = bytes.len() / 2;
-    let mut i = 0usize;
-    while i < n {
+    for i in 0..n {
         let k = i * 2;
         out[i] = bf16_widen(pair(bytes[k], bytes[k + 1]));
-        i += 1;
     }
 }

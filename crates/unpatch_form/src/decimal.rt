@@ -16,8 +16,7 @@ fn digits(s: &[u8], most: usize) -> Number
     ensures { found result ≡ limited_from most 0 s.now }
 {
     let mut n = 0usize;
-    let mut i = 0usize;
-    while i < s.len() {
+    for i in 0..s.len() {
         let b = s[i];
         if b < b'0' {
             return Number::Bad;
@@ -33,7 +32,6 @@ fn digits(s: &[u8], most: usize) -> Number
             return Number::Bad;
         }
         n = n * 10 + d;
-        i += 1;
     }
     Number::Value(n)
 }

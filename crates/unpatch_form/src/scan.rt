@@ -23,12 +23,10 @@ pub(crate) fn is_word(s: &[u8], w: &[u8]) -> bool
     if s.len() != w.len() {
         return false;
     }
-    let mut i = 0usize;
-    while i < s.len() {
+    for i in 0..s.len() {
         if s[i] != w[i] {
             return false;
         }
-        i += 1;
     }
     true
 }

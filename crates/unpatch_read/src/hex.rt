@@ -51,14 +51,12 @@ pub(crate) fn hex_bytes(s: &[u8], rgb: &mut [u8], at: usize) -> Number
     if half * 2 != s.len() {
         return Number::Bad;
     }
-    let mut i = 0usize;
-    while i < half {
+    for i in 0..half {
         let b = pair(s[i * 2], s[i * 2 + 1]);
         if 255 < b {
             return Number::Bad;
         }
         rgb[at + i] = b as u8;
-        i += 1;
     }
     Number::Value(half)
 }

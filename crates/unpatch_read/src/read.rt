@@ -92,10 +92,8 @@ pub fn read(text: &[u8], rgb: &mut [u8; 24576]) -> Reading
     ensures bytes { rgb.new ≡ filled (rows_of (Form.form text.now)) }
 {
     let found = read_text(text, rgb);
-    let mut i = bytes_read(found);
-    while i < 24576 {
+    for i in bytes_read(found)..24576 {
         rgb[i] = 0;
-        i += 1;
     }
     found
 }

@@ -8,10 +8,8 @@ pub(crate) fn put_bytes(s: &[u8], at: usize, out: &mut [u8]) -> usize
     requires { at + length s.now ≤ length out.old }
     ensures { Wrote out.old out.new at s.now result }
 {
-    let mut i = 0usize;
-    while i < s.len() {
+    for i in 0..s.len() {
         out[at + i] = s[i];
-        i += 1;
     }
     at + s.len()
 }
@@ -41,14 +39,12 @@ fn put_hex(s: &[u8], at: usize, out: &mut [u8]) -> usize
     requires { at + 2 * length s.now ≤ length out.old }
     ensures { Wrote out.old out.new at (hex_text s.now) result }
 {
-    let mut i = 0usize;
     let mut o = at;
-    while i < s.len() {
+    for i in 0..s.len() {
         let b = s[i];
         out[o] = glyph(b / 16);
         out[o + 1] = glyph(b % 16);
         o += 2;
-        i += 1;
     }
     o
 }
@@ -98,14 +94,12 @@ pub(crate) fn put_rows(h: usize, n: usize, s: &[u8], at: usize, out: &mut [u8]) 
     requires { (h * n ≤ length s.now) × (at + length (row_lines h n s.now) ≤ length out.old) }
     ensures { Wrote out.old out.new at (row_lines h n s.now) result }
 {
-    let mut y = 0usize;
     let mut from = 0usize;
     let mut o = at;
-    while y < h {
+    for y in 0..h {
         let to = from + n;
         o = put_row(y, &s[from..to], o, out);
         from = to;
-        y += 1;
     }
     o
 }

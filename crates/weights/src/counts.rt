@@ -123,10 +123,8 @@ pub(crate) fn total(s: EncoderSettings) -> usize
 {
     let n = tensor_count(s);
     let mut sum = 0;
-    let mut i = 0;
-    while i < n {
+    for i in 0..n {
         sum += count_at(s, i);
-        i += 1;
     }
     sum
 }

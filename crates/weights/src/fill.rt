@@ -64,12 +64,10 @@ pub(crate) fn fill(s: EncoderSettings, h: &[u8], bytes: &[u8], places: &[usize],
 {
     let n = tensor_count(s);
     let mut at = 0usize;
-    let mut i = 0usize;
-    while i < n {
+    for i in 0..n {
         let count = count_at(s, i);
         let d = describe(h, places[i]);
         put_tensor(d, bytes, out, at, count);
         at += count;
-        i += 1;
     }
 }

@@ -9,6 +9,3 @@ use Rattle.buffers.proofs.copy.Given as goal
 
 abbrev pub invariant-loop-i : goal.invariant-loop-i
 invariant-loop-i l = (l.i ≤ length l.x) × (length l.out ≡ length l.initial.out) × (l.out ≡ put l.initial.out 0 (tab l.i (λ k. get_or l.x k nan)))
-
-abbrev pub decreases-loop-i : goal.decreases-loop-i
-decreases-loop-i l = length l.x - l.i

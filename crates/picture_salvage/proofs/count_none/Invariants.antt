@@ -7,6 +7,3 @@ use Rattle.picture_salvage.proofs.count_none.Given as goal
 
 abbrev pub invariant-loop-k : goal.invariant-loop-k
 invariant-loop-k l = (l.k ≤ l.n) × (l.bad ≡ count l.k (none_at l.found))
-
-abbrev pub decreases-loop-k : goal.decreases-loop-k
-decreases-loop-k l = l.n - l.k

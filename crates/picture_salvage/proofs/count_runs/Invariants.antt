@@ -8,6 +8,3 @@ use Rattle.picture_salvage.proofs.count_runs.Given as goal
 
 abbrev pub invariant-loop-r : goal.invariant-loop-r
 invariant-loop-r l = (l.r ≤ l.m) × (l.o ≡ l.r * (l.p * l.p)) × (l.bad ≡ bad_run (entry l.t) l.p l.bits l.r) × (length l.found ≡ 1024)
-
-abbrev pub decreases-loop-r : goal.decreases-loop-r
-decreases-loop-r l = l.m - l.r

@@ -9,6 +9,3 @@ use Rattle.picture_salvage.proofs.find_guessed.Given as goal
 
 abbrev pub invariant-loop-k : goal.invariant-loop-k
 invariant-loop-k l = (l.k ≤ l.n) × (length l.found ≡ length l.initial.found) × (l.found ≡ put l.initial.found 0 (found_run (entry l.t) l.bits l.at l.c l.k))
-
-abbrev pub decreases-loop-k : goal.decreases-loop-k
-decreases-loop-k l = l.n - l.k

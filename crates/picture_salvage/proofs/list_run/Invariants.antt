@@ -10,6 +10,3 @@ use Rattle.picture_salvage.proofs.list_run.Given as goal
 abbrev pub invariant-loop-k : goal.invariant-loop-k
 invariant-loop-k l =
     (l.k ≤ l.n) × (l.e ≡ l.o + count l.k (none_at l.found) * 3) × (length l.list ≡ length l.initial.list) × (l.list ≡ put l.initial.list l.o (entries_by (none_at l.found) l.bits l.at l.q l.d l.k))
-
-abbrev pub decreases-loop-k : goal.decreases-loop-k
-decreases-loop-k l = l.n - l.k

@@ -10,6 +10,3 @@ use Rattle.picture_salvage.proofs.list_runs.Given as goal
 abbrev pub invariant-loop-r : goal.invariant-loop-r
 invariant-loop-r l =
     (l.r ≤ l.m) × (l.e ≡ bad_run (entry l.t) l.p l.bits l.r * 3) × (length l.list ≡ length l.initial.list) × (l.list ≡ put l.initial.list 0 (all_entries (entry l.t) l.p l.bits l.r)) × (length l.found ≡ 1024)
-
-abbrev pub decreases-loop-r : goal.decreases-loop-r
-decreases-loop-r l = l.m - l.r

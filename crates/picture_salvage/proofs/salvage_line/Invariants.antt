@@ -13,6 +13,3 @@ abbrev pub invariant-loop-b : goal.invariant-loop-b
 invariant-loop-b l =
     (l.b ≤ l.gw) × (l.o ≡ l.at + l.b * (l.p * 3)) × (l.k ≡ l.from + l.b * patch_floats l.p) × (length l.out ≡ length l.initial.out)
     × (l.out ≡ put l.initial.out l.at (rows l.b (λ j. saved_run (entry l.t) l.p l.bits (l.from + j * patch_floats l.p + l.i * l.p))))
-
-abbrev pub decreases-loop-b : goal.decreases-loop-b
-decreases-loop-b l = l.gw - l.b

@@ -10,6 +10,3 @@ use Rattle.picture_salvage.proofs.salvage_rows.Given as goal
 abbrev pub invariant-loop-y : goal.invariant-loop-y
 invariant-loop-y l =
     (l.y ≤ l.tall) × (l.o ≡ 0 + l.y * (l.gw * (l.p * 3))) × (length l.out ≡ length l.initial.out) × (l.out ≡ put l.initial.out 0 (saved_rows (entry l.t) l.p l.gw l.bits l.y))
-
-abbrev pub decreases-loop-y : goal.decreases-loop-y
-decreases-loop-y l = l.tall - l.y

@@ -10,6 +10,3 @@ use Rattle.picture_spot.proofs.guesses_right.Given as goal
 
 abbrev pub invariant-loop-i : goal.invariant-loop-i
 invariant-loop-i l = (l.i ≤ 768) × (l.ok ≡ all l.i (λ j. eqb (guessed (get_or l.slope (j / 256) nan) (get_or l.shift (j / 256) nan) (of_bits binary32 (get_or l.t j 0))) (j % 256)))
-
-abbrev pub decreases-loop-i : goal.decreases-loop-i
-decreases-loop-i l = 768 - l.i

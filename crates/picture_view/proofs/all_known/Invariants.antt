@@ -16,6 +16,3 @@ seen t p l q = known_patch (entry t) p l (q * patch_floats p)
 
 abbrev pub invariant-loop-q : goal.invariant-loop-q
 invariant-loop-q l = (l.q ≤ l.n) × (l.o ≡ l.q * patch_floats l.p) × (all l.q (seen l.t l.p l.patches) ≡ true)
-
-abbrev pub decreases-loop-q : goal.decreases-loop-q
-decreases-loop-q l = l.n - l.q

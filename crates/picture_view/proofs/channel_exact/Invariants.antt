@@ -9,6 +9,3 @@ use Rattle.picture_view.proofs.channel_exact.Given as goal
 
 abbrev pub invariant-loop-b : goal.invariant-loop-b
 invariant-loop-b l = (l.b ≤ 256) × (l.ok ≡ all l.b (λ i. eqb (entry l.t l.c i) (pattern_by l.mean l.deviation i)))
-
-abbrev pub decreases-loop-b : goal.decreases-loop-b
-decreases-loop-b l = 256 - l.b

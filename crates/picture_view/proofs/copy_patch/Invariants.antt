@@ -9,6 +9,3 @@ use Rattle.picture_view.proofs.copy_patch.Given as goal
 abbrev pub invariant-loop-i : goal.invariant-loop-i
 invariant-loop-i l =
     (l.i ≤ l.tall) × (length l.out ≡ length l.initial.out) × (l.out ≡ put_rows l.initial.out l.i (λ k. l.at + k * l.stride) (λ k. pixels_of l.bytes (l.p * l.p) l.wide (k * l.p)))
-
-abbrev pub decreases-loop-i : goal.decreases-loop-i
-decreases-loop-i l = l.tall - l.i

@@ -8,6 +8,3 @@ use Rattle.picture_view.proofs.copy_run.Given as goal
 
 abbrev pub invariant-loop-j : goal.invariant-loop-j
 invariant-loop-j l = (l.j ≤ l.n) × (l.o ≡ l.at + l.j * 3) × (length l.out ≡ length l.initial.out) × (l.out ≡ put l.initial.out l.at (pixels_of l.bytes l.m l.j l.from))
-
-abbrev pub decreases-loop-j : goal.decreases-loop-j
-decreases-loop-j l = l.n - l.j

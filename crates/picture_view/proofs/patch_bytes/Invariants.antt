@@ -12,6 +12,3 @@ use Rattle.picture_view.proofs.patch_bytes.Given as goal
 abbrev pub invariant-loop-c : goal.invariant-loop-c
 invariant-loop-c l =
     (l.c ≤ 3) × (l.o ≡ 0 + l.c * l.n) × (length l.bytes ≡ length l.initial.bytes) × (l.bytes ≡ put l.initial.bytes 0 (rows l.c (λ i. run_by (spotted l.w (entry l.t)) i l.n l.patches (l.from + i * l.n))))
-
-abbrev pub decreases-loop-c : goal.decreases-loop-c
-decreases-loop-c l = 3 - l.c

@@ -15,6 +15,3 @@ seen t p l at c = known_run (entry t) (p * p) l (at + c * (p * p)) c
 
 abbrev pub invariant-loop-c : goal.invariant-loop-c
 invariant-loop-c l = (l.c ≤ 3) × (l.o ≡ l.at + l.c * (l.p * l.p)) × (all l.c (seen l.t l.p l.patches l.at) ≡ true)
-
-abbrev pub decreases-loop-c : goal.decreases-loop-c
-decreases-loop-c l = 3 - l.c

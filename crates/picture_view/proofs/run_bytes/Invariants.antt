@@ -11,6 +11,3 @@ use Rattle.picture_view.proofs.run_bytes.Given as goal
 
 abbrev pub invariant-loop-k : goal.invariant-loop-k
 invariant-loop-k l = (l.k ≤ l.n) × (length l.bytes ≡ length l.initial.bytes) × (l.bytes ≡ put l.initial.bytes l.at (run_by (spotted l.w (entry l.t)) l.c l.k l.patches l.from))
-
-abbrev pub decreases-loop-k : goal.decreases-loop-k
-decreases-loop-k l = l.n - l.k

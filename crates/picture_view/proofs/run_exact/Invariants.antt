@@ -6,6 +6,3 @@ use Rattle.picture_view.proofs.run_exact.Given as goal
 
 abbrev pub invariant-loop-k : goal.invariant-loop-k
 invariant-loop-k l = (l.k ≤ l.n) × (l.ok ≡ exact_run l.slope l.shift l.mean l.deviation l.k l.patches l.at)
-
-abbrev pub decreases-loop-k : goal.decreases-loop-k
-decreases-loop-k l = l.n - l.k

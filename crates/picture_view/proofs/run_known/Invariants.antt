@@ -8,6 +8,3 @@ use Rattle.picture_view.proofs.run_known.Given as goal
 
 abbrev pub invariant-loop-k : goal.invariant-loop-k
 invariant-loop-k l = (l.k ≤ l.n) × (known_run (entry l.t) l.k l.patches l.at l.c ≡ true)
-
-abbrev pub decreases-loop-k : goal.decreases-loop-k
-decreases-loop-k l = l.n - l.k

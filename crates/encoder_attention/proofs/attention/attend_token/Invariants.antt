@@ -14,6 +14,3 @@ abbrev pub invariant-loop-h : goal.invariant-loop-h
 invariant-loop-h l =
     (l.h ≤ l.heads) × (length l.s ≡ length l.initial.s) × (l.ok ≡ all_finite (rows l.h (scores_at l.initial.s l.q l.k l.v l.row l.out l.t l.heads l.hd l.scaling l.i)))
     × (blank zero32 l.row l.t l.s ≡ put (blank zero32 l.row l.t l.initial.s) (l.out + l.i * (l.heads * l.hd)) (rows l.h (sums_at l.initial.s l.q l.k l.v l.row l.out l.t l.heads l.hd l.scaling l.i)))
-
-abbrev pub decreases-loop-h : goal.decreases-loop-h
-decreases-loop-h l = l.heads - l.h

@@ -16,6 +16,3 @@ abbrev pub invariant-loop-i : goal.invariant-loop-i
 invariant-loop-i l =
     (l.i ≤ l.t) × (length l.s ≡ length l.initial.s) × (l.ok ≡ all_finite (rows l.i (λ j. token_scores l.t l.heads l.hd l.scaling (region l.initial.s l.q (l.t * (l.heads * l.hd))) (keys_of l.t (l.heads * l.hd) (region l.initial.s l.k (l.t * (l.heads * l.hd)))) j)))
     × (blank zero32 l.row l.t l.s ≡ put (blank zero32 l.row l.t l.initial.s) l.out (rows l.i (token_at l.initial.s l.q l.k l.v l.row l.out l.t l.heads l.hd l.scaling)))
-
-abbrev pub decreases-loop-i : goal.decreases-loop-i
-decreases-loop-i l = l.t - l.i

@@ -9,6 +9,3 @@ use Rattle.encoder_attention.proofs.attention.turn_key.Given as goal
 
 abbrev pub invariant-loop-d : goal.invariant-loop-d
 invariant-loop-d l = (l.d ≤ l.dim) × (length l.s ≡ length l.initial.s) × (l.s ≡ spread l.initial.s (l.kt + l.j) l.t l.d (λ e. get_or (region l.initial.s l.k (l.t * l.dim)) (l.j * l.dim + e) nan))
-
-abbrev pub decreases-loop-d : goal.decreases-loop-d
-decreases-loop-d l = l.dim - l.d

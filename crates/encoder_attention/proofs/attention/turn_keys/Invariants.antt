@@ -14,6 +14,3 @@ place s k t dim d i = get_or (region s k (t * dim)) (i * dim + d) nan
 
 abbrev pub invariant-loop-j : goal.invariant-loop-j
 invariant-loop-j l = (l.j ≤ l.t) × (length l.s ≡ length l.initial.s) × (l.s ≡ filled l.initial.s l.kt l.t l.dim l.j (place l.initial.s l.k l.t l.dim))
-
-abbrev pub decreases-loop-j : goal.decreases-loop-j
-decreases-loop-j l = l.t - l.j

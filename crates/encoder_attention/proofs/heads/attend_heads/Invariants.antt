@@ -14,6 +14,3 @@ abbrev pub invariant-loop-h : goal.invariant-loop-h
 invariant-loop-h l =
     (l.h ≤ l.heads) × (length l.s ≡ length l.initial.s) × (l.ok ≡ all_finite (rows l.h (λ j. rows l.t (λ i. scores_at l.initial.s l.q l.k l.v l.g l.out l.t l.heads l.hd l.scaling i j))))
     × (blank zero32 l.g (l.t * (l.heads * l.hd)) l.s ≡ put_rows (blank zero32 l.g (l.t * (l.heads * l.hd)) l.initial.s) l.t (λ i. l.out + i * (l.heads * l.hd)) (λ i. rows l.h (sums_at l.initial.s l.q l.k l.v l.g l.out l.t l.heads l.hd l.scaling i)))
-
-abbrev pub decreases-loop-h : goal.decreases-loop-h
-decreases-loop-h l = l.heads - l.h

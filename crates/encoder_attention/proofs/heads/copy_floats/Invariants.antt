@@ -9,6 +9,3 @@ use Rattle.encoder_attention.proofs.heads.copy_floats.Given as goal
 
 abbrev pub invariant-loop-d : goal.invariant-loop-d
 invariant-loop-d l = (l.d ≤ l.n) × (length l.s ≡ length l.initial.s) × (l.s ≡ put l.initial.s l.y (tab l.d (λ i. get_or l.initial.s (l.x + i) nan)))
-
-abbrev pub decreases-loop-d : goal.decreases-loop-d
-decreases-loop-d l = l.n - l.d

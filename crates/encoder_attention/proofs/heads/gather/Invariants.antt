@@ -14,6 +14,3 @@ place s v t dim o j d = get_or (region s v (t * dim)) (j * dim + (o + d)) nan
 
 abbrev pub invariant-loop-j : goal.invariant-loop-j
 invariant-loop-j l = (l.j ≤ l.t) × (length l.s ≡ length l.initial.s) × (l.s ≡ put l.initial.s l.g (grid l.j l.hd (place l.initial.s l.v l.t l.dim l.o)))
-
-abbrev pub decreases-loop-j : goal.decreases-loop-j
-decreases-loop-j l = l.t - l.j

@@ -13,6 +13,3 @@ abbrev pub invariant-loop-l : goal.invariant-loop-l
 invariant-loop-l l =
     (l.l ≤ l.count) × (l.a ≡ l.l * floats (parts_of l.z)) × (length l.s ≡ length l.initial.s)
     × (answer l.ok (h_at l.z l.s) ≡ layers_run l.z l.w (table_by l.f l.z l.cos l.column_cos) (table_by l.f l.z l.sin l.column_sin) l.l (h_at l.z l.initial.s))
-
-abbrev pub decreases-loop-l : goal.decreases-loop-l
-decreases-loop-l l = l.count - l.l

@@ -7,6 +7,3 @@ use Rattle.encoder_kernels.proofs.finite.finite.Given as goal
 
 abbrev pub invariant-loop-i : goal.invariant-loop-i
 invariant-loop-i l = (l.i ≤ length l.x) × (l.ok ≡ all_finite (take l.i l.x))
-
-abbrev pub decreases-loop-i : goal.decreases-loop-i
-decreases-loop-i l = length l.x - l.i

@@ -9,6 +9,3 @@ use Rattle.encoder_kernels.proofs.norm.dot.Given as goal
 -- `kern::dot` meets its contract: at k the sum is that of the first k products. Assumes nothing.
 abbrev pub invariant-loop-k : goal.invariant-loop-k
 invariant-loop-k l = (l.k ≤ length l.x) × (l.acc ≡ sum_of l.k (λ i. mul binary32 (get_or l.x i nan) (get_or l.w i nan)))
-
-abbrev pub decreases-loop-k : goal.decreases-loop-k
-decreases-loop-k l = length l.x - l.k

@@ -9,6 +9,3 @@ use Rattle.encoder_kernels.proofs.norm.norm_row.Given as goal
 
 abbrev pub invariant-loop-j : goal.invariant-loop-j
 invariant-loop-j l = (l.j ≤ l.dim) × (length l.s ≡ length l.initial.s) × (l.s ≡ put l.initial.s l.y (tab l.j (λ i. mul binary32 (mul binary32 (get_or (region l.initial.s l.x l.dim) i nan) l.inv) (get_or l.w i nan))))
-
-abbrev pub decreases-loop-j : goal.decreases-loop-j
-decreases-loop-j l = l.dim - l.j

@@ -11,6 +11,3 @@ abbrev pub invariant-loop-r : goal.invariant-loop-r
 invariant-loop-r l =
     (l.r ≤ l.n) × (l.xa ≡ l.x + l.r * l.dim) × (l.ya ≡ l.y + l.r * l.dim) × (length l.s ≡ length l.initial.s)
     × (l.s ≡ put l.initial.s l.y (each_row l.r l.dim (λ _. norm_row l.dim l.w) (region l.initial.s l.x (l.n * l.dim))))
-
-abbrev pub decreases-loop-r : goal.decreases-loop-r
-decreases-loop-r l = l.n - l.r

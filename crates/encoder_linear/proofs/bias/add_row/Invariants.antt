@@ -9,6 +9,3 @@ use Rattle.encoder_linear.proofs.bias.add_row.Given as goal
 
 abbrev pub invariant-loop-i : goal.invariant-loop-i
 invariant-loop-i l = (l.i ≤ length l.b) × (length l.s ≡ length l.initial.s) × (l.s ≡ put l.initial.s l.y (both nan l.i (λ u v. add binary32 u v) (region l.initial.s l.y (length l.b)) l.b))
-
-abbrev pub decreases-loop-i : goal.decreases-loop-i
-decreases-loop-i l = length l.b - l.i

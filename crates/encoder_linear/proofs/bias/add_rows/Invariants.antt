@@ -9,6 +9,3 @@ use Rattle.encoder_linear.proofs.bias.add_rows.Given as goal
 
 abbrev pub invariant-loop-r : goal.invariant-loop-r
 invariant-loop-r l = (l.r ≤ l.n) × (l.at ≡ l.y + l.r * l.d) × (length l.s ≡ length l.initial.s) × (l.s ≡ put l.initial.s l.y (each_row l.r l.d (plus l.d l.b) (region l.initial.s l.y (l.n * l.d))))
-
-abbrev pub decreases-loop-r : goal.decreases-loop-r
-decreases-loop-r l = l.n - l.r

@@ -18,6 +18,3 @@ next a xt j w at nin i = add binary32 (get_or a i nan) (more xt j w at nin i)
 
 abbrev pub invariant-loop-i : goal.invariant-loop-i
 invariant-loop-i l = (l.i ≤ 16) × (length l.b ≡ length l.initial.b) × (l.b ≡ put l.initial.b 0 (tab l.i (next l.initial.b l.xt l.j l.w l.at l.nin)))
-
-abbrev pub decreases-loop-i : goal.decreases-loop-i
-decreases-loop-i l = 16 - l.i

@@ -7,6 +7,3 @@ use Rattle.encoder_linear.proofs.few.cells.Given as goal
 
 abbrev pub invariant-loop-k : goal.invariant-loop-k
 invariant-loop-k l = (l.k ≤ l.n) × (l.b ≡ tab 16 (cell_of l.k l.initial.b l.xt l.w l.at l.nin))
-
-abbrev pub decreases-loop-k : goal.decreases-loop-k
-decreases-loop-k l = l.n - l.k

@@ -8,6 +8,3 @@ use Rattle.encoder_linear.proofs.few.unpack.Given as goal
 
 abbrev pub invariant-loop-l : goal.invariant-loop-l
 invariant-loop-l l = (l.l ≤ l.r) × (length l.s ≡ length l.initial.s) × (l.s ≡ filled l.initial.s l.at l.nout l.l 4 (λ i o. get_or l.b (i + o * 4) nan))
-
-abbrev pub decreases-loop-l : goal.decreases-loop-l
-decreases-loop-l l = l.r - l.l

@@ -14,6 +14,3 @@ next a xt j t i = add binary32 (get_or a i nan) (mul binary32 (get_or xt (j + i)
 
 abbrev pub invariant-loop-l : goal.invariant-loop-l
 invariant-loop-l l = (l.l ≤ 16) × (length l.b ≡ length l.initial.b) × (l.b ≡ put l.initial.b 0 (tab l.l (next l.initial.b l.xt l.j l.t)))
-
-abbrev pub decreases-loop-l : goal.decreases-loop-l
-decreases-loop-l l = 16 - l.l

@@ -8,6 +8,3 @@ use Rattle.encoder_linear.proofs.lanes.copy_spread.Given as goal
 
 abbrev pub invariant-loop-i : goal.invariant-loop-i
 invariant-loop-i l = (l.i ≤ l.n) × (length l.d ≡ length l.initial.d) × (l.d ≡ spread l.initial.d l.at l.m l.i (λ j. get_or l.v (l.o + j * l.q) nan))
-
-abbrev pub decreases-loop-i : goal.decreases-loop-i
-decreases-loop-i l = l.n - l.i

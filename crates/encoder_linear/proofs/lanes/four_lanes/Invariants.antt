@@ -9,6 +9,3 @@ use Rattle.encoder_linear.proofs.lanes.four_lanes.Given as goal
 abbrev pub invariant-loop-k : goal.invariant-loop-k
 invariant-loop-k l =
     (l.k ≤ length l.w) × (l.e ≡ tab 16 (lane_of l.k l.initial.e l.xt l.w)) × (l.f ≡ tab 16 (lane_of l.k l.initial.f l.xt l.v)) × (l.g ≡ tab 16 (lane_of l.k l.initial.g l.xt l.u)) × (l.h ≡ tab 16 (lane_of l.k l.initial.h l.xt l.p))
-
-abbrev pub decreases-loop-k : goal.decreases-loop-k
-decreases-loop-k l = length l.w - l.k

@@ -9,6 +9,3 @@ use Rattle.encoder_linear.proofs.lanes.lanes.Given as goal
 abbrev pub invariant-loop-k : goal.invariant-loop-k
 invariant-loop-k l =
     (l.k ≤ length l.w) × (l.b ≡ tab 16 (lane_of l.k l.initial.b l.xt l.w))
-
-abbrev pub decreases-loop-k : goal.decreases-loop-k
-decreases-loop-k l = length l.w - l.k

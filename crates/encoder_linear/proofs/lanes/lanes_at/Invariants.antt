@@ -15,6 +15,3 @@ lanes_of s p m i = spread (replicate 16 zero32) 0 1 i (λ k. get_or s (p + k * m
 abbrev pub invariant-loop-i : goal.invariant-loop-i
 invariant-loop-i l =
     (l.i ≤ l.r) × (l.first ≡ lanes_of l.s l.a l.m l.i) × (l.second ≡ lanes_of l.s l.b l.m l.i) × (l.third ≡ lanes_of l.s l.c l.m l.i) × (l.fourth ≡ lanes_of l.s l.d l.m l.i)
-
-abbrev pub decreases-loop-i : goal.decreases-loop-i
-decreases-loop-i l = l.r - l.i

@@ -9,6 +9,3 @@ use Rattle.encoder_linear.proofs.lanes.pack.Given as goal
 abbrev pub invariant-loop-l : goal.invariant-loop-l
 invariant-loop-l l =
     (l.l ≤ l.r) × (length l.xt ≡ length l.initial.xt) × (l.xt ≡ filled l.initial.xt 0 l.m l.n l.l (λ k i. get_or l.x (l.at + i * l.nin + k) nan))
-
-abbrev pub decreases-loop-l : goal.decreases-loop-l
-decreases-loop-l l = l.r - l.l

@@ -8,6 +8,3 @@ use Rattle.encoder_linear.proofs.lanes.two_lanes.Given as goal
 
 abbrev pub invariant-loop-k : goal.invariant-loop-k
 invariant-loop-k l = (l.k ≤ length l.w) × (l.c ≡ tab 16 (lane_of l.k l.initial.c l.xt l.w)) × (l.d ≡ tab 16 (lane_of l.k l.initial.d l.xt l.v))
-
-abbrev pub decreases-loop-k : goal.decreases-loop-k
-decreases-loop-k l = length l.w - l.k

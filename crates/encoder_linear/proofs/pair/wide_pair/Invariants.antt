@@ -8,6 +8,3 @@ use Rattle.encoder_linear.proofs.pair.wide_pair.Given as goal
 
 abbrev pub invariant-loop-j : goal.invariant-loop-j
 invariant-loop-j l = (l.j ≤ length l.p) × (l.a ≡ l.j * l.dim + l.o) × (l.b ≡ tab 16 (begun_column l.j l.dim l.o l.p l.v)) × (l.c ≡ tab 16 (begun_column l.j l.dim l.o l.r l.v))
-
-abbrev pub decreases-loop-j : goal.decreases-loop-j
-decreases-loop-j l = length l.p - l.j

@@ -8,6 +8,3 @@ use Rattle.encoder_linear.proofs.weigh.column.Given as goal
 
 abbrev pub invariant-loop-j : goal.invariant-loop-j
 invariant-loop-j l = (l.j ≤ length l.p) × (l.a ≡ l.j * l.dim + l.o) × (l.acc ≡ sum_of l.j (λ k. mul binary32 (get_or l.p k nan) (get_or l.v (k * l.dim + l.o) nan)))
-
-abbrev pub decreases-loop-j : goal.decreases-loop-j
-decreases-loop-j l = length l.p - l.j

@@ -10,6 +10,3 @@ abbrev pub invariant-loop-d : goal.invariant-loop-d
 invariant-loop-d l =
     (l.d ≤ l.hd) × (length l.s ≡ length l.initial.s)
     × (l.s ≡ put l.initial.s l.out (weighed_row l.t l.dim l.d l.o (region l.initial.s l.row l.t) (region l.initial.s l.v (l.t * l.dim))))
-
-abbrev pub decreases-loop-d : goal.decreases-loop-d
-decreases-loop-d l = l.hd - l.d

@@ -9,6 +9,3 @@ use Rattle.encoder_plain.proofs.plain.dot.Given as goal
 abbrev pub invariant-loop-d : goal.invariant-loop-d
 invariant-loop-d l =
     (l.d ≤ l.n) × (l.dot ≡ sum_of l.d (λ j. mul binary32 (get_or l.s (l.a + j) nan) (get_or l.s (l.b + j) nan)))
-
-abbrev pub decreases-loop-d : goal.decreases-loop-d
-decreases-loop-d l = l.n - l.d

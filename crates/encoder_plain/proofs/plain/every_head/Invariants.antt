@@ -15,6 +15,3 @@ invariant-loop-h l =
     (l.h ≤ l.heads) × (length l.s ≡ length l.initial.s) × (l.ok ≡ all_finite (rows l.h (scores l.t l.heads l.hd l.scaling (region l.initial.s l.q (floats l.t l.heads l.hd)) (region l.initial.s l.k (floats l.t l.heads l.hd)))))
     × (blank zero32 l.m (l.t * l.t) l.s ≡ put_rows (blank zero32 l.m (l.t * l.t) l.initial.s) l.t (λ i. l.out + i * (l.heads * l.hd))
     (λ i. rows l.h (λ j. sums l.t l.heads l.hd (region l.initial.s l.v (floats l.t l.heads l.hd)) (soft_rows l.t (scores l.t l.heads l.hd l.scaling (region l.initial.s l.q (floats l.t l.heads l.hd)) (region l.initial.s l.k (floats l.t l.heads l.hd)) j)) j i)))
-
-abbrev pub decreases-loop-h : goal.decreases-loop-h
-decreases-loop-h l = l.heads - l.h

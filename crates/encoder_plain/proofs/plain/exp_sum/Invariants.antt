@@ -14,6 +14,3 @@ abbrev pub invariant-loop-i : goal.invariant-loop-i
 invariant-loop-i l =
     (l.i ≤ l.n) × (length l.s ≡ length l.initial.s) × (l.s ≡ put l.initial.s l.row (both nan l.i (λ a b. E (sub binary32 a l.max_val)) (region l.initial.s l.row l.n) (region l.initial.s l.row l.n)))
     × (l.sum ≡ sum_of l.i (λ j. get_or (exp_less l.n l.max_val (region l.initial.s l.row l.n)) j nan))
-
-abbrev pub decreases-loop-i : goal.decreases-loop-i
-decreases-loop-i l = l.n - l.i

@@ -10,6 +10,3 @@ use Rattle.encoder_plain.proofs.plain.softmax_rows.Given as goal
 abbrev pub invariant-loop-qi : goal.invariant-loop-qi
 invariant-loop-qi l =
     (l.qi ≤ l.t) × (length l.s ≡ length l.initial.s) × (l.s ≡ put l.initial.s l.m (each_row l.qi l.t (λ _. softmax_of l.t) (region l.initial.s l.m (l.t * l.t))))
-
-abbrev pub decreases-loop-qi : goal.decreases-loop-qi
-decreases-loop-qi l = l.t - l.qi

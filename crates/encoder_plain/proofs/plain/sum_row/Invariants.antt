@@ -13,6 +13,3 @@ abbrev pub invariant-loop-d : goal.invariant-loop-d
 invariant-loop-d l =
     (l.d ≤ l.hd) × (length l.s ≡ length l.initial.s) × (l.s ≡ put l.initial.s (l.out + off l.t l.heads l.hd l.qi l.h)
     (tab l.d (λ j. sum_of l.t (λ vi. mul binary32 (get_or (region l.initial.s l.m (l.t * l.t)) (l.qi * l.t + vi) nan) (get_or (region l.initial.s l.v (floats l.t l.heads l.hd)) (off l.t l.heads l.hd vi l.h + j) nan)))))
-
-abbrev pub decreases-loop-d : goal.decreases-loop-d
-decreases-loop-d l = l.hd - l.d

@@ -9,6 +9,3 @@ use Rattle.encoder_plain.proofs.plain.sum_rows.Given as goal
 abbrev pub invariant-loop-qi : goal.invariant-loop-qi
 invariant-loop-qi l =
     (l.qi ≤ l.t) × (length l.s ≡ length l.initial.s) × (l.s ≡ put_rows l.initial.s l.qi (λ i. l.out + off l.t l.heads l.hd i l.h) (sums l.t l.heads l.hd (region l.initial.s l.v (floats l.t l.heads l.hd)) (region l.initial.s l.m (l.t * l.t)) l.h))
-
-abbrev pub decreases-loop-qi : goal.decreases-loop-qi
-decreases-loop-qi l = l.t - l.qi

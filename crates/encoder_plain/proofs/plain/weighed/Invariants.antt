@@ -9,6 +9,3 @@ use Rattle.encoder_plain.proofs.plain.weighed.Given as goal
 abbrev pub invariant-loop-vi : goal.invariant-loop-vi
 invariant-loop-vi l =
     (l.vi ≤ l.t) × (l.sum ≡ sum_of l.vi (λ j. mul binary32 (get_or l.s (l.p + j) nan) (get_or l.s (l.v + (j * l.dim + l.e)) nan)))
-
-abbrev pub decreases-loop-vi : goal.decreases-loop-vi
-decreases-loop-vi l = l.t - l.vi

@@ -9,6 +9,3 @@ use Rattle.encoder_rotation.proofs.axes.copy_at.Given as goal
 
 abbrev pub invariant-loop-j : goal.invariant-loop-j
 invariant-loop-j l = (l.j ≤ length l.x) × (length l.t ≡ length l.initial.t) × (l.t ≡ put l.initial.t l.at (tab l.j (λ k. get_or l.x k nan)))
-
-abbrev pub decreases-loop-j : goal.decreases-loop-j
-decreases-loop-j l = length l.x - l.j

@@ -12,6 +12,3 @@ abbrev pub invariant-loop-i : goal.invariant-loop-i
 invariant-loop-i l =
     (l.i ≤ l.tokens) × (l.xa ≡ l.x + l.i * (l.heads * (l.q + l.q + (l.q + l.q)))) × (length l.s ≡ length l.initial.s)
     × (l.s ≡ put l.initial.s l.x (each_row l.i (l.heads * (l.q + l.q + (l.q + l.q))) (rotated_at l.heads (l.q + l.q) l.gw l.side (expand l.side l.q l.row_cos l.column_cos) (expand l.side l.q l.row_sin l.column_sin)) (region l.initial.s l.x (l.tokens * (l.heads * (l.q + l.q + (l.q + l.q)))))))
-
-abbrev pub decreases-loop-i : goal.decreases-loop-i
-decreases-loop-i l = l.tokens - l.i

@@ -7,6 +7,3 @@ use Rattle.encoder_rotation.proofs.rotate.rotate_half_inplace.Given as goal
 
 abbrev pub invariant-loop-j : goal.invariant-loop-j
 invariant-loop-j l = (l.j ≤ l.half) × (length l.s ≡ length l.initial.s) × (l.s ≡ rotating l.initial.s l.cos l.sin l.x l.half l.j)
-
-abbrev pub decreases-loop-j : goal.decreases-loop-j
-decreases-loop-j l = l.half - l.j

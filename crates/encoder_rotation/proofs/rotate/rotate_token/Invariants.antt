@@ -11,6 +11,3 @@ abbrev pub invariant-loop-r : goal.invariant-loop-r
 invariant-loop-r l =
     (l.r ≤ l.heads) × (l.xa ≡ l.x + l.r * (l.half + l.half)) × (length l.s ≡ length l.initial.s)
     × (l.s ≡ put l.initial.s l.x (each_row l.r (l.half + l.half) (λ _. rotated_head l.half l.cos l.sin) (region l.initial.s l.x (l.heads * (l.half + l.half)))))
-
-abbrev pub decreases-loop-r : goal.decreases-loop-r
-decreases-loop-r l = l.heads - l.r

@@ -11,6 +11,3 @@ abbrev pub invariant-loop-i : goal.invariant-loop-i
 invariant-loop-i l =
     (l.i ≤ l.tokens) × (l.xa ≡ l.x + l.i * (l.heads * (l.half + l.half))) × (length l.s ≡ length l.initial.s)
     × (l.s ≡ put l.initial.s l.x (each_row l.i (l.heads * (l.half + l.half)) (rotated_at l.heads l.half l.gw l.side l.cos l.sin) (region l.initial.s l.x (l.tokens * (l.heads * (l.half + l.half))))))
-
-abbrev pub decreases-loop-i : goal.decreases-loop-i
-decreases-loop-i l = l.tokens - l.i

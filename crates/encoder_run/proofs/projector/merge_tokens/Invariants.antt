@@ -8,6 +8,3 @@ use Rattle.encoder_run.proofs.projector.merge_tokens.Given as goal
 
 abbrev pub invariant-loop-p : goal.invariant-loop-p
 invariant-loop-p l = (l.p ≤ l.total) × (length l.s ≡ length l.initial.s) × (l.s ≡ put l.initial.s l.y (merged_first l.p l.merge l.gw l.dim (region l.initial.s l.x (l.gh * l.gw * l.dim))))
-
-abbrev pub decreases-loop-p : goal.decreases-loop-p
-decreases-loop-p l = l.total - l.p

@@ -9,6 +9,3 @@ use Rattle.encoder_softmax.proofs.soften.sixteen_less.Given as goal
 
 abbrev pub invariant-loop-l : goal.invariant-loop-l
 invariant-loop-l l = (l.l ≤ 16) × (length l.x ≡ 16) × (l.x ≡ put l.initial.x 0 (tab l.l (λ i. sub binary32 (get_or l.s (l.y + i) nan) l.m)))
-
-abbrev pub decreases-loop-l : goal.decreases-loop-l
-decreases-loop-l l = 16 - l.l

@@ -9,6 +9,3 @@ use Rattle.encoder_softmax.proofs.soften.store_sixteen.Given as goal
 
 abbrev pub invariant-loop-l : goal.invariant-loop-l
 invariant-loop-l l = (l.l ≤ 16) × (length l.s ≡ length l.initial.s) × (l.s ≡ put l.initial.s l.y (tab l.l (λ i. get_or l.x i nan)))
-
-abbrev pub decreases-loop-l : goal.decreases-loop-l
-decreases-loop-l l = 16 - l.l

@@ -8,6 +8,3 @@ use Rattle.encoder_softmax.proofs.softmax.row_max.Given as goal
 
 abbrev pub invariant-loop-i : goal.invariant-loop-i
 invariant-loop-i l = (l.i ≤ length l.x) × (l.m ≡ largest l.i (λ k. get_or l.x k nan))
-
-abbrev pub decreases-loop-i : goal.decreases-loop-i
-decreases-loop-i l = length l.x - l.i

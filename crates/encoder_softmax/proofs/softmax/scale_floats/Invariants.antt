@@ -9,6 +9,3 @@ use Rattle.encoder_softmax.proofs.softmax.scale_floats.Given as goal
 
 abbrev pub invariant-loop-i : goal.invariant-loop-i
 invariant-loop-i l = (l.i ≤ l.n) × (length l.s ≡ length l.initial.s) × (l.s ≡ put l.initial.s l.y (both nan l.i (λ a b. mul binary32 a l.m) (region l.initial.s l.y l.n) (region l.initial.s l.y l.n)))
-
-abbrev pub decreases-loop-i : goal.decreases-loop-i
-decreases-loop-i l = l.n - l.i

@@ -8,6 +8,3 @@ use Rattle.encoder_softmax.proofs.softmax.total.Given as goal
 
 abbrev pub invariant-loop-i : goal.invariant-loop-i
 invariant-loop-i l = (l.i ≤ length l.x) × (l.acc ≡ sum_of l.i (λ k. get_or l.x k nan))
-
-abbrev pub decreases-loop-i : goal.decreases-loop-i
-decreases-loop-i l = length l.x - l.i

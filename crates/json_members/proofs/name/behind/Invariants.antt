@@ -7,6 +7,3 @@ use Rattle.json_members.proofs.name.behind.Given as goal
 
 abbrev pub invariant-loop-j : goal.invariant-loop-j
 invariant-loop-j l = (l.j ≤ length l.w) × (behind_at l.s l.at l.w ≡ behind_at l.s l.i (drop l.j l.w))
-
-abbrev pub decreases-loop-j : goal.decreases-loop-j
-decreases-loop-j l = length l.w - l.j

@@ -10,6 +10,3 @@ use Rattle.number_exp_lanes.proofs.lanes.add_term.Given as goal
 
 abbrev pub invariant-loop-l : goal.invariant-loop-l
 invariant-loop-l l = (l.l ≤ 16) × (length l.q ≡ 16) × (l.q ≡ put l.initial.q 0 (tab l.l (λ i. term (get_or l.r i nan) (get_or l.initial.q i nan) l.n)))
-
-abbrev pub decreases-loop-l : goal.decreases-loop-l
-decreases-loop-l l = 16 - l.l

@@ -10,6 +10,3 @@ use Rattle.number_exp_lanes.proofs.lanes.k_lanes.Given as goal
 
 abbrev pub invariant-loop-l : goal.invariant-loop-l
 invariant-loop-l l = (l.l ≤ 16) × (length l.k ≡ 16) × (l.k ≡ put l.initial.k 0 (tab l.l (λ i. k_of (get_or l.x i nan))))
-
-abbrev pub decreases-loop-l : goal.decreases-loop-l
-decreases-loop-l l = 16 - l.l

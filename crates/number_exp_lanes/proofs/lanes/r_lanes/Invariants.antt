@@ -10,6 +10,3 @@ use Rattle.number_exp_lanes.proofs.lanes.r_lanes.Given as goal
 
 abbrev pub invariant-loop-l : goal.invariant-loop-l
 invariant-loop-l l = (l.l ≤ 16) × (length l.r ≡ 16) × (l.r ≡ put l.initial.r 0 (tab l.l (λ i. r_with (get_or l.x i nan) (get_or l.k i nan))))
-
-abbrev pub decreases-loop-l : goal.decreases-loop-l
-decreases-loop-l l = 16 - l.l

@@ -9,6 +9,3 @@ use Rattle.number_exp_lanes.proofs.straight.all_inside.Given as goal
 
 abbrev pub invariant-loop-l : goal.invariant-loop-l
 invariant-loop-l l = (l.l ≤ 16) × (l.ok ≡ all l.l (λ i. inside (get_or l.x i nan)))
-
-abbrev pub decreases-loop-l : goal.decreases-loop-l
-decreases-loop-l l = 16 - l.l

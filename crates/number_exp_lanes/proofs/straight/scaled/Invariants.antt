@@ -10,6 +10,3 @@ use Rattle.number_exp_lanes.proofs.straight.scaled.Given as goal
 
 abbrev pub invariant-loop-l : goal.invariant-loop-l
 invariant-loop-l l = (l.l ≤ 16) × (length l.v ≡ 16) × (l.v ≡ put l.initial.v 0 (tab l.l (λ i. mul binary64 (get_or l.p i nan) (two_to (get_or l.k i nan)))))
-
-abbrev pub decreases-loop-l : goal.decreases-loop-l
-decreases-loop-l l = 16 - l.l

@@ -8,6 +8,3 @@ use Rattle.number_replay.proofs.hex.read_hex.Given as goal
 
 abbrev pub invariant-loop-i : goal.invariant-loop-i
 invariant-loop-i l = (l.i ≤ length l.s) × (l.n < 2 ^ (4 * l.i)) × (word_from 0 l.s ≡ word_from l.n (drop l.i l.s))
-
-abbrev pub decreases-loop-i : goal.decreases-loop-i
-decreases-loop-i l = length l.s - l.i

@@ -12,6 +12,3 @@ use Rattle.picture_patches.proofs.nest.all_patches.Given as goal
 abbrev pub invariant-loop-a : goal.invariant-loop-a
 invariant-loop-a l =
     (l.a ≤ l.gh) × (l.r ≡ l.a * l.p) × (l.o ≡ 0 + l.a * l.n) × (length l.out ≡ length l.initial.out) × (l.out ≡ put l.initial.out 0 (rows l.a (λ k. patch_line l.p l.gw (viewed (entry l.t) l.f l.rgb) (k * l.p))))
-
-abbrev pub decreases-loop-a : goal.decreases-loop-a
-decreases-loop-a l = l.gh - l.a

@@ -12,6 +12,3 @@ use Rattle.picture_patches.proofs.nest.patch_at.Given as goal
 abbrev pub invariant-loop-c : goal.invariant-loop-c
 invariant-loop-c l =
     (l.c ≤ 3) × (l.o ≡ l.at + l.c * l.n) × (length l.out ≡ length l.initial.out) × (l.out ≡ put l.initial.out l.at (rows l.c (λ k. patch_channel l.p (viewed (entry l.t) l.f l.rgb) l.r l.x k)))
-
-abbrev pub decreases-loop-c : goal.decreases-loop-c
-decreases-loop-c l = 3 - l.c

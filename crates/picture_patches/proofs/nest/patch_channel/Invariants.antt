@@ -12,6 +12,3 @@ use Rattle.picture_patches.proofs.nest.patch_channel.Given as goal
 abbrev pub invariant-loop-i : goal.invariant-loop-i
 invariant-loop-i l =
     (l.i ≤ l.p) × (l.o ≡ l.at + l.i * l.p) × (length l.out ≡ length l.initial.out) × (l.out ≡ put l.initial.out l.at (rows l.i (λ k. patch_row l.p (viewed (entry l.t) l.f l.rgb) (l.r + k) l.x l.c)))
-
-abbrev pub decreases-loop-i : goal.decreases-loop-i
-decreases-loop-i l = l.p - l.i

@@ -12,6 +12,3 @@ use Rattle.picture_patches.proofs.nest.patch_line.Given as goal
 abbrev pub invariant-loop-b : goal.invariant-loop-b
 invariant-loop-b l =
     (l.b ≤ l.gw) × (l.x ≡ l.b * l.p) × (l.o ≡ l.at + l.b * l.n) × (length l.out ≡ length l.initial.out) × (l.out ≡ put l.initial.out l.at (rows l.b (λ k. patch_at l.p (viewed (entry l.t) l.f l.rgb) l.r (k * l.p))))
-
-abbrev pub decreases-loop-b : goal.decreases-loop-b
-decreases-loop-b l = l.gw - l.b

@@ -10,6 +10,3 @@ use Rattle.picture_patches.proofs.places.places.Given as goal
 abbrev pub invariant-loop-j : goal.invariant-loop-j
 invariant-loop-j l =
     (l.j ≤ l.to) × (length l.lows ≡ length l.initial.lows) × (length l.parts ≡ length l.initial.parts) × (l.lows ≡ put l.initial.lows l.at (tab l.j (λ k. (near l.from l.to k).low))) × (l.parts ≡ put l.initial.parts l.at (tab l.j (λ k. (near l.from l.to k).part)))
-
-abbrev pub decreases-loop-j : goal.decreases-loop-j
-decreases-loop-j l = l.to - l.j

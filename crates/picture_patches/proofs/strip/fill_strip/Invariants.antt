@@ -13,6 +13,3 @@ invariant-loop-i l =
     × (length l.band ≡ length l.initial.band)
     × Held l.rgb l.f l.x l.n l.held l.left l.right
     × Banded l.rgb l.f l.r l.x l.n l.i l.band
-
-abbrev pub decreases-loop-i : goal.decreases-loop-i
-decreases-loop-i l = l.p - l.i

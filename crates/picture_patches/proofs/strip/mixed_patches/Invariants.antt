@@ -19,6 +19,3 @@ invariant-loop-a l =
     × (length l.right ≡ length l.initial.right)
     × (length l.band ≡ length l.initial.band)
     × (l.out ≡ put l.initial.out 0 (rows l.a (λ k. patch_line l.p l.f.gw (mixed (entry l.t) l.f l.rgb) (k * l.p))))
-
-abbrev pub decreases-loop-a : goal.decreases-loop-a
-decreases-loop-a l = l.gh - l.a

@@ -9,6 +9,3 @@ use Rattle.picture_patches.proofs.view.zero_row.Given as goal
 
 abbrev pub invariant-loop-j : goal.invariant-loop-j
 invariant-loop-j l = (l.j ≤ l.n) × (length l.out ≡ length l.initial.out) × (l.out ≡ put l.initial.out l.at (tab l.j (λ _. value (entry l.t) l.c 0)))
-
-abbrev pub decreases-loop-j : goal.decreases-loop-j
-decreases-loop-j l = l.n - l.j

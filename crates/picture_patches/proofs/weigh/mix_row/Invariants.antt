@@ -8,6 +8,3 @@ use Rattle.picture_patches.proofs.weigh.mix_row.Given as goal
 
 abbrev pub invariant-loop-e : goal.invariant-loop-e
 invariant-loop-e l = (l.e ≤ l.k) × (length l.out ≡ length l.initial.out) × (l.out ≡ put l.initial.out l.at (mixed_row l.left l.right l.u l.v l.g l.f l.e))
-
-abbrev pub decreases-loop-e : goal.decreases-loop-e
-decreases-loop-e l = l.k - l.e

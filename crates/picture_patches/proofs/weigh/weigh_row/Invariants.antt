@@ -14,6 +14,3 @@ invariant-loop-j l =
     × (length l.right ≡ length l.initial.right)
     × (l.left ≡ put l.initial.left l.at (left_row l.rgb l.w l.tw l.y l.x l.j))
     × (l.right ≡ put l.initial.right l.at (right_row l.rgb l.w l.tw l.y l.x l.j))
-
-abbrev pub decreases-loop-j : goal.decreases-loop-j
-decreases-loop-j l = l.n - l.j

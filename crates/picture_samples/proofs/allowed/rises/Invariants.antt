@@ -8,6 +8,3 @@ use Rattle.picture_samples.proofs.allowed.rises.Given as goal
 
 abbrev pub invariant-loop-b : goal.invariant-loop-b
 invariant-loop-b l = (l.b ≤ 255) × (l.ok ≡ all l.b (λ i. lt (value (entry l.t) l.c i) (value (entry l.t) l.c (suc i))))
-
-abbrev pub decreases-loop-b : goal.decreases-loop-b
-decreases-loop-b l = 255 - l.b

@@ -9,6 +9,3 @@ use Rattle.picture_samples.proofs.formula.worked_out.Given as goal
 
 abbrev pub invariant-loop-i : goal.invariant-loop-i
 invariant-loop-i l = (l.i ≤ 768) × (length l.t ≡ 768) × (l.t ≡ put l.initial.t 0 (tab l.i (λ k. sample_bits l.mean l.deviation (k / 256) (k % 256))))
-
-abbrev pub decreases-loop-i : goal.decreases-loop-i
-decreases-loop-i l = 768 - l.i

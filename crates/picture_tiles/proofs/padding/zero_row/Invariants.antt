@@ -10,6 +10,3 @@ use Rattle.picture_tiles.proofs.padding.zero_row.Given as goal
 abbrev pub invariant-loop-x : goal.invariant-loop-x
 invariant-loop-x l =
     (l.x ≤ l.wide) × (l.initial.x ≤ l.x) × ((j : ℕ) → l.initial.x ≤ j → j < l.x → zero_pixel (entry l.t) l.n l.patches (sample_place l.p l.gw l.y j 0) ≡ true)
-
-abbrev pub decreases-loop-x : goal.decreases-loop-x
-decreases-loop-x l = l.wide - l.x

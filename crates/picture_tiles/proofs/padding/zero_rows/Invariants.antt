@@ -9,6 +9,3 @@ use Rattle.picture_tiles.proofs.padding.zero_rows.Given as goal
 
 abbrev pub invariant-loop-y : goal.invariant-loop-y
 invariant-loop-y l = (l.y ≤ l.tall) × (all l.y (λ i. zero_row (entry l.t) l.p l.gw l.patches l.v i) ≡ true)
-
-abbrev pub decreases-loop-y : goal.decreases-loop-y
-decreases-loop-y l = l.tall - l.y

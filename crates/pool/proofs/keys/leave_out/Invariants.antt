@@ -20,6 +20,3 @@ pub record Left (p q : Pool) (i j last : ℕ) : Type 0 where
 
 abbrev pub invariant-loop-j : goal.invariant-loop-j
 invariant-loop-j l = Left l.initial.q l.q l.i l.j l.last
-
-abbrev pub decreases-loop-j : goal.decreases-loop-j
-decreases-loop-j l = l.last - l.j

@@ -9,6 +9,3 @@ use Rattle.pool.proofs.slice.move_down.Given as goal
 
 abbrev pub invariant-loop-i : goal.invariant-loop-i
 invariant-loop-i l = (l.i ≤ l.n) × (length l.s ≡ length l.initial.s) × (l.s ≡ put l.initial.s l.to (tab l.i (λ j. get_or (region l.initial.s l.from l.n) j nan)))
-
-abbrev pub decreases-loop-i : goal.decreases-loop-i
-decreases-loop-i l = l.n - l.i

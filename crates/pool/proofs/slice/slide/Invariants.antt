@@ -25,6 +25,3 @@ pub record Slid (p q : Pool) (s t : List Float) (at i : ℕ) : Type 0 where
 
 abbrev pub invariant-loop-i : goal.invariant-loop-i
 invariant-loop-i l = Slid l.initial.q l.q l.initial.s l.s l.to l.i
-
-abbrev pub decreases-loop-i : goal.decreases-loop-i
-decreases-loop-i l = l.count - l.i

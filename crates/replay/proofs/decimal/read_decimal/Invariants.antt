@@ -6,6 +6,3 @@ use Rattle.replay.proofs.decimal.read_decimal.Given as goal
 
 abbrev pub invariant-loop-i : goal.invariant-loop-i
 invariant-loop-i l = (l.i ≤ length l.s) × (number_of l.s ≡ number_from (drop l.i l.s) l.n)
-
-abbrev pub decreases-loop-i : goal.decreases-loop-i
-decreases-loop-i l = length l.s - l.i

@@ -6,6 +6,3 @@ use Rattle.replay.proofs.hash.hash_bytes.Given as goal
 
 abbrev pub invariant-loop-i : goal.invariant-loop-i
 invariant-loop-i l = (l.i ≤ length l.s) × Reduced l.h × (lanes (λ x. x) start l.s ≡ lanes (λ x. x) l.h (drop l.i l.s))
-
-abbrev pub decreases-loop-i : goal.decreases-loop-i
-decreases-loop-i l = length l.s - l.i

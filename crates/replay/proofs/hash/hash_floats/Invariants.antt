@@ -7,6 +7,3 @@ use Rattle.replay.proofs.hash.hash_floats.Given as goal
 
 abbrev pub invariant-loop-i : goal.invariant-loop-i
 invariant-loop-i l = (l.i ≤ length l.s) × Reduced l.h × (lanes (to_bits binary32) start l.s ≡ lanes (to_bits binary32) l.h (drop l.i l.s))
-
-abbrev pub decreases-loop-i : goal.decreases-loop-i
-decreases-loop-i l = length l.s - l.i

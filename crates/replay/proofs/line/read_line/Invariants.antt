@@ -13,6 +13,3 @@ abbrev pub invariant-loop-k : goal.invariant-loop-k
 invariant-loop-k l =
     (l.k ≤ length l.initial.to) × (length l.to ≡ length l.initial.to) × (l.at ≤ length l.line) × (drop l.k l.to ≡ drop l.k l.initial.to)
     × (read_of (length l.initial.to) l.line ≡ behind (take l.k l.to) (fields (length l.initial.to - l.k) (pieces 9 (drop l.at l.line))))
-
-abbrev pub decreases-loop-k : goal.decreases-loop-k
-decreases-loop-k l = length l.initial.to - l.k

@@ -7,6 +7,3 @@ use Rattle.replay.proofs.marks.fill_bytes.Given as goal
 
 abbrev pub invariant-loop-i : goal.invariant-loop-i
 invariant-loop-i l = (l.i ≤ length l.initial.to) × (length l.to ≡ length l.initial.to) × (l.x < 4294967296) × (l.x ≡ stepped (seeded l.seed) l.i) × (l.to ≡ put l.initial.to 0 (tab l.i (byte_at (seeded l.seed))))
-
-abbrev pub decreases-loop-i : goal.decreases-loop-i
-decreases-loop-i l = length l.initial.to - l.i

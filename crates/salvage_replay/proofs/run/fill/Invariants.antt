@@ -13,6 +13,3 @@ placed v t b i = changed v i (get_or t (i / at v 9 % 3 * 256 + get_or b i 0) 0)
 
 abbrev pub invariant-loop-i : goal.invariant-loop-i
 invariant-loop-i l = (l.i ≤ length l.initial.to) × (length l.to ≡ length l.initial.to) × (l.to ≡ put l.initial.to 0 (tab l.i (placed l.v l.t l.bytes)))
-
-abbrev pub decreases-loop-i : goal.decreases-loop-i
-decreases-loop-i l = length l.initial.to - l.i

@@ -8,6 +8,3 @@ use Rattle.tensor_header.proofs.walk.clear.Given as goal
 
 abbrev pub invariant-loop-i : goal.invariant-loop-i
 invariant-loop-i l = (l.i ≤ length l.initial.places) × (length l.places ≡ length l.initial.places) × (l.places ≡ put l.initial.places 0 (tab l.i (λ i. 0)))
-
-abbrev pub decreases-loop-i : goal.decreases-loop-i
-decreases-loop-i l = length l.initial.places - l.i

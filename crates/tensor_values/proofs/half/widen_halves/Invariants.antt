@@ -9,6 +9,3 @@ use Rattle.tensor_values.proofs.half.widen_halves.Given as goal
 
 abbrev pub invariant-loop-i : goal.invariant-loop-i
 invariant-loop-i l = (l.i ≤ length l.initial.out) × (length l.out ≡ length l.initial.out) × (l.out ≡ put l.initial.out 0 (tab l.i (λ k. half (get_or l.initial.out k 0 / 2 ^ 16))))
-
-abbrev pub decreases-loop-i : goal.decreases-loop-i
-decreases-loop-i l = length l.initial.out - l.i

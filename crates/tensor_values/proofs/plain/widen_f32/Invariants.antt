@@ -8,6 +8,3 @@ use Rattle.tensor_values.proofs.plain.widen_f32.Given as goal
 
 abbrev pub invariant-loop-i : goal.invariant-loop-i
 invariant-loop-i l = Begun F32 l.bytes l.initial.out l.out l.i × (l.n ≡ length l.bytes / 4)
-
-abbrev pub decreases-loop-i : goal.decreases-loop-i
-decreases-loop-i l = l.n - l.i

@@ -7,6 +7,3 @@ use Rattle.unpatch_form.proofs.decimal.digits.Given as goal
 
 abbrev pub invariant-loop-i : goal.invariant-loop-i
 invariant-loop-i l = (l.i ≤ length l.s) × (l.n ≤ l.most) × (digits_from 0 l.s ≡ digits_from l.n (drop l.i l.s))
-
-abbrev pub decreases-loop-i : goal.decreases-loop-i
-decreases-loop-i l = length l.s - l.i

@@ -7,6 +7,3 @@ use Rattle.unpatch_form.proofs.scan.is_word.Given as goal
 
 abbrev pub invariant-loop-i : goal.invariant-loop-i
 invariant-loop-i l = (l.i ≤ length l.s) × (length l.s ≡ length l.w) × (same l.s l.w ≡ same (drop l.i l.s) (drop l.i l.w))
-
-abbrev pub decreases-loop-i : goal.decreases-loop-i
-decreases-loop-i l = length l.s - l.i

@@ -9,6 +9,3 @@ use Rattle.unpatch_read.proofs.hex.hex_bytes.Given as goal
 
 abbrev pub invariant-loop-i : goal.invariant-loop-i
 invariant-loop-i l = (l.i ≤ l.half) × (length l.rgb ≡ length l.initial.rgb) × (take l.at l.rgb ≡ take l.at l.initial.rgb) × (hex_pairs l.s ≡ joined (region l.rgb l.at l.i) (hex_pairs (drop (l.i * 2) l.s)))
-
-abbrev pub decreases-loop-i : goal.decreases-loop-i
-decreases-loop-i l = l.half - l.i

@@ -7,6 +7,3 @@ use Rattle.unpatch_read.proofs.read.read.Given as goal
 
 abbrev pub invariant-loop-i : goal.invariant-loop-i
 invariant-loop-i l = (l.initial.i ≤ l.i) × (l.i ≤ 24576) × (l.rgb ≡ put l.initial.rgb l.initial.i (tab (l.i - l.initial.i) (λ _. 0)))
-
-abbrev pub decreases-loop-i : goal.decreases-loop-i
-decreases-loop-i l = 24576 - l.i

@@ -8,6 +8,3 @@ use Rattle.unpatch_text.proofs.print.put_hex.Given as goal
 
 abbrev pub invariant-loop-i : goal.invariant-loop-i
 invariant-loop-i l = (l.i ≤ length l.s) × (l.o ≡ l.at + 2 * l.i) × (length l.out ≡ length l.initial.out) × (l.out ≡ put l.initial.out l.at (hex_text (take l.i l.s)))
-
-abbrev pub decreases-loop-i : goal.decreases-loop-i
-decreases-loop-i l = length l.s - l.i

@@ -8,6 +8,3 @@ use Rattle.unpatch_text.proofs.print.put_rows.Given as goal
 
 abbrev pub invariant-loop-y : goal.invariant-loop-y
 invariant-loop-y l = (l.y ≤ l.h) × (l.from ≡ l.y * l.n) × (length l.out ≡ length l.initial.out) × Wrote l.initial.out l.out l.at (row_lines l.y l.n l.s) l.o
-
-abbrev pub decreases-loop-y : goal.decreases-loop-y
-decreases-loop-y l = l.h - l.y

@@ -21,6 +21,3 @@ Written s h bytes places before out i = (es : List Entry) → Holds s h places e
 
 abbrev pub invariant-loop-i : goal.invariant-loop-i
 invariant-loop-i l = (l.i ≤ l.n) × (l.at ≡ sum_to (tensors l.s) l.i) × (length l.out ≡ length l.initial.out) × Written l.s l.h l.bytes l.places l.initial.out l.out l.i
-
-abbrev pub decreases-loop-i : goal.decreases-loop-i
-decreases-loop-i l = l.n - l.i
