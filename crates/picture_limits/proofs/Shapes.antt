@@ -1,5 +1,6 @@
 -- What an accepted shape says: settings, grid and length in their ranges, so that no size wraps. Assumes nothing.
 use mathlib.Core.Path.{◌≡◌}
+use Rattle.std.specs.Prelude.{Ok, Err}
 use mathlib.Core.Bool.{Bool, true, ◌&&◌}
 use Prim.Native.Nat.{ℕ, ◌*◌, ◌%◌, ◌≤◌}
 use native.Mathlib.Nat.{div-le_self, le-div_iff_mul-le}
@@ -10,7 +11,6 @@ use Rattle.buffers.proofs.Lists.{and_left, and_right}
 use Rattle.picture_limits.specs.declared.PictureSettings.{PictureSettings}
 use Rattle.picture_limits.specs.declared.Refusal.{Refusal}
 use Rattle.picture_limits.specs.declared.Refusal.TheVariants.{Setting, Grid, PatchesLength}
-use Rattle.picture_limits.specs.declared.Shape.TheVariants.{Shaped, Unshaped}
 use Rattle.picture_limits.specs.Settings.{within, allowed}
 use Rattle.picture_limits.specs.Places.{patch_floats}
 use Rattle.picture_limits.specs.Shape.{most, grid_allowed, shaped}
@@ -71,7 +71,7 @@ grids-say s gh gw a e =
       pixels = times (gh * p) (gw * p) 2048 2048 y x;
     }
 
-never : (r : Refusal) (t : ℕ) → Unshaped r ≡ Shaped t → ⊥
+never : (r : Refusal) (t : ℕ) → Err r ≡ Ok t → ⊥
 never r t e = let z : ◌≡◌ {A = ℕ} 0 1 = cc in omega arith
 
 -- what an accepted shape says
@@ -81,13 +81,13 @@ pub record Accepted (s : PictureSettings) (gh gw n t : ℕ) : Type 0 where
   pub tokens : t ≡ gh * gw
   pub samples : n ≡ gh * gw * patch_floats s.patch_size
 
-pub shaped-says : (s : PictureSettings) (gh gw n t : ℕ) → shaped s gh gw n ≡ Shaped t → Accepted s gh gw n t
+pub shaped-says : (s : PictureSettings) (gh gw n t : ℕ) → shaped s gh gw n ≡ Ok t → Accepted s gh gw n t
 unfolding shaped
 shaped-says s gh gw n t e =
     let m = gh * gw * patch_floats s.patch_size in
     let g = grid_allowed s gh && grid_allowed s gw in
-    let a = passed (allowed s) _ _ (Shaped t) (never Setting t) e in
-    let b = passed g _ _ (Shaped t) (never Grid t) a.1 in
-    let d = passed (eqb n m) _ _ (Shaped t) (never PatchesLength t) b.1 in
+    let a = passed (allowed s) _ _ (Ok t) (never Setting t) e in
+    let b = passed g _ _ (Ok t) (never Grid t) a.1 in
+    let d = passed (eqb n m) _ _ (Ok t) (never PatchesLength t) b.1 in
     let h = d.1 in
     record { accepts = a.0; grids = grids-say s gh gw a.0 b.0; tokens = cc; samples = eqb-true n m d.0 }

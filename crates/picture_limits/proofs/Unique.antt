@@ -2,17 +2,17 @@
 use mathlib.Core.Path.{◌≡◌}
 use mathlib.Core.Bool.{Bool, ◌&&◌}
 use Prim.Native.Nat.{ℕ}
+use Rattle.std.specs.Prelude.{Result}
 use Rattle.number_floats.proofs.Unique.{one}
 use Rattle.picture_limits.specs.declared.PictureSettings.{PictureSettings}
 use Rattle.picture_limits.specs.declared.Refusal.{Refusal}
-use Rattle.picture_limits.specs.declared.Shape.{Shape}
 use Rattle.picture_limits.specs.declared.View.{View}
 use Rattle.picture_limits.specs.Refusal.{number}
 use Rattle.picture_limits.specs.Settings.{allowed, sided}
 use Rattle.picture_limits.specs.Shape.{grid_allowed, shaped}
 use Rattle.picture_limits.specs.View.{inside}
 
-pub shape-unique : (s : PictureSettings) (gh gw n : ℕ) (a b : Shape) → a ≡ shaped s gh gw n → b ≡ shaped s gh gw n → a ≡ b
+pub shape-unique : (s : PictureSettings) (gh gw n : ℕ) (a b : Result ℕ Refusal) → a ≡ shaped s gh gw n → b ≡ shaped s gh gw n → a ≡ b
 shape-unique s gh gw n a b = one _
 
 pub allowed-unique : (s : PictureSettings) (a b : Bool) → a ≡ allowed s → b ≡ allowed s → a ≡ b

@@ -1,5 +1,5 @@
 -- The numbers that a call can return, and the first refusal that applies. Assumes nothing.
-use Rattle.std.specs.Prelude.{Bool, true, false, ℕ, zero, suc}
+use Rattle.std.specs.Prelude.{Bool, true, false, ℕ, zero, suc, Result, Ok, Err}
 use Rattle.picture_limits.specs.declared.Refusal as D
 use Rattle.picture_limits.specs.declared.Refusal.TheVariants.{Setting, Side, RgbLength, ImageSize, Output, Grid, PatchesLength, Sample, WeightsLength, TableLength, Scratch, NotFinite, ConfigText, ConfigDepth, ConfigVision, Header, Tensor, Offsets, Channel, Tile, List, Tokens, KeyHeld, NoVectors, PoolFull, KeyUnknown, PoolSlice}
 
@@ -31,6 +31,11 @@ number NoVectors = 24
 number PoolFull = 25
 number KeyUnknown = 26
 number PoolSlice = 27
+
+-- the paper's number of an answer: 0 where it is no refusal
+abbrev pub number_of : {A : Type 0} → Result A D.Refusal → ℕ
+number_of (Ok a) = 0
+number_of (Err r) = number r
 
 -- a size that is reported beside the number n: 0 for every size of a refusal
 abbrev pub reported : ℕ → ℕ → ℕ

@@ -1,47 +1,11 @@
 // Allowed settings, sides and grids.
 ghost use Rattle.std.specs.Prelude.{◌≡◌, ◌&&◌, ◌+◌, leb};
-ghost use Rattle.picture_limits.specs.Refusal as S;
 ghost use Rattle.picture_limits.specs.Settings.{allowed, sided};
 ghost use Rattle.picture_limits.specs.inner.Divides.{Divides};
 ghost use Rattle.picture_limits.specs.Shape.{grid_allowed, shaped};
 ghost use Rattle.picture_limits.specs.View.{inside};
 
-use crate::{PictureSettings, Refusal, Shape, View};
-
-// The paper's number of a refusal.
-pub fn number(r: Refusal) -> u32
-    ensures { result ≡ S.number r }
-{
-    match r {
-        Refusal::Setting => 1,
-        Refusal::Side => 2,
-        Refusal::RgbLength => 3,
-        Refusal::ImageSize => 4,
-        Refusal::Output => 5,
-        Refusal::Grid => 6,
-        Refusal::PatchesLength => 7,
-        Refusal::Sample => 8,
-        Refusal::WeightsLength => 9,
-        Refusal::TableLength => 10,
-        Refusal::Scratch => 11,
-        Refusal::NotFinite => 12,
-        Refusal::ConfigText => 13,
-        Refusal::ConfigDepth => 14,
-        Refusal::ConfigVision => 15,
-        Refusal::Header => 16,
-        Refusal::Tensor => 17,
-        Refusal::Offsets => 18,
-        Refusal::Channel => 19,
-        Refusal::Tile => 20,
-        Refusal::List => 21,
-        Refusal::Tokens => 22,
-        Refusal::KeyHeld => 23,
-        Refusal::NoVectors => 24,
-        Refusal::PoolFull => 25,
-        Refusal::KeyUnknown => 26,
-        Refusal::PoolSlice => 27,
-    }
-}
+use crate::{PictureSettings, Refusal, View};
 
 pub fn settings_allowed(s: PictureSettings) -> bool
     ensures { result ≡ allowed s }
@@ -96,20 +60,25 @@ pub fn grid_allowed(s: PictureSettings, grid_h: usize, grid_w: usize) -> bool
     grid_side_allowed(s, grid_h) & grid_side_allowed(s, grid_w)
 }
 
-// What restore and forward ask of settings, grid and patches: numbers 1, 6 and 7, in that order.
-pub fn shape(s: PictureSettings, grid_h: usize, grid_w: usize, patches: usize) -> Shape
+// What restore and forward ask of settings, grid and patches: numbers 1, 6 and 7, in that order. The answer is the tokens.
+pub fn shape(
+    s: PictureSettings,
+    grid_h: usize,
+    grid_w: usize,
+    patches: usize,
+) -> Result<usize, Refusal>
     ensures { result ≡ shaped s grid_h grid_w patches }
 {
     if !settings_allowed(s) {
-        return Shape::Unshaped(Refusal::Setting);
+        return Err(Refusal::Setting);
     }
     if !(grid_side_allowed(s, grid_h) & grid_side_allowed(s, grid_w)) {
-        return Shape::Unshaped(Refusal::Grid);
+        return Err(Refusal::Grid);
     }
     let p = s.patch_size;
     let t = grid_h * grid_w;
     if patches != t * (3 * (p * p)) {
-        return Shape::Unshaped(Refusal::PatchesLength);
+        return Err(Refusal::PatchesLength);
     }
-    Shape::Shaped { tokens: t }
+    Ok(t)
 }
