@@ -7,8 +7,9 @@ use native.Mathlib.Nat.{suc-mul, zero-mul, mul-le-mul_right, add-zero, zero-add,
 use native.Mathlib.Omega.{arith}
 use native.Mathlib.Numerals.{add-one}
 use native.Mathlib.Decide.{dec_lt}
-use lib.ListN.{length, take, drop, set, get_or, length-append, get_or-append}
+use lib.ListN.{length, take, drop, set, get_or, replicate, length-append, get_or-append}
 use lib.Seq.{get_or_at, get_or-append-add, ext_get_or, take-add, take_at, drop_at}
+use Rattle.std.proofs.lemmas.List.{replicate_more}
 use Rattle.buffers.specs.Region.{put, region}
 use Rattle.buffers.specs.Rows.{tab, rows, grid, all, first}
 use Rattle.buffers.proofs.Regions.{put_one, put-append, put_all}
@@ -22,6 +23,12 @@ module _ {A : Type 0} where
   unfolding tab
   length-tab zero f = refl
   length-tab (suc n) f = simp (length-append, length-tab n f) (omega arith)
+
+  -- as many of one value
+  pub tab-one : (n : ℕ) (d : A) → tab n (λ _. d) ≡ replicate n d
+  unfolding tab
+  tab-one zero d = refl
+  tab-one (suc n) d = ap (λ (l : List A). l ++ (d ∷ [])) (tab-one n d) ∙ replicate_more n d ∙ ap (λ (k : ℕ). replicate k d) (add-one n)
 
   pub get_or-tab : (n i : ℕ) (f : ℕ → A) (d : A) → i < n → get_or (tab n f) i d ≡ f i
   unfolding tab

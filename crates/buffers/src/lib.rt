@@ -16,9 +16,7 @@ use crate::room::inside;
 pub fn clear(s: &mut [f32])
     ensures { s.new ≡ cleared s.old }
 {
-    for i in 0..s.len() {
-        s[i] = 0.0;
-    }
+    s.fill(0.0);
 }
 
 // The n floats of s at at become +0; nothing where they do not lie inside.
@@ -36,9 +34,7 @@ pub fn copy(x: &[f32], out: &mut [f32])
     ensures { out.new ≡ copied x.now out.old }
 {
     if x.len() <= out.len() {
-        for i in 0..x.len() {
-            out[i] = x[i];
-        }
+        out[..x.len()].copy_from_slice(x);
     }
 }
 

@@ -1,5 +1,4 @@
 pub mod Cuts
 pub mod Floors
 pub mod Halves
-pub mod Casts
 pub mod Closest

@@ -7,26 +7,17 @@ ghost use Rattle.std.specs.Float.{binary32, binary64};
 pub fn f32_of_bits(b: u32) -> f32
     ensures { result ≡ Ieee.of_bits binary32 b }
 {
-    if 0x7F80_0000 < (b & 0x7FFF_FFFF) {
-        return 0.0 / 0.0;
-    }
-    f32::from_bits(b)
+    std::num::f32_from_bits_with_nan(b)
 }
 
 pub fn bits_of_f32(x: f32) -> u32
     ensures { result ≡ Ieee.to_bits binary32 x }
 {
-    if x != x {
-        return 0x7FC0_0000;
-    }
-    f32::to_bits(x)
+    std::num::f32_to_bits_with_nan(x)
 }
 
 pub fn bits_of_f64(x: f64) -> u64
     ensures { result ≡ Ieee.to_bits binary64 x }
 {
-    if x != x {
-        return 0x7FF8_0000_0000_0000;
-    }
-    f64::to_bits(x)
+    std::num::f64_to_bits_with_nan(x)
 }

@@ -96,23 +96,6 @@ cut (fin false m e) s =
       (λ t. ap (λ (k : ℕ). round binary64 false k 1) (raise (m * up e) (down e) n (down_pos e) (sym c.0) (not-below-half (mid n) (2 * n + 1) m e v t))),
     )
 
--- ---- the ways through `round64`
-pub small-high : (y : Float) → lt Zero y ≡ true → lt y Big ≡ true → Small y
-unfolding lt of_bits
-small-high nan h l = absurd (true≢false (sym l))
-small-high (inf true) h l = absurd (true≢false (sym h))
-small-high (inf false) h l = absurd (true≢false (sym l))
-small-high (fin true m e) h l = absurd (true≢false (sym h))
-small-high (fin false m e) h l = omega (arith, ltb-true (m * up e * 1) (1 * 2 ^ 52 * down e) l)
-
-pub small_low : (y : Float) → lt y Zero ≡ true → lt (neg y) Big ≡ true → Small (neg y) × (neg (away (neg y)) ≡ away y)
-unfolding lt of_bits neg
-small_low nan h l = absurd (true≢false (sym h))
-small_low (inf true) h l = absurd (true≢false (sym l))
-small_low (inf false) h l = absurd (true≢false (sym h))
-small_low (fin false m e) h l = absurd (below-zero m e h)
-small_low (fin true m e) h l = (omega (arith, ltb-true (m * up e * 1) (1 * 2 ^ 52 * down e) l), sym (neg-round binary64 (away_size (m * up e) (down e)) 1))
-
 same_size : (a c : ℕ) → c ≡ 1 → a ≡ away_size a c
 same_size a c e = subst (λ (x : ℕ). a ≡ away_size a x) (sym e) (let z : a ≡ (2 * a + 1) / 2 = omega arith in z)
 
@@ -137,10 +120,3 @@ at_zero : (s : Bool) (m : ℕ) (e : ℤ) → T (fits binary64 (fin s m e)) → m
 at_zero s m e f z =
     whole_same s m e 0 f (z ∙ sym (zero-mul (down e))) (round_whole binary64 s 0 (lit≤ tt))
     ∙ ap (λ (n : ℕ). round binary64 s n 1) (sym (ap (λ (a : ℕ). (2 * a + down e) / (2 * down e)) z ∙ div-eq_of_lt (omega (arith, down_pos e))))
-
-pub kept-zero : (y : Float) → T (fits binary64 y) → lt Zero y ≡ false → lt y Zero ≡ false → y ≡ away y
-unfolding lt of_bits
-kept-zero nan f h l = refl
-kept-zero (inf s) f h l = refl
-kept-zero (fin false m e) f h l = at_zero false m e f (omega (arith, ltb-false (0 * 1 * down e) (m * up e * 1) h))
-kept-zero (fin true m e) f h l = at_zero true m e f (not-below m e l)
