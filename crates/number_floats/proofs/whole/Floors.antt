@@ -1,4 +1,4 @@
--- What each way through `floor` gives. Assumes nothing.
+-- A large f64 is whole. Assumes nothing.
 use Rattle.std.proofs.Common.{◌≡◌, ℕ, zero, suc, ◌+◌, ◌-◌, ◌*◌, ◌/◌, ◌%◌, ◌^◌, ◌<◌, ◌≤◌, Bool, true, false, ◌&&◌, T, eqb, ltb, leb, ℤ, pos, negsuc, sym, refl, ap, ◌∙◌, subst, true≢false, le_trans, le_of_eq, lt_of_lt_of_le, add-zero, le_of_lt, mod-lt, zero-lt-suc, mul_assoc, div-lt_iff_lt-mul, lt_of_mul-lt-mul_right, div-add-mod', zero-mul, mul-one, mul_right_comm, le_of_mul-le-mul_right, div-one, arith, lit<, lit≤, ltb→lt, pow_mono, pow-add, shl_lt, ltb-false, ltb-true}
 use native.Mathlib.Nat.{div-eq_of_lt, min-eq_left}
 use lib.Arith.{digits_div}
@@ -9,9 +9,6 @@ use lib.Ieee.Back.{round_whole, whole_unique}
 use Rattle.number_floats.specs.Whole.{floor}
 use Rattle.number_floats.proofs.Bound.{neg-round}
 use Rattle.number_floats.proofs.whole.Cuts.{Zero, Cuttable, cuttable, below-zero, not-below}
-
-abbrev pub Big : Float
-Big = of_bits binary64 0x4330_0000_0000_0000
 
 -- ---- a whole number is what its size rounds to
 pub whole_same : (s : Bool) (m : ℕ) (e : ℤ) (w : ℕ) → T (fits binary64 (fin s m e)) → m * up e ≡ w * down e → HasValue (round binary64 s w 1) s w 1 → fin s m e ≡ round binary64 s w 1
@@ -55,36 +52,3 @@ large s (suc m) (pos j) f h =
           (subst (λ (z : ℕ). z < 2 ^ (1024 + 1074)) e (shl_lt 1024 1074 l))
           (e ∙ sym (mul-one (suc m * 2 ^ (j + 1074))))),
     )
-
--- y below zero, of size a / c with the whole part n
-module _ (a c n : ℕ) (C : 0 < c) (N : a / c ≡ n) where
-  some_left : n * c < a → n + 1 ≡ (a + (c - 1)) / c
-  some_left h =
-      let e : n * c + a % c ≡ a = ap (λ (z : ℕ). z * c + a % c) (sym N) ∙ div-add-mod' a c in
-      let l : a % c < c = mod-lt a C in
-      let x : a + (c - 1) ≡ (n + 1) * c + (a % c - 1) = omega arith in
-      sym (ap (λ (z : ℕ). z / c) x ∙ digits_div (n + 1) {m = c} {r = a % c - 1} (omega arith))
-
-  none_left : a ≤ n * c → n ≡ (a + (c - 1)) / c
-  none_left h =
-      let e : n * c + a % c ≡ a = ap (λ (z : ℕ). z * c + a % c) (sym N) ∙ div-add-mod' a c in
-      let x : a + (c - 1) ≡ n * c + (c - 1) = omega arith in
-      sym (ap (λ (z : ℕ). z / c) x ∙ digits_div n {m = c} {r = c - 1} (omega arith))
-
--- ---- the ways that cut
-pub cut-is : (m : ℕ) (e : ℤ) → m * up e < 2 ^ 52 * down e → (to_unsigned 64 (fin false m e) ≡ m * up e / down e) × (m * up e / down e < 2 ^ 52)
-unfolding to_unsigned
-cut-is m e h = let q : m * up e / down e < 2 ^ 52 = (div-lt_iff_lt-mul (down_pos e)).1 h in (min-eq_left (omega arith), q)
-
-abbrev pub Up : Float → Type 0
-Up y = Cuttable y × (to_unsigned 64 y < 2 ^ 52) × (of_int binary64 (pos (to_unsigned 64 y)) ≡ floor y)
-
--- a float g of the size n, against a / c
-less : (g : Float) (n m : ℕ) (e : ℤ) → HasValue g false n 1 → lt g (fin false m e) ≡ true → n * down e < m * up e
-unfolding lt
-less nan n m e v h = absurd v
-less (inf s) n m e v h = absurd v
-less (fin true k d) n m e v h = absurd (true≢false v.0)
-less (fin false k d) n m e v h =
-    let w : k * up d ≡ n * down d = sym (mul-one (k * up d)) ∙ v.1 in
-    lt_of_mul-lt-mul_right (down d) (subst (λ (z : ℕ). z < m * up e * down d) (ap (λ (z : ℕ). z * down e) w ∙ mul_right_comm n (down d) (down e)) (ltb-true (k * up d * down e) (m * up e * down d) h))
