@@ -30,64 +30,72 @@ pub struct EncoderSettings {
     pub scaling: f32,
 }
 
-pub fn settings(s: PictureSettings) -> picture_limits::PictureSettings
-    ensures { result ≡ inner s }
-{
-    let mean = s.mean;
-    let deviation = s.deviation;
-    picture_limits::PictureSettings {
-        patch_size: s.patch_size,
-        spatial_merge_size: s.spatial_merge_size,
-        image_size: s.image_size,
-        resize_rule: s.resize_rule,
-        mean,
-        deviation,
+impl From<PictureSettings> for picture_limits::PictureSettings {
+    ghost from_gives = { λ s t. t ≡ inner s };
+
+    fn from(s: PictureSettings) -> Self {
+        let mean = s.mean;
+        let deviation = s.deviation;
+        picture_limits::PictureSettings {
+            patch_size: s.patch_size,
+            spatial_merge_size: s.spatial_merge_size,
+            image_size: s.image_size,
+            resize_rule: s.resize_rule,
+            mean,
+            deviation,
+        }
     }
 }
 
-pub fn encoder_settings(s: EncoderSettings) -> encoder_settings::EncoderSettings
-    ensures { result ≡ inner_encoder s }
-{
-    encoder_settings::EncoderSettings {
-        picture: settings(s.picture),
-        hidden_size: s.hidden_size,
-        num_heads: s.num_heads,
-        head_dim: s.head_dim,
-        num_layers: s.num_layers,
-        intermediate_size: s.intermediate_size,
-        text_hidden_size: s.text_hidden_size,
-        projector_bias: s.projector_bias,
-        scaling: s.scaling,
+impl From<EncoderSettings> for encoder_settings::EncoderSettings {
+    ghost from_gives = { λ s t. t ≡ inner_encoder s };
+
+    fn from(s: EncoderSettings) -> Self {
+        encoder_settings::EncoderSettings {
+            picture: s.picture.into(),
+            hidden_size: s.hidden_size,
+            num_heads: s.num_heads,
+            head_dim: s.head_dim,
+            num_layers: s.num_layers,
+            intermediate_size: s.intermediate_size,
+            text_hidden_size: s.text_hidden_size,
+            projector_bias: s.projector_bias,
+            scaling: s.scaling,
+        }
     }
 }
 
-pub fn outer_picture(s: picture_limits::PictureSettings) -> PictureSettings
-    ensures { result ≡ outer s }
-{
-    let mean = s.mean;
-    let deviation = s.deviation;
-    PictureSettings {
-        patch_size: s.patch_size,
-        spatial_merge_size: s.spatial_merge_size,
-        image_size: s.image_size,
-        resize_rule: s.resize_rule,
-        mean,
-        deviation,
+impl From<picture_limits::PictureSettings> for PictureSettings {
+    ghost from_gives = { λ s t. t ≡ outer s };
+
+    fn from(s: picture_limits::PictureSettings) -> Self {
+        let mean = s.mean;
+        let deviation = s.deviation;
+        PictureSettings {
+            patch_size: s.patch_size,
+            spatial_merge_size: s.spatial_merge_size,
+            image_size: s.image_size,
+            resize_rule: s.resize_rule,
+            mean,
+            deviation,
+        }
     }
 }
 
-pub fn outer_settings(s: encoder_settings::EncoderSettings) -> EncoderSettings
-    ensures { result ≡ outer_encoder s }
-{
-    EncoderSettings {
-        picture: outer_picture(s.picture),
-        hidden_size: s.hidden_size,
-        num_heads: s.num_heads,
-        head_dim: s.head_dim,
-        num_layers: s.num_layers,
-        intermediate_size: s.intermediate_size,
-        text_hidden_size: s.text_hidden_size,
-        projector_bias: s.projector_bias,
-        scaling: s.scaling,
+impl From<encoder_settings::EncoderSettings> for EncoderSettings {
+    ghost from_gives = { λ s t. t ≡ outer_encoder s };
+
+    fn from(s: encoder_settings::EncoderSettings) -> Self {
+        EncoderSettings {
+            picture: s.picture.into(),
+            hidden_size: s.hidden_size,
+            num_heads: s.num_heads,
+            head_dim: s.head_dim,
+            num_layers: s.num_layers,
+            intermediate_size: s.intermediate_size,
+            text_hidden_size: s.text_hidden_size,
+            projector_bias: s.projector_bias,
+            scaling: s.scaling,
+        }
     }
 }
