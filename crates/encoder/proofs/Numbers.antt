@@ -7,27 +7,24 @@ use lib.Dec.{leb, eqb}
 use lib.ListN.{length}
 use lib.Ieee.{Float}
 use Rattle.picture_limits.specs.declared.Refusal.TheVariants.{Setting, Output, Grid, PatchesLength, WeightsLength, TableLength, Scratch, Tokens}
-use Rattle.picture_limits.specs.declared.Shape.TheVariants.{Shaped, Unshaped}
+use Rattle.std.specs.Prelude.{Result, Ok, Err}
 use Rattle.picture_limits.specs.Refusal.{unless}
 use Rattle.picture_limits.specs.Settings as P
 use Rattle.picture_limits.specs.Places.{patch_floats}
 use Rattle.picture_limits.specs.Shape.{grid_allowed, shaped}
 use Rattle.encoder_settings.specs.declared.EncoderSettings.{EncoderSettings}
-use Rattle.encoder_settings.specs.declared.Checked.{Checked}
-use Rattle.encoder_settings.specs.declared.Checked.TheVariants as C
-use Rattle.encoder_settings.specs.Settings.{allowed, merge_area, weight_floats, scratch_floats, plain_floats, full_tables, lengths, onward, checked_of, checked_plain}
+use Rattle.encoder_settings.specs.Settings.{Checked, accepted, allowed, merge_area, weight_floats, scratch_floats, plain_floats, full_tables, lengths, onward, checked_of, checked_plain}
 use Rattle.encoder_settings.proofs.Bounds.{picture-allowed}
 use Rattle.encoder_steps.specs.Run.{Run, stopped, went, ran}
-use Rattle.encoder_run.specs.declared.Encoded.{Encoded}
 use Rattle.encoder_run.specs.Stages.{forward_run}
 use Rattle.encoder.specs.Forward.{number_of, Numbered}
-use Rattle.encoder_run.specs.Answer.{encoded_by}
+use Rattle.encoder_run.specs.Answer.{Encoded, encoded_by}
 use Rattle.encoder.specs.Plain.{encoded_plain, plain_number}
 
 -- the ladder of answers and that of numbers, test by test: 9, 10, 5, 11, 12
 by_lengths : (a b c d : Bool) (r : Run) (t o : ℕ)
     → Numbered (unless a 9 (unless b 10 (unless c 5 (unless d 11 (unless (ran r) 12 0))))) o
-    (encoded_by (unless a (C.Refused WeightsLength) (unless b (C.Refused TableLength) (unless c (C.Refused Output) (unless d (C.Refused Scratch) (C.Accepted t o))))) r)
+    (encoded_by (unless a (Err WeightsLength) (unless b (Err TableLength) (unless c (Err Output) (unless d (Err Scratch) (accepted t o))))) r)
 by_lengths false b c d r t o = record { number_is = refl; tokens-is = refl }
 by_lengths true false c d r t o = record { number_is = refl; tokens-is = refl }
 by_lengths true true false d r t o = record { number_is = refl; tokens-is = refl }
@@ -36,13 +33,13 @@ by_lengths true true true true stopped t o = record { number_is = refl; tokens-i
 by_lengths true true true true (went l) t o = record { number_is = refl; tokens-is = refl }
 
 -- 22
-by-tokens : (a : Bool) (r : Run) (c : Checked) (n o : ℕ) → Numbered n o (encoded_by c r) → Numbered (unless a 22 n) o (encoded_by (unless a (C.Refused Tokens) c) r)
+by-tokens : (a : Bool) (r : Run) (c : Checked) (n o : ℕ) → Numbered n o (encoded_by c r) → Numbered (unless a 22 n) o (encoded_by (unless a (Err Tokens) c) r)
 by-tokens true r c n o h = h
 by-tokens false r c n o h = record { number_is = refl; tokens-is = refl }
 
 -- 6, 7
 by_shape : (a b : Bool) (f : ℕ → Checked) (r : Run) (t n o : ℕ) → Numbered n o (encoded_by (f t) r)
-    → Numbered (unless a 6 (unless b 7 n)) o (encoded_by (onward (unless a (Unshaped Grid) (unless b (Unshaped PatchesLength) (Shaped t))) f) r)
+    → Numbered (unless a 6 (unless b 7 n)) o (encoded_by (onward (unless a (Err Grid) (unless b (Err PatchesLength) (Ok t))) f) r)
 by_shape false b f r t n o h = record { number_is = refl; tokens-is = refl }
 by_shape true false f r t n o h = record { number_is = refl; tokens-is = refl }
 by_shape true true f r t n o h = h
@@ -62,7 +59,7 @@ module _ (few : ℕ → Bool) (needed : ℕ → ℕ → ℕ) (s : EncoderSetting
       0)))))))
 
   abbrev asked : ℕ → Checked
-  asked t = let o = t / merge_area s.picture in unless (few t) (C.Refused Tokens) (lengths s t o weights tables out (needed t o) scratch)
+  asked t = let o = t / merge_area s.picture in unless (few t) (Err Tokens) (lengths s t o weights tables out (needed t o) scratch)
 
   by-picture : P.allowed s.picture ≡ true
       → Numbered (said (gh * gw) (gh * gw / merge_area s.picture)) (gh * gw / merge_area s.picture) (encoded_by (onward (shaped s.picture gh gw patches) asked) run)
@@ -75,7 +72,7 @@ module _ (few : ℕ → Bool) (needed : ℕ → ℕ → ℕ) (s : EncoderSetting
       (by-tokens (few t) run _ _ o (by_lengths (eqb weights (weight_floats s)) tables (leb (o * s.text_hidden_size) out) (leb (needed t o) scratch) run t o)))
 
   by-settings : (a : Bool) → allowed s ≡ a
-      → Numbered (unless a 1 (said (gh * gw) (gh * gw / merge_area s.picture))) (gh * gw / merge_area s.picture) (encoded_by (unless a (C.Refused Setting) (onward (shaped s.picture gh gw patches) asked)) run)
+      → Numbered (unless a 1 (said (gh * gw) (gh * gw / merge_area s.picture))) (gh * gw / merge_area s.picture) (encoded_by (unless a (Err Setting) (onward (shaped s.picture gh gw patches) asked)) run)
   by-settings false e = record { number_is = refl; tokens-is = refl }
   by-settings true e = by-picture (picture-allowed s e)
 

@@ -13,15 +13,14 @@ use Rattle.buffers.proofs.Rooms.{and_parts, two}
 use Rattle.buffers.proofs.Lists.{length-rows, length-tab}
 use Rattle.picture_limits.specs.Shape.{most}
 use Rattle.encoder_settings.specs.declared.EncoderSettings.{EncoderSettings}
-use Rattle.encoder_settings.specs.declared.Checked.{Checked}
-use Rattle.encoder_settings.specs.Settings.{allowed, axis_floats, table_floats, full_tables, axis_tables, checked_of}
+use Rattle.encoder_settings.specs.Settings.{Checked, accepted, allowed, axis_floats, table_floats, full_tables, axis_tables, checked_of}
 use Rattle.encoder_settings.proofs.Bounds.{allowed-says}
 use Rattle.encoder_rotation.specs.Axes.{expand, axis, precomputed}
 use Rattle.encoder_rotation.proofs.Expanded.{length-expand, precomputed-is}
 use Rattle.buffers.specs.Rows.{tab}
 use Rattle.encoder_run.specs.Stages.{forward_run}
 use Rattle.encoder.specs.Forward.{encoded_of, out_of, scratch_of}
-use Rattle.encoder_run.specs.Answer.{encoded_by, out_by, scratch_by}
+use Rattle.encoder_run.specs.Answer.{Encoded, encoded_by, out_by, scratch_by}
 use Rattle.encoder.specs.Axes.{full_of, encoded_axes, out_axes, scratch_axes, Agrees, ExpandedAgrees, PrecomputedAgrees}
 
 -- a full table of two that have their length has its own

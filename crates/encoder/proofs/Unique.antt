@@ -9,28 +9,25 @@ use lib.Ieee.{Float}
 use Rattle.number_floats.proofs.Unique.{one}
 use Rattle.encoder_settings.specs.declared.EncoderSettings.{EncoderSettings}
 use Rattle.encoder_settings.specs.declared.Form.{Form}
-use Rattle.encoder_settings.specs.declared.Checked.{Checked}
-use Rattle.encoder_settings.specs.declared.Checked.TheVariants as C
-use Rattle.encoder_run.specs.declared.Encoded.{Encoded}
-use Rattle.encoder_run.specs.declared.Encoded.TheVariants.{Tokens}
-use Rattle.encoder_settings.specs.Settings.{merge_area, full_tables, axis_tables, checked_of, checked_plain, checked_by}
+use Rattle.std.specs.Prelude.{Ok, Err}
+use Rattle.encoder_settings.specs.Settings.{Checked, accepted, merge_area, full_tables, axis_tables, checked_of, checked_plain, checked_by}
 use Rattle.encoder_steps.specs.Run.{Run, stopped, went}
 use Rattle.encoder_run.specs.Stages.{forward_run}
 use Rattle.encoder.specs.Forward.{encoded_of, out_of, scratch_of}
-use Rattle.encoder_run.specs.Answer.{encoded_by}
+use Rattle.encoder_run.specs.Answer.{Encoded, encoded_by}
 use Rattle.encoder.specs.Plain.{encoded_plain, out_plain, scratch_plain}
 use Rattle.encoder.specs.Axes.{axes_run, encoded_axes, out_axes, scratch_axes}
 use Rattle.encoder_settings.proofs.Accepted.{accepted-says}
 
 -- a call that is accepted has o token vectors
 count_of : (f : Form) (s : EncoderSettings) (gh gw patches weights : ℕ) (tables : Bool) (out scratch : ℕ) (r : Run) (n : ℕ)
-    → encoded_by (checked_by f s gh gw patches weights tables out scratch) r ≡ Tokens n → n ≡ gh * gw / merge_area s.picture
+    → encoded_by (checked_by f s gh gw patches weights tables out scratch) r ≡ Ok n → n ≡ gh * gw / merge_area s.picture
 count_of f s gh gw patches weights tables out scratch r n e = go (checked_by f s gh gw patches weights tables out scratch) refl r e
   where
-    go : (k : Checked) → checked_by f s gh gw patches weights tables out scratch ≡ k → (r : Run) → encoded_by k r ≡ Tokens n → n ≡ gh * gw / merge_area s.picture
-    go (C.Accepted t o) d (went l) e = let h : n ≡ o = cc in h ∙ (accepted-says f s weights tables out scratch gh gw patches t o d).0.count-is
-    go (C.Accepted t o) d stopped e = let z : ◌≡◌ {A = ℕ} 0 1 = cc in absurd (omega arith)
-    go (C.Refused r) d q e = let z : ◌≡◌ {A = ℕ} 0 1 = cc in absurd (omega arith)
+    go : (k : Checked) → checked_by f s gh gw patches weights tables out scratch ≡ k → (r : Run) → encoded_by k r ≡ Ok n → n ≡ gh * gw / merge_area s.picture
+    go (Ok a) d (went l) e = let h : n ≡ a.count = cc in h ∙ (accepted-says f s weights tables out scratch gh gw patches a.tokens a.count d).0.count-is
+    go (Ok a) d stopped e = let z : ◌≡◌ {A = ℕ} 0 1 = cc in absurd (omega arith)
+    go (Err r) d q e = let z : ◌≡◌ {A = ℕ} 0 1 = cc in absurd (omega arith)
 
 module _ (s : EncoderSettings) (gh gw : ℕ) (w cos sin x : List Float) where
   -- the contract, as a type of an answer and of output and scratch at exit
@@ -43,7 +40,7 @@ module _ (s : EncoderSettings) (gh gw : ℕ) (w cos sin x : List Float) where
       → Forwards out scratch r a c → Forwards out scratch q b d → (r ≡ q) × (a ≡ b) × (c ≡ d)
   forward-unique out scratch r q a b c d f g = (one _ f.0 g.0, one _ f.1 g.1, one _ f.2 g.2)
 
-  pub count-is : (out scratch n : ℕ) → encoded_of s gh gw w cos sin x out scratch ≡ Tokens n → n ≡ gh * gw / merge_area s.picture
+  pub count-is : (out scratch n : ℕ) → encoded_of s gh gw w cos sin x out scratch ≡ Ok n → n ≡ gh * gw / merge_area s.picture
   unfolding encoded_of checked_of checked_by
   count-is out scratch n e = count_of (record { axes = false; plain = false }) s gh gw (length x) (length w) (full_tables s (length cos) (length sin)) out scratch (forward_run s gh gw w cos sin x) n e
 
@@ -59,7 +56,7 @@ module _ (s : EncoderSettings) (gh gw : ℕ) (w row_cos row_sin column_cos colum
       → ForwardsAxes out scratch r a c → ForwardsAxes out scratch q b d → (r ≡ q) × (a ≡ b) × (c ≡ d)
   forward-axes-unique out scratch r q a b c d f g = (one _ f.0 g.0, one _ f.1 g.1, one _ f.2 g.2)
 
-  pub axes-count-is : (out scratch n : ℕ) → encoded_axes s gh gw w row_cos row_sin column_cos column_sin x out scratch ≡ Tokens n → n ≡ gh * gw / merge_area s.picture
+  pub axes-count-is : (out scratch n : ℕ) → encoded_axes s gh gw w row_cos row_sin column_cos column_sin x out scratch ≡ Ok n → n ≡ gh * gw / merge_area s.picture
   unfolding encoded_axes checked_of checked_by
   axes-count-is out scratch n e =
       count_of (record { axes = true; plain = false }) s gh gw (length x) (length w) (axis_tables s (length row_cos) (length row_sin) (length column_cos) (length column_sin)) out scratch (axes_run s gh gw w row_cos row_sin column_cos column_sin x) n e
@@ -75,6 +72,6 @@ module _ (s : EncoderSettings) (gh gw : ℕ) (w cos sin x : List Float) where
       → ForwardsPlain out scratch r a c → ForwardsPlain out scratch q b d → (r ≡ q) × (a ≡ b) × (c ≡ d)
   forward-plain-unique out scratch r q a b c d f g = (one _ f.0 g.0, one _ f.1 g.1, one _ f.2 g.2)
 
-  pub plain-count-is : (out scratch n : ℕ) → encoded_plain s gh gw w cos sin x out scratch ≡ Tokens n → n ≡ gh * gw / merge_area s.picture
+  pub plain-count-is : (out scratch n : ℕ) → encoded_plain s gh gw w cos sin x out scratch ≡ Ok n → n ≡ gh * gw / merge_area s.picture
   unfolding encoded_plain checked_plain checked_by
   plain-count-is out scratch n e = count_of (record { axes = false; plain = true }) s gh gw (length x) (length w) (full_tables s (length cos) (length sin)) out scratch (forward_run s gh gw w cos sin x) n e

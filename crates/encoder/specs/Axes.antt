@@ -3,14 +3,12 @@
 use Rattle.std.specs.Prelude.{◌≡◌, true, List, ℕ, ◌/◌, length, Float}
 use Rattle.picture_limits.specs.Shape.{most}
 use Rattle.encoder_settings.specs.declared.EncoderSettings.{EncoderSettings}
-use Rattle.encoder_settings.specs.declared.Checked.{Checked}
-use Rattle.encoder_settings.specs.Settings.{axis_tables, checked_of}
+use Rattle.encoder_settings.specs.Settings.{Checked, axis_tables, checked_of}
 use Rattle.encoder_rotation.specs.Axes.{expand, axis, precomputed}
 use Rattle.encoder_steps.specs.Run.{Run}
-use Rattle.encoder_run.specs.declared.Encoded.{Encoded}
 use Rattle.encoder_run.specs.Stages.{forward_run}
 use Rattle.encoder.specs.Forward.{encoded_of, out_of, scratch_of, number_of}
-use Rattle.encoder_run.specs.Answer.{encoded_by, out_by, scratch_by}
+use Rattle.encoder_run.specs.Answer.{Encoded, encoded_by, out_by, scratch_by}
 
 -- the full table of a table of rows and a table of columns
 abbrev pub full_of : EncoderSettings → List Float → List Float → List Float

@@ -1,17 +1,14 @@
 -- What a forward call answers, and what it leaves in the output and in the scratch, for every input. Assumes nothing.
-use Rattle.std.specs.Prelude.{◌≡◌, Bool, ◌&&◌, List, ℕ, ◌*◌, ◌/◌, eqb, leb, length, Float}
+use Rattle.std.specs.Prelude.{◌≡◌, Bool, ◌&&◌, List, ℕ, ◌*◌, ◌/◌, eqb, leb, length, Float, Ok, Err}
 use Rattle.picture_limits.specs.Refusal as R
 use Rattle.picture_limits.specs.Refusal.{unless, reported}
 use Rattle.picture_limits.specs.Places.{patch_floats}
 use Rattle.picture_limits.specs.Shape.{grid_allowed}
 use Rattle.encoder_settings.specs.declared.EncoderSettings.{EncoderSettings}
-use Rattle.encoder_settings.specs.declared.Checked.{Checked}
-use Rattle.encoder_settings.specs.Settings.{allowed, merge_area, weight_floats, scratch_floats, full_tables, checked_of}
+use Rattle.encoder_settings.specs.Settings.{Checked, allowed, merge_area, weight_floats, scratch_floats, full_tables, checked_of}
 use Rattle.encoder_steps.specs.Run.{Run, ran}
 use Rattle.encoder_run.specs.Stages.{forward_run}
-use Rattle.encoder_run.specs.Answer.{encoded_by, out_by, scratch_by}
-use Rattle.encoder_run.specs.declared.Encoded.{Encoded}
-use Rattle.encoder_run.specs.declared.Encoded.TheVariants.{Tokens, Refused}
+use Rattle.encoder_run.specs.Answer.{Encoded, encoded_by, out_by, scratch_by}
 
 -- the call, by its settings, grid, weights, tables and patches, and by the room of output and scratch
 module _ (s : EncoderSettings) (gh gw : ℕ) (w cos sin x : List Float) where
@@ -30,12 +27,11 @@ module _ (s : EncoderSettings) (gh gw : ℕ) (w cos sin x : List Float) where
 -- ---- the paper's number and count of an answer
 
 abbrev pub number : Encoded → ℕ
-number (Tokens o) = 0
-number (Refused r) = R.number r
+number a = R.number_of a
 
 abbrev pub tokens : Encoded → ℕ
-tokens (Tokens o) = o
-tokens (Refused r) = 0
+tokens (Ok o) = o
+tokens (Err r) = 0
 
 -- and these for every call: the first number of 1, 6, 7, 9, 10, 5, 11, 12 that applies, else 0; by the lengths of patches and weights,
 -- whether those of the tables are right, and the run

@@ -6,13 +6,11 @@ use Rattle.picture_limits.specs.Refusal.{unless}
 use Rattle.picture_limits.specs.Places.{patch_floats}
 use Rattle.picture_limits.specs.Shape.{grid_allowed}
 use Rattle.encoder_settings.specs.declared.EncoderSettings.{EncoderSettings}
-use Rattle.encoder_settings.specs.declared.Checked.{Checked}
-use Rattle.encoder_settings.specs.Settings.{allowed, merge_area, weight_floats, plain_floats, full_tables, checked_plain}
+use Rattle.encoder_settings.specs.Settings.{Checked, allowed, merge_area, weight_floats, plain_floats, full_tables, checked_plain}
 use Rattle.encoder_steps.specs.Run.{ran}
-use Rattle.encoder_run.specs.declared.Encoded.{Encoded}
 use Rattle.encoder_run.specs.Stages.{forward_run}
 use Rattle.encoder.specs.Forward.{number, encoded_of, out_of, scratch_of}
-use Rattle.encoder_run.specs.Answer.{encoded_by, out_by, scratch_by}
+use Rattle.encoder_run.specs.Answer.{Encoded, encoded_by, out_by, scratch_by}
 
 module _ (s : EncoderSettings) (gh gw : ℕ) (w cos sin x : List Float) where
   abbrev answer_of : ℕ → ℕ → Checked

@@ -5,9 +5,9 @@ ghost use Rattle.encoder.specs.Forward.{encoded_of, out_of, scratch_of, forward_
 ghost use Rattle.encoder.specs.Axes.{encoded_axes, out_axes, scratch_axes, axes_number};
 ghost use Rattle.encoder.specs.Plain.{encoded_plain, out_plain, scratch_plain, plain_number};
 
-use encoder_run::Encoded;
 use encoder_run::form::forward_by;
 use encoder_settings::{EncoderSettings, Form};
+use picture_limits::Refusal;
 
 // The token vectors of patches: the count of them, or a refusal.
 pub fn forward(
@@ -20,7 +20,7 @@ pub fn forward(
     rope_sin: &[f32],
     scratch: &mut [f32],
     out: &mut [f32],
-) -> Encoded
+) -> Result<usize, Refusal>
     ensures answer { result ≡ encoded_of s grid_h grid_w weights.now rope_cos.now rope_sin.now patches.now (length out.old) (length scratch.old) }
     ensures output { out.new ≡ out_of s grid_h grid_w weights.now rope_cos.now rope_sin.now patches.now (length scratch.old) out.old }
     ensures work { scratch.new ≡ scratch_of s grid_h grid_w weights.now rope_cos.now rope_sin.now patches.now (length out.old) scratch.old }
@@ -49,7 +49,7 @@ pub fn forward_axes(
     column_sin: &[f32],
     scratch: &mut [f32],
     out: &mut [f32],
-) -> Encoded
+) -> Result<usize, Refusal>
     ensures answer { result ≡ encoded_axes s grid_h grid_w weights.now row_cos.now row_sin.now column_cos.now column_sin.now patches.now (length out.old) (length scratch.old) }
     ensures output { out.new ≡ out_axes s grid_h grid_w weights.now row_cos.now row_sin.now column_cos.now column_sin.now patches.now (length scratch.old) out.old }
     ensures work { scratch.new ≡ scratch_axes s grid_h grid_w weights.now row_cos.now row_sin.now column_cos.now column_sin.now patches.now (length out.old) scratch.old }
@@ -76,7 +76,7 @@ pub fn forward_plain(
     rope_sin: &[f32],
     scratch: &mut [f32],
     out: &mut [f32],
-) -> Encoded
+) -> Result<usize, Refusal>
     ensures answer { result ≡ encoded_plain s grid_h grid_w weights.now rope_cos.now rope_sin.now patches.now (length out.old) (length scratch.old) }
     ensures output { out.new ≡ out_plain s grid_h grid_w weights.now rope_cos.now rope_sin.now patches.now (length scratch.old) out.old }
     ensures work { scratch.new ≡ scratch_plain s grid_h grid_w weights.now rope_cos.now rope_sin.now patches.now (length out.old) scratch.old }

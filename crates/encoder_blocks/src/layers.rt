@@ -31,13 +31,12 @@ pub(crate) fn each_layer(
 {
     let size = layer_floats(z);
     let mut ok = true;
-    let mut a = 0usize;
     for l in 0..count {
         let r = pixtral_block_forward(
             s,
             z,
             row,
-            part(w, a, size),
+            part(w, l * size, size),
             cos,
             sin,
             column_cos,
@@ -45,7 +44,6 @@ pub(crate) fn each_layer(
             f,
         );
         ok = ok & r;
-        a += size;
     }
     ok
 }

@@ -1,12 +1,11 @@
 -- What the call of a record answers and leaves. Assumes nothing.
-use Rattle.std.specs.Prelude.{ℕ, ◌%◌, cond, List, eqb, length, get_or, take, replicate, Float}
+use Rattle.std.specs.Prelude.{ℕ, ◌%◌, cond, List, eqb, length, get_or, take, replicate, Float, Ok, Err}
 use Rattle.std.specs.Float.{binary32}
 use Rattle.std.specs.Float.Ieee.{of_bits}
 use Rattle.buffers.specs.Region.{region}
 use Rattle.picture_limits.specs.Refusal as R
 use Rattle.encoder_settings.specs.declared.EncoderSettings.{EncoderSettings}
-use Rattle.encoder_run.specs.declared.Encoded.{Encoded}
-use Rattle.encoder_run.specs.declared.Encoded.TheVariants.{Tokens, Refused}
+use Rattle.encoder_run.specs.Answer.{Encoded}
 use Rattle.encoder.specs.Forward.{encoded_of, out_of, scratch_of}
 use Rattle.encoder.specs.Plain.{encoded_plain, out_plain, scratch_plain}
 use Rattle.encoder_replay.specs.declared.run.Answer.{Answer}
@@ -18,8 +17,8 @@ use Rattle.replay.specs.Damage.{damaged}
 
 -- an answer's number and tokens, and the hashes of output and scratch
 abbrev pub answer_from : Encoded → ℕ → ℕ → Answer
-answer_from (Tokens o) h k = record { number = 0; tokens = o; out = h; scratch = k }
-answer_from (Refused r) h k = record { number = R.number r; tokens = 0; out = h; scratch = k }
+answer_from (Ok o) h k = record { number = 0; tokens = o; out = h; scratch = k }
+answer_from (Err r) h k = record { number = R.number r; tokens = 0; out = h; scratch = k }
 
 -- forward's, or, where p is 1, those of forward with plain attention
 module _ (p : ℕ) (s : EncoderSettings) (gh gw : ℕ) (w cos sin x : List Float) where

@@ -3,9 +3,8 @@ ghost use Rattle.std.specs.Prelude.{◌≡◌, length};
 ghost use Rattle.encoder_replay.specs.Run.{encoded_as, out_as, scratch_as, answer_of, settings_of, inputs_from, call_of, run_of};
 ghost use Rattle.encoder_replay.specs.inner.Room.{Small, Room};
 
-use encoder_run::Encoded;
 use encoder_settings::EncoderSettings;
-use picture_limits::PictureSettings;
+use picture_limits::{PictureSettings, Refusal};
 use replay::damage::damage;
 use replay::hash::hash_floats;
 use replay::marks::{MARKS, fill_floats, fill_units};
@@ -38,7 +37,7 @@ fn forward_as(
     sin: &[f32],
     scratch: &mut [f32],
     out: &mut [f32],
-) -> Encoded
+) -> Result<usize, Refusal>
     ensures value { result ≡ encoded_as plain s gh gw weights.now cos.now sin.now patches.now (length out.old) (length scratch.old) }
     ensures out_after { out.new ≡ out_as plain s gh gw weights.now cos.now sin.now patches.now (length scratch.old) out.old }
     ensures scratch_after { scratch.new ≡ scratch_as plain s gh gw weights.now cos.now sin.now patches.now (length out.old) scratch.old }
@@ -67,14 +66,14 @@ fn encode(
     let left = hash_floats(out) as usize;
     let work = hash_floats(scratch) as usize;
     match found {
-        Encoded::Tokens { count } => Answer {
+        Ok(count) => Answer {
             number: 0,
             tokens: count,
             out: left,
             scratch: work,
         },
-        Encoded::Refused(r) => Answer {
-            number: picture_limits::settings::number(r) as usize,
+        Err(r) => Answer {
+            number: u32::from(r) as usize,
             tokens: 0,
             out: left,
             scratch: work,

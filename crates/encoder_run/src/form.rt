@@ -3,12 +3,12 @@ ghost use Rattle.std.specs.Prelude.{◌≡◌, length};
 ghost use Rattle.encoder_run.specs.Answer.{encoded_by, out_by, scratch_by};
 ghost use Rattle.encoder_run.specs.inner.Forms.{lengths_by, run_by};
 
-use crate::Encoded;
 use crate::run::run;
 use encoder_settings::settings::checked;
-use encoder_settings::{Checked, EncoderSettings, Form};
+use encoder_settings::{EncoderSettings, Form};
+use picture_limits::Refusal;
 
-// With full tables the last two slices are not read.
+// The count of the token vectors, or a refusal. With full tables the last two slices are not read.
 pub fn forward_by(
     s: EncoderSettings,
     patches: &[f32],
@@ -22,12 +22,12 @@ pub fn forward_by(
     column_cos: &[f32],
     column_sin: &[f32],
     f: Form,
-) -> Encoded
+) -> Result<usize, Refusal>
     ensures answer { result ≡ encoded_by (lengths_by f s grid_h grid_w weights.now cos.now sin.now column_cos.now column_sin.now patches.now (length out.old) (length scratch.old)) (run_by f s grid_h grid_w weights.now cos.now sin.now column_cos.now column_sin.now patches.now) }
     ensures output { out.new ≡ out_by (lengths_by f s grid_h grid_w weights.now cos.now sin.now column_cos.now column_sin.now patches.now (length out.old) (length scratch.old)) (run_by f s grid_h grid_w weights.now cos.now sin.now column_cos.now column_sin.now patches.now) out.old }
     ensures work { scratch.new ≡ scratch_by (lengths_by f s grid_h grid_w weights.now cos.now sin.now column_cos.now column_sin.now patches.now (length out.old) (length scratch.old)) scratch.old }
 {
-    let lengths = checked(
+    let a = checked(
         s,
         grid_h,
         grid_w,
@@ -40,14 +40,9 @@ pub fn forward_by(
         out.len(),
         scratch.len(),
         f,
-    );
-    match lengths {
-        Checked::Accepted { tokens, count } => {
-            run(
-                s, patches, grid_h, grid_w, tokens, count, weights, cos, sin, scratch, out,
-                column_cos, column_sin, f,
-            )
-        }
-        Checked::Refused(r) => Encoded::Refused(r),
-    }
+    )?;
+    run(
+        s, patches, grid_h, grid_w, a.tokens, a.count, weights, cos, sin, scratch, out, column_cos,
+        column_sin, f,
+    )
 }

@@ -8,14 +8,6 @@ mod layout;
 mod projector;
 mod run;
 
-use picture_limits::Refusal;
-
-#[derive(Drop)]
-pub enum Encoded {
-    Tokens { count: usize },
-    Refused(Refusal),
-}
-
 // The floats of a patch, of the embedding's weights, of all layers' weights and of a merged row.
 #[derive(Drop)]
 pub(crate) struct Counts {

@@ -1,7 +1,7 @@
 // The whole run in the scratch, and its end.
 ghost use Rattle.std.specs.Prelude.{◌≡◌, ◌+◌, ◌*◌, ◌≤◌, length};
 ghost use Rattle.buffers.specs.Region.{region, cleared};
-ghost use Rattle.encoder_settings.specs.declared.Checked.TheVariants as C;
+ghost use Rattle.encoder_settings.specs.Settings.{accepted};
 ghost use Rattle.encoder_blocks.specs.Tables.{table_by};
 ghost use Rattle.encoder_steps.specs.Run.{answer};
 ghost use Rattle.encoder_run.specs.inner.Live.{regions_of};
@@ -9,7 +9,6 @@ ghost use Rattle.encoder_run.specs.Stages.{sizes_of, run_of};
 ghost use Rattle.encoder_run.specs.Answer.{encoded_by, out_by};
 ghost use Rattle.encoder_run.specs.inner.Fits.{RunFits};
 
-use crate::Encoded;
 use crate::embed::{embed, inputs_finite};
 use crate::layout::{counts_of, regions, sizes_of};
 use crate::projector::projector_forward;
@@ -93,12 +92,12 @@ pub(crate) fn run(
     column_cos: &[f32],
     column_sin: &[f32],
     f: Form,
-) -> Encoded
+) -> Result<usize, Refusal>
     requires bound { 1 ≤ s.picture.patch_size }
     requires run_fits { RunFits f s gh gw t o (length patches.now) (length w.now) (length cos.now) (length sin.now) (length column_cos.now) (length column_sin.now) (length scratch.old) }
     requires text_hidden_size_in_bounds { o * s.text_hidden_size ≤ length out.old }
-    ensures value { result ≡ encoded_by (C.Accepted t o) (run_of s gh gw t o w.now (table_by f (sizes_of s t gw) cos.now column_cos.now) (table_by f (sizes_of s t gw) sin.now column_sin.now) patches.now) }
-    ensures out_after { out.new ≡ out_by (C.Accepted t o) (run_of s gh gw t o w.now (table_by f (sizes_of s t gw) cos.now column_cos.now) (table_by f (sizes_of s t gw) sin.now column_sin.now) patches.now) out.old }
+    ensures value { result ≡ encoded_by (accepted t o) (run_of s gh gw t o w.now (table_by f (sizes_of s t gw) cos.now column_cos.now) (table_by f (sizes_of s t gw) sin.now column_sin.now) patches.now) }
+    ensures out_after { out.new ≡ out_by (accepted t o) (run_of s gh gw t o w.now (table_by f (sizes_of s t gw) cos.now column_cos.now) (table_by f (sizes_of s t gw) sin.now column_sin.now) patches.now) out.old }
     ensures scratch_after { scratch.new ≡ cleared scratch.old }
 {
     let h = s.hidden_size;
@@ -110,8 +109,8 @@ pub(crate) fn run(
     if ok {
         copy(part(scratch, at, e), out);
         clear(scratch);
-        return Encoded::Tokens { count: o };
+        return Ok(o);
     }
     clear(scratch);
-    Encoded::Refused(Refusal::NotFinite)
+    Err(Refusal::NotFinite)
 }

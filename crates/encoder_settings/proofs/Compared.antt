@@ -6,50 +6,47 @@ use native.Mathlib.Omega.{arith}
 use lib.Dec.{leb, eqb}
 use Rattle.picture_limits.specs.declared.Refusal.{Refusal}
 use Rattle.picture_limits.specs.declared.Refusal.TheVariants.{Setting, Output, Grid, PatchesLength, WeightsLength, TableLength, Scratch}
-use Rattle.picture_limits.specs.declared.Shape.TheVariants.{Shaped, Unshaped}
+use Rattle.std.specs.Prelude.{Result, Ok, Err}
 use Rattle.picture_limits.specs.Refusal.{unless}
 use Rattle.picture_limits.specs.Settings as P
 use Rattle.picture_limits.specs.Places.{patch_floats}
 use Rattle.picture_limits.specs.Shape.{grid_allowed, shaped}
 use Rattle.encoder_settings.specs.declared.EncoderSettings.{EncoderSettings}
-use Rattle.encoder_settings.specs.declared.Checked.{Checked}
-use Rattle.encoder_settings.specs.declared.Checked.TheVariants.{Accepted, Refused}
-use Rattle.encoder_settings.specs.declared.Needed.{Needed}
-use Rattle.encoder_settings.specs.declared.Needed.TheVariants as N
-use Rattle.encoder_settings.specs.Settings.{allowed, merge_area, weight_floats, table_floats, axis_floats, scratch_floats, lengths, onward, checked_of}
+use Rattle.encoder_settings.specs.declared.lengths.Lengths.{Lengths}
+use Rattle.encoder_settings.specs.Settings.{Checked, accepted, allowed, merge_area, weight_floats, table_floats, axis_floats, scratch_floats, lengths, onward, checked_of}
 use Rattle.encoder_settings.specs.Lengths.{floats_for, needed_of}
 use Rattle.encoder_settings.proofs.Bounds.{picture-allowed}
 
 -- what a call is answered by what is needed: 7, 9, 10, 5 and 11 compare with it, and its refusal is the call's
 -- tables says by the two lengths of a table whether those of the call are right
-abbrev pub compared_by : Needed → ℕ → ℕ → ℕ → ℕ → (ℕ → ℕ → Bool) → ℕ → ℕ → Checked
-compared_by (N.Refused r) t o patches weights tables out scratch = Refused r
-compared_by (N.Lengths x w b a c y) t o patches weights tables out scratch =
-    unless (eqb patches x) (Refused PatchesLength)
-    (unless (eqb weights w) (Refused WeightsLength)
-    (unless (tables b a) (Refused TableLength)
-    (unless (leb y out) (Refused Output)
-    (unless (leb c scratch) (Refused Scratch)
-    (Accepted t o)))))
+abbrev pub compared_by : Result Lengths Refusal → ℕ → ℕ → ℕ → ℕ → (ℕ → ℕ → Bool) → ℕ → ℕ → Checked
+compared_by (Err r) t o patches weights tables out scratch = Err r
+compared_by (Ok l) t o patches weights tables out scratch =
+    unless (eqb patches l.patches) (Err PatchesLength)
+    (unless (eqb weights l.weights) (Err WeightsLength)
+    (unless (tables l.tables l.axes) (Err TableLength)
+    (unless (leb l.out out) (Err Output)
+    (unless (leb l.scratch scratch) (Err Scratch)
+    (accepted t o)))))
 
 module _ (s : EncoderSettings) (gh gw patches weights : ℕ) (tables : ℕ → ℕ → Bool) (out scratch : ℕ) where
-  abbrev told : Needed → Checked
+  abbrev told : Result Lengths Refusal → Checked
   told n = compared_by n (gh * gw) (gh * gw / merge_area s.picture) patches weights tables out scratch
 
   abbrev asked : ℕ → Checked
   asked t = lengths s t (t / merge_area s.picture) weights (tables (table_floats s) (axis_floats s)) out (scratch_floats s t (t / merge_area s.picture)) scratch
 
   by-grid : (g l : Bool) → eqb patches (gh * gw * patch_floats s.picture.patch_size) ≡ l
-      → onward (unless g (Unshaped Grid) (unless l (Unshaped PatchesLength) (Shaped (gh * gw)))) asked
-      ≡ told (unless g (N.Refused Grid) (floats_for s (gh * gw) (gh * gw / merge_area s.picture)))
+      → onward (unless g (Err Grid) (unless l (Err PatchesLength) (Ok (gh * gw)))) asked
+      ≡ told (unless g (Err Grid) (Ok (floats_for s (gh * gw) (gh * gw / merge_area s.picture))))
   unfolding lengths
   by-grid false l e = refl
   by-grid true false e = rw e refl
   by-grid true true e = rw e refl
 
   by-settings : (a : Bool) → allowed s ≡ a
-      → unless a (Refused Setting) (onward (shaped s.picture gh gw patches) asked)
-      ≡ told (unless a (N.Refused Setting) (unless (grid_allowed s.picture gh && grid_allowed s.picture gw) (N.Refused Grid) (floats_for s (gh * gw) (gh * gw / merge_area s.picture))))
+      → unless a (Err Setting) (onward (shaped s.picture gh gw patches) asked)
+      ≡ told (unless a (Err Setting) (unless (grid_allowed s.picture gh && grid_allowed s.picture gw) (Err Grid) (Ok (floats_for s (gh * gw) (gh * gw / merge_area s.picture)))))
   unfolding shaped
   by-settings false e = refl
   by-settings true e = rw (picture-allowed s e) (by-grid (grid_allowed s.picture gh && grid_allowed s.picture gw) (eqb patches (gh * gw * patch_floats s.picture.patch_size)) refl)

@@ -4,9 +4,10 @@ use Prim.Native.Nat.{ℕ}
 use Rattle.number_floats.proofs.Unique.{one}
 use Rattle.encoder_settings.specs.declared.EncoderSettings.{EncoderSettings}
 use Rattle.encoder_settings.specs.declared.Form.{Form}
-use Rattle.encoder_settings.specs.declared.Checked.{Checked}
-use Rattle.encoder_settings.specs.declared.Needed.{Needed}
-use Rattle.encoder_settings.specs.Settings.{tables_fit, checked_by}
+use Rattle.std.specs.Prelude.{Result}
+use Rattle.picture_limits.specs.declared.Refusal.{Refusal}
+use Rattle.encoder_settings.specs.declared.lengths.Lengths.{Lengths}
+use Rattle.encoder_settings.specs.Settings.{Checked, tables_fit, checked_by}
 use Rattle.encoder_settings.specs.Lengths.{needed_of}
 
 pub checked-unique : (s : EncoderSettings) (f : Form) (gh gw patches weights cos sin column_cos column_sin out scratch : ℕ) (a b : Checked)
@@ -14,5 +15,5 @@ pub checked-unique : (s : EncoderSettings) (f : Form) (gh gw patches weights cos
     → b ≡ checked_by f s gh gw patches weights (tables_fit f s cos sin column_cos column_sin) out scratch → a ≡ b
 checked-unique s f gh gw patches weights cos sin column_cos column_sin out scratch a b = one _
 
-pub needed-unique : (s : EncoderSettings) (gh gw : ℕ) (a b : Needed) → a ≡ needed_of s gh gw → b ≡ needed_of s gh gw → a ≡ b
+pub needed-unique : (s : EncoderSettings) (gh gw : ℕ) (a b : Result Lengths Refusal) → a ≡ needed_of s gh gw → b ≡ needed_of s gh gw → a ≡ b
 needed-unique s gh gw a b = one _

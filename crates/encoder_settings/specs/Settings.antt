@@ -1,12 +1,11 @@
 -- Allowed settings, how long each buffer has to be, and the answer of the refusals 1, 6, 7, 9, 10, 5, 11. Assumes nothing.
-use Rattle.std.specs.Prelude.{Bool, true, false, ◌&&◌, cond, ℕ, ◌+◌, ◌*◌, ◌-◌, ◌/◌, ◌%◌, leb, eqb}
+use Rattle.std.specs.Prelude.{Bool, true, false, ◌&&◌, cond, ℕ, ◌+◌, ◌*◌, ◌-◌, ◌/◌, ◌%◌, leb, eqb, Result, Ok, Err}
 use Rattle.std.specs.Float.Ieee.{lt}
 use Rattle.std.specs.Float.{inf}
 use Rattle.number_floats.specs.Constants.{zero32}
 use Rattle.picture_limits.specs.declared.PictureSettings.{PictureSettings}
+use Rattle.picture_limits.specs.declared.Refusal.{Refusal}
 use Rattle.picture_limits.specs.declared.Refusal.TheVariants.{Setting, Output, WeightsLength, TableLength, Scratch, Tokens}
-use Rattle.picture_limits.specs.declared.Shape.{Shape}
-use Rattle.picture_limits.specs.declared.Shape.TheVariants.{Shaped, Unshaped}
 use Rattle.picture_limits.specs.Refusal as R
 use Rattle.picture_limits.specs.Refusal.{unless}
 use Rattle.picture_limits.specs.Settings as P
@@ -14,8 +13,7 @@ use Rattle.picture_limits.specs.Settings.{within}
 use Rattle.picture_limits.specs.Shape.{most, shaped}
 use Rattle.encoder_settings.specs.declared.EncoderSettings.{EncoderSettings}
 use Rattle.encoder_settings.specs.declared.Form.{Form}
-use Rattle.encoder_settings.specs.declared.Checked.{Checked}
-use Rattle.encoder_settings.specs.declared.Checked.TheVariants.{Accepted, Refused}
+use Rattle.encoder_settings.specs.declared.settings.Accepted.{Accepted}
 use Rattle.encoder_settings.specs.Weights.{floats, weights}
 
 abbrev pub ranged : EncoderSettings → Bool
@@ -72,48 +70,54 @@ scratch_by f s t o = cond f.plain (plain_floats s t o) (scratch_floats s t o)
 abbrev pub few_tokens : Form → ℕ → Bool
 few_tokens f t = cond f.plain (leb t 64) true
 
+-- what settings and lengths say: t tokens, of which o are left, or a refusal
+abbrev pub Checked : Type 0
+Checked = Result Accepted Refusal
+
+abbrev pub accepted : ℕ → ℕ → Checked
+accepted t o = Ok (record { tokens = t; count = o })
+
 -- the paper's number of what was checked, and the counts of tokens: 0 of a refusal
 abbrev pub number : Checked → ℕ
-number (Accepted t o) = 0
-number (Refused r) = R.number r
+number a = R.number_of a
 
 abbrev pub tokens : Checked → ℕ
-tokens (Accepted t o) = t
-tokens (Refused r) = 0
+tokens (Ok a) = a.tokens
+tokens (Err r) = 0
 
 abbrev pub tokens_left : Checked → ℕ
-tokens_left (Accepted t o) = o
-tokens_left (Refused r) = 0
+tokens_left (Ok a) = a.count
+tokens_left (Err r) = 0
 
 -- 9, 10, 5, 11, for t tokens of which o are left; tables says whether their lengths are right, and needed how much scratch it takes
 unfoldable pub lengths : EncoderSettings → ℕ → ℕ → ℕ → Bool → ℕ → ℕ → ℕ → Checked
 lengths s t o weights tables out needed scratch =
-    unless (eqb weights (weight_floats s)) (Refused WeightsLength)
-    (unless tables (Refused TableLength)
-    (unless (leb (o * s.text_hidden_size) out) (Refused Output)
-    (unless (leb needed scratch) (Refused Scratch)
-    (Accepted t o))))
+    unless (eqb weights (weight_floats s)) (Err WeightsLength)
+    (unless tables (Err TableLength)
+    (unless (leb (o * s.text_hidden_size) out) (Err Output)
+    (unless (leb needed scratch) (Err Scratch)
+    (accepted t o))))
 
 -- the answer for a shape's tokens, and the shape's own refusal
-abbrev pub onward : Shape → (ℕ → Checked) → Checked
-onward (Shaped t) f = f t
-onward (Unshaped r) f = Refused r
+abbrev pub onward : Result ℕ Refusal → (ℕ → Checked) → Checked
+onward (Ok t) f = f t
+onward (Err r) f = Err r
 
 unfoldable pub checked_of : EncoderSettings → ℕ → ℕ → ℕ → ℕ → Bool → ℕ → ℕ → Checked
 checked_of s gh gw patches weights tables out scratch =
-    unless (allowed s) (Refused Setting)
+    unless (allowed s) (Err Setting)
     (onward (shaped s.picture gh gw patches) (λ t. let o = t / merge_area s.picture in lengths s t o weights tables out (scratch_floats s t o) scratch))
 
 -- and with plain attention: 22 above 64 tokens, directly after 7
 unfoldable pub checked_plain : EncoderSettings → ℕ → ℕ → ℕ → ℕ → Bool → ℕ → ℕ → Checked
 checked_plain s gh gw patches weights tables out scratch =
-    unless (allowed s) (Refused Setting)
+    unless (allowed s) (Err Setting)
     (onward (shaped s.picture gh gw patches) (λ t. let o = t / merge_area s.picture in
-    unless (leb t 64) (Refused Tokens) (lengths s t o weights tables out (plain_floats s t o) scratch)))
+    unless (leb t 64) (Err Tokens) (lengths s t o weights tables out (plain_floats s t o) scratch)))
 
 -- either, by the form
 unfoldable pub checked_by : Form → EncoderSettings → ℕ → ℕ → ℕ → ℕ → Bool → ℕ → ℕ → Checked
 checked_by f s gh gw patches weights tables out scratch =
-    unless (allowed s) (Refused Setting)
+    unless (allowed s) (Err Setting)
     (onward (shaped s.picture gh gw patches) (λ t. let o = t / merge_area s.picture in
-    unless (few_tokens f t) (Refused Tokens) (lengths s t o weights tables out (scratch_by f s t o) scratch)))
+    unless (few_tokens f t) (Err Tokens) (lengths s t o weights tables out (scratch_by f s t o) scratch)))

@@ -4,7 +4,7 @@
 pub mod lengths;
 pub mod settings;
 
-use picture_limits::{PictureSettings, Refusal};
+use picture_limits::PictureSettings;
 
 #[derive(Clone, Copy)]
 pub struct EncoderSettings {
@@ -25,25 +25,4 @@ pub struct EncoderSettings {
 pub struct Form {
     pub axes: bool,
     pub plain: bool,
-}
-
-// How many floats each buffer of a forward call has to have, or a refusal.
-#[derive(Drop)]
-pub enum Needed {
-    Lengths {
-        patches: usize,
-        weights: usize,
-        tables: usize,
-        axes: usize,
-        scratch: usize,
-        out: usize,
-    },
-    Refused(Refusal),
-}
-
-// What the settings and the lengths say: the tokens, of which count are left, or a refusal.
-#[derive(Drop)]
-pub enum Checked {
-    Accepted { tokens: usize, count: usize },
-    Refused(Refusal),
 }

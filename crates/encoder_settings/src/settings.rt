@@ -4,9 +4,16 @@ ghost use Rattle.encoder_settings.specs.Settings as S;
 ghost use Rattle.encoder_settings.specs.Settings.{ranged, scaling_allowed, allowed, weight_floats, table_floats, axis_floats, scratch_floats, tables_fit, few_tokens, scratch_by, checked_by};
 ghost use Rattle.encoder_settings.specs.inner.Bounds.{Bounded, Counted};
 
-use crate::{Checked, EncoderSettings, Form};
+use crate::{EncoderSettings, Form};
+use picture_limits::Refusal;
 use picture_limits::settings::shape;
-use picture_limits::{Refusal, Shape};
+
+// What an accepted call has: its tokens, of which count are left.
+#[derive(Clone, Copy, PartialEq, Eq, Debug)]
+pub struct Accepted {
+    pub tokens: usize,
+    pub count: usize,
+}
 
 pub(crate) fn in_range(s: EncoderSettings) -> bool
     ensures { result ≡ ranged s }
@@ -136,26 +143,26 @@ pub(crate) fn lengths(
     out: usize,
     needed: usize,
     scratch: usize,
-) -> Checked
+) -> Result<Accepted, Refusal>
     requires { Bounded s × Counted s t o }
     ensures { result ≡ S.lengths s t o weights tables out needed scratch }
 {
     if weights != weights_needed(s) {
-        return Checked::Refused(Refusal::WeightsLength);
+        return Err(Refusal::WeightsLength);
     }
     if !tables {
-        return Checked::Refused(Refusal::TableLength);
+        return Err(Refusal::TableLength);
     }
     if out < o * s.text_hidden_size {
-        return Checked::Refused(Refusal::Output);
+        return Err(Refusal::Output);
     }
     if scratch < needed {
-        return Checked::Refused(Refusal::Scratch);
+        return Err(Refusal::Scratch);
     }
-    Checked::Accepted {
+    Ok(Accepted {
         tokens: t,
         count: o,
-    }
+    })
 }
 
 pub fn checked(
@@ -171,25 +178,20 @@ pub fn checked(
     out: usize,
     scratch: usize,
     f: Form,
-) -> Checked
+) -> Result<Accepted, Refusal>
     ensures { result ≡ checked_by f s grid_h grid_w patches weights (tables_fit f s cos sin column_cos column_sin) out scratch }
 {
     if !settings_allowed(s) {
-        return Checked::Refused(Refusal::Setting);
+        return Err(Refusal::Setting);
     }
     let q = s.picture;
-    let shaped = shape(q, grid_h, grid_w, patches);
-    match shaped {
-        Shape::Shaped { tokens } => {
-            if !few_tokens(tokens, f) {
-                return Checked::Refused(Refusal::Tokens);
-            }
-            let m = q.spatial_merge_size;
-            let o = tokens / (m * m);
-            let tables = tables_fit(s, cos, sin, column_cos, column_sin, f);
-            let needed = scratch_by(s, tokens, o, f);
-            lengths(s, tokens, o, weights, tables, out, needed, scratch)
-        }
-        Shape::Unshaped(r) => Checked::Refused(r),
+    let tokens = shape(q, grid_h, grid_w, patches)?;
+    if !few_tokens(tokens, f) {
+        return Err(Refusal::Tokens);
     }
+    let m = q.spatial_merge_size;
+    let o = tokens / (m * m);
+    let tables = tables_fit(s, cos, sin, column_cos, column_sin, f);
+    let needed = scratch_by(s, tokens, o, f);
+    lengths(s, tokens, o, weights, tables, out, needed, scratch)
 }

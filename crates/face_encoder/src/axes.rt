@@ -4,7 +4,7 @@ ghost use Rattle.encoder.specs.Axes.{encoded_axes, out_axes, scratch_axes};
 ghost use Rattle.face_settings.specs.Settings.{inner_encoder};
 ghost use Rattle.face_encoder.specs.Reports.{forward_report};
 
-use crate::{ForwardReport, forward_report};
+use crate::ForwardReport;
 use face_settings::{EncoderSettings, encoder_settings};
 
 pub fn forward_axes(
@@ -37,5 +37,5 @@ pub fn forward_axes(
         scratch,
         out,
     );
-    forward_report(found)
+    ForwardReport::from(found)
 }

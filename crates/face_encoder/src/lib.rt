@@ -10,9 +10,9 @@ ghost use Rattle.encoder.specs.Forward.{encoded_of, out_of, scratch_of};
 ghost use Rattle.face_settings.specs.Settings.{inner_encoder};
 ghost use Rattle.face_encoder.specs.Reports.{forward_report, lengths_report};
 
-use encoder_run::Encoded;
-use encoder_settings::Needed;
+use encoder_settings::lengths::Lengths;
 use face_settings::{EncoderSettings, encoder_settings};
+use picture_limits::Refusal;
 
 #[repr(C)]
 #[derive(Drop)]
@@ -35,18 +35,47 @@ pub struct LengthsReport {
     pub out: usize,
 }
 
-pub(crate) fn forward_report(found: Encoded) -> ForwardReport
-    ensures { result ≡ forward_report found }
-{
-    match found {
-        Encoded::Tokens { count } => ForwardReport {
-            number: 0,
-            tokens: count,
-        },
-        Encoded::Refused(r) => ForwardReport {
-            number: picture_limits::settings::number(r),
-            tokens: 0,
-        },
+impl From<Result<usize, Refusal>> for ForwardReport {
+    ghost from_gives = { λ found r. r ≡ forward_report found };
+
+    fn from(found: Result<usize, Refusal>) -> ForwardReport {
+        match found {
+            Ok(count) => ForwardReport {
+                number: 0,
+                tokens: count,
+            },
+            Err(r) => ForwardReport {
+                number: u32::from(r),
+                tokens: 0,
+            },
+        }
+    }
+}
+
+impl From<Result<Lengths, Refusal>> for LengthsReport {
+    ghost from_gives = { λ found r. r ≡ lengths_report found };
+
+    fn from(found: Result<Lengths, Refusal>) -> LengthsReport {
+        match found {
+            Ok(l) => LengthsReport {
+                number: 0,
+                patches: l.patches,
+                weights: l.weights,
+                tables: l.tables,
+                axes: l.axes,
+                scratch: l.scratch,
+                out: l.out,
+            },
+            Err(r) => LengthsReport {
+                number: u32::from(r),
+                patches: 0,
+                weights: 0,
+                tables: 0,
+                axes: 0,
+                scratch: 0,
+                out: 0,
+            },
+        }
     }
 }
 
@@ -76,38 +105,12 @@ pub fn forward(
         scratch,
         out,
     );
-    forward_report(found)
+    ForwardReport::from(found)
 }
 
 pub fn lengths(s: EncoderSettings, grid_h: usize, grid_w: usize) -> LengthsReport
     ensures { result ≡ lengths_report (needed_of (inner_encoder s) grid_h grid_w) }
 {
     let found = encoder_settings::lengths::needed(encoder_settings(s), grid_h, grid_w);
-    match found {
-        Needed::Lengths {
-            patches,
-            weights,
-            tables,
-            axes,
-            scratch,
-            out,
-        } => LengthsReport {
-            number: 0,
-            patches,
-            weights,
-            tables,
-            axes,
-            scratch,
-            out,
-        },
-        Needed::Refused(r) => LengthsReport {
-            number: picture_limits::settings::number(r),
-            patches: 0,
-            weights: 0,
-            tables: 0,
-            axes: 0,
-            scratch: 0,
-            out: 0,
-        },
-    }
+    LengthsReport::from(found)
 }

@@ -4,7 +4,7 @@ ghost use Rattle.encoder.specs.Plain.{encoded_plain, out_plain, scratch_plain};
 ghost use Rattle.face_settings.specs.Settings.{inner_encoder};
 ghost use Rattle.face_encoder.specs.Reports.{forward_report};
 
-use crate::{ForwardReport, forward_report};
+use crate::ForwardReport;
 use face_settings::{EncoderSettings, encoder_settings};
 
 pub fn forward_plain(
@@ -33,5 +33,5 @@ pub fn forward_plain(
         scratch,
         out,
     );
-    forward_report(found)
+    ForwardReport::from(found)
 }

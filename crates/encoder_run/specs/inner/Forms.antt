@@ -2,8 +2,7 @@
 use Rattle.std.specs.Prelude.{List, ℕ, ◌*◌, length, Float}
 use Rattle.encoder_settings.specs.declared.EncoderSettings.{EncoderSettings}
 use Rattle.encoder_settings.specs.declared.Form.{Form}
-use Rattle.encoder_settings.specs.declared.Checked.{Checked}
-use Rattle.encoder_settings.specs.Settings.{tables_fit, checked_by}
+use Rattle.encoder_settings.specs.Settings.{Checked, tables_fit, checked_by}
 use Rattle.encoder_blocks.specs.Tables.{table_by}
 use Rattle.encoder_steps.specs.Run.{Run}
 use Rattle.encoder_run.specs.Stages.{sizes_of, forward_run}

@@ -1,9 +1,7 @@
 -- `encoder_blocks::layers::each_layer` meets its contract. Assumes nothing.
 use mathlib.Core.Path.{◌≡◌}
-use Prim.Native.Nat.{◌*◌, ◌-◌, ◌≤◌}
 use lib.ListN.{length}
-use Rattle.encoder_settings.specs.Weights.{floats}
-use Rattle.encoder_blocks.specs.Block.{parts_of, layers_run}
+use Rattle.encoder_blocks.specs.Block.{layers_run}
 use Rattle.encoder_steps.specs.Run.{answer}
 use Rattle.encoder_blocks.specs.Tables.{table_by}
 use Rattle.encoder_blocks.specs.inner.Live.{h_at}
@@ -11,5 +9,5 @@ use Rattle.encoder_blocks.proofs.layers.each_layer.Given as goal
 
 abbrev pub invariant-loop-l : goal.invariant-loop-l
 invariant-loop-l l =
-    (l.l ≤ l.count) × (l.a ≡ l.l * floats (parts_of l.z)) × (length l.s ≡ length l.initial.s)
+    (length l.s ≡ length l.initial.s)
     × (answer l.ok (h_at l.z l.s) ≡ layers_run l.z l.w (table_by l.f l.z l.cos l.column_cos) (table_by l.f l.z l.sin l.column_sin) l.l (h_at l.z l.initial.s))

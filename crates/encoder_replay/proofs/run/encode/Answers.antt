@@ -5,7 +5,7 @@ use mathlib.Core.List.{List}
 use lib.Ieee.{Float}
 use lib.ListN.{length}
 use Rattle.encoder_settings.specs.declared.EncoderSettings.{EncoderSettings}
-use Rattle.encoder_run.specs.declared.Encoded.{Encoded}
+use Rattle.encoder_run.specs.Answer.{Encoded}
 use Rattle.replay.specs.Hash.{float_hash}
 use Rattle.encoder_replay.specs.Run.{encoded_as, out_as, scratch_as, answer_from, answer_of}
 use Rattle.encoder_replay.proofs.run.encode.Goals as goal
@@ -22,8 +22,8 @@ module _ (p : ℕ) (s : EncoderSettings) (gh gw : ℕ) (w cos sin x scratch out 
   unfolding answer_of
   answered t u a h k e f g i j = rw (i, j, f, g, e)
 
-pub returns-in-Tokens : goal.returns-in-Tokens
-returns-in-Tokens c =
+pub returns-in-Ok : goal.returns-in-Ok
+returns-in-Ok c =
     let whole : let d = c.before.before.before in let f = c.before.before.before.before.before.before.before in let a = c.args in
     answer_from c.forward_as-found.result c.hash_floats-left.result c.hash_floats-work.result
     ≡ answer_of c.args.plain c.args.s c.args.gh c.args.gw c.args.weights.now c.args.cos.now c.args.sin.now c.args.patches.now c.args.scratch.now c.args.out.now = let d = c.before.before.before in
@@ -31,10 +31,10 @@ returns-in-Tokens c =
     let a = c.args in
     answered c.args.plain c.args.s c.args.gh c.args.gw c.args.weights.now c.args.cos.now c.args.sin.now c.args.patches.now c.args.scratch.now c.args.out.now _ _ c.forward_as-found.result c.hash_floats-left.result c.hash_floats-work.result c.forward_as-found.ensures.value c.forward_as-found.ensures.out_after c.forward_as-found.ensures.scratch_after c.hash_floats-left.ensures c.hash_floats-work.ensures in
     let d = c.before in
-    ap (λ (a : Encoded). answer_from a c.hash_floats-left.result c.hash_floats-work.result) (sym c.in-Tokens.is) ∙ whole
+    ap (λ (a : Encoded). answer_from a c.hash_floats-left.result c.hash_floats-work.result) (sym c.in-Ok.is) ∙ whole
 
-pub returns-in-Refused : goal.returns-in-Refused
-returns-in-Refused c =
+pub returns-in-Err : goal.returns-in-Err
+returns-in-Err c =
     let whole : let d = c.before.before.before.before in let f = c.before.before.before.before.before.before.before.before in let a = c.args in
     answer_from c.forward_as-found.result c.hash_floats-left.result c.hash_floats-work.result
     ≡ answer_of c.args.plain c.args.s c.args.gh c.args.gw c.args.weights.now c.args.cos.now c.args.sin.now c.args.patches.now c.args.scratch.now c.args.out.now = let d = c.before.before.before.before in
@@ -42,6 +42,6 @@ returns-in-Refused c =
     let a = c.args in
     answered c.args.plain c.args.s c.args.gh c.args.gw c.args.weights.now c.args.cos.now c.args.sin.now c.args.patches.now c.args.scratch.now c.args.out.now _ _ c.forward_as-found.result c.hash_floats-left.result c.hash_floats-work.result c.forward_as-found.ensures.value c.forward_as-found.ensures.out_after c.forward_as-found.ensures.scratch_after c.hash_floats-left.ensures c.hash_floats-work.ensures in
     let d = c.before.before in
-    ap (λ (n : ℕ). record { number = n; tokens = 0; out = c.hash_floats-left.result; scratch = c.hash_floats-work.result }) c.number.ensures
-    ∙ ap (λ (a : Encoded). answer_from a c.hash_floats-left.result c.hash_floats-work.result) (sym c.in-Refused.is)
+    ap (λ (n : ℕ). record { number = n; tokens = 0; out = c.hash_floats-left.result; scratch = c.hash_floats-work.result }) c.from.ensures
+    ∙ ap (λ (a : Encoded). answer_from a c.hash_floats-left.result c.hash_floats-work.result) (sym c.in-Err.is)
     ∙ whole

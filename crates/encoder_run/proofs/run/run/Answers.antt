@@ -7,7 +7,7 @@ use Rattle.buffers.specs.Region.{region, copied}
 use Rattle.number_floats.specs.Constants.{zero32}
 use Rattle.buffers.specs.Rows.{tab}
 use Rattle.buffers.proofs.Regions.{length-region}
-use Rattle.encoder_settings.specs.declared.Checked.TheVariants.{Accepted}
+use Rattle.encoder_settings.specs.Settings.{accepted}
 use Rattle.encoder_blocks.specs.Tables.{table_by}
 use Rattle.encoder_steps.proofs.Writes.{went-of, stopped-of}
 use Rattle.encoder_run.specs.inner.Live.{regions_of}
@@ -53,8 +53,8 @@ returns-then-ok c =
     let w = went-of c.encode-ok.result (region u at e) r c.encode-ok.ensures c.if-ok.true in
     let l = length-region u at e (omega (arith, c.requires.run_fits.projects.room, k)) in
     let h : length (region u at e) ≤ length c.args.out.now = omega (arith, l, c.requires.text_hidden_size_in_bounds) in record {
-      value = ap (encoded_by (Accepted c.args.t c.args.o)) w;
-      out_after = c.copy.ensures ∙ ap (λ v. copied v c.args.out.now) c.part.ensures ∙ copied-over (region u at e) c.args.out.now h ∙ ap (λ v. out_by (Accepted c.args.t c.args.o) v c.args.out.now) w;
+      value = ap (encoded_by (accepted c.args.t c.args.o)) w;
+      out_after = c.copy.ensures ∙ ap (λ v. copied v c.args.out.now) c.part.ensures ∙ copied-over (region u at e) c.args.out.now h ∙ ap (λ v. out_by (accepted c.args.t c.args.o) v c.args.out.now) w;
       scratch_after = c.clear.ensures ∙ ap (λ i. tab i (λ _. zero32)) k;
     }
 
@@ -67,7 +67,7 @@ returns c =
     let k = c.encode-ok.auto.scratch in
     let r = run_of c.args.s c.args.gh c.args.gw c.args.t c.args.o c.args.w.now (table_by c.args.f (sizes_of c.args.s c.args.t c.args.gw) c.args.cos.now c.args.column_cos.now) (table_by c.args.f (sizes_of c.args.s c.args.t c.args.gw) c.args.sin.now c.args.column_sin.now) c.args.patches.now in
     let w = stopped-of c.encode-ok.result (region c.encode-ok.new.scratch ((regions_of (sizes_of c.args.s c.args.t c.args.gw) e).linear + e) e) r c.encode-ok.ensures c.if-ok.false in record {
-      value = ap (encoded_by (Accepted c.args.t c.args.o)) w;
-      out_after = ap (λ v. out_by (Accepted c.args.t c.args.o) v c.args.out.now) w;
+      value = ap (encoded_by (accepted c.args.t c.args.o)) w;
+      out_after = ap (λ v. out_by (accepted c.args.t c.args.o) v c.args.out.now) w;
       scratch_after = c.clear-2.ensures ∙ ap (λ i. tab i (λ _. zero32)) k;
     }

@@ -1,10 +1,11 @@
 -- `encoder_settings::settings::checked` meets its contract. Assumes nothing.
 use borrow.Author.Tests.{not-true, not-false}
-use mathlib.Core.Path.{◌≡◌, sym, ◌∙◌}
+use mathlib.Core.Path.{◌≡◌, refl, sym, ◌∙◌}
 use mathlib.Core.Bool.{true}
 use Prim.Native.Nat.{◌≤◌}
 use native.Mathlib.Nat.{div-le_self}
 use native.Mathlib.Omega.{arith}
+use Rattle.std.proofs.lemmas.Result.{err_from_is_err_and}
 use Rattle.picture_limits.proofs.Places.{times}
 use Rattle.picture_limits.proofs.Shapes.{shaped-says}
 use Rattle.encoder_settings.specs.Settings.{allowed, few_tokens, checked_by}
@@ -20,7 +21,7 @@ pub returns-then-not-few_tokens : goal.returns-then-not-few_tokens
 unfolding checked_by
 returns-then-not-few_tokens c =
     let settings : allowed c.args.s ≡ true = sym c.settings_allowed.ensures ∙ not-false _ c.if-not-settings_allowed.false-raw in
-    let e = sym c.few_tokens.ensures ∙ not-true _ c.if-not-few_tokens.true-raw in rw (settings, ← c.shape-shaped.ensures, c.in-Shaped.is, e)
+    rw (settings, ← c.shape.ensures, c.in_ok-tokens.was, ← c.few_tokens.ensures, c.if-not-few_tokens.true)
 
 pub overflow_mul-o : goal.overflow_mul-o
 overflow_mul-o c =
@@ -44,9 +45,9 @@ pub scratch_by-needed-requires : goal.scratch_by-needed-requires
 scratch_by-needed-requires c =
     let settings : allowed c.args.s ≡ true = sym c.settings_allowed.ensures ∙ not-false _ c.if-not-settings_allowed.false-raw in
     let sizes : Bounded c.args.s = bounded _ (allowed-says _ (settings)) in
-    let few : c.in-Shaped.tokens ≤ 4194304 = let z = shaped-says c.args.s.picture c.args.grid_h c.args.grid_w c.args.patches c.in-Shaped.tokens (sym c.shape-shaped.ensures ∙ c.in-Shaped.is) in
+    let few : c.in_ok-tokens.tokens ≤ 4194304 = let z = shaped-says c.args.s.picture c.args.grid_h c.args.grid_w c.args.patches c.in_ok-tokens.tokens (sym c.shape.ensures ∙ c.in_ok-tokens.was) in
     omega (arith, z.grids.tokens, z.tokens) in
-    let passed : few_tokens c.args.f c.in-Shaped.tokens ≡ true = sym c.few_tokens.ensures ∙ not-false _ c.if-not-few_tokens.false-raw in record {
+    let passed : few_tokens c.args.f c.in_ok-tokens.tokens ≡ true = sym c.few_tokens.ensures ∙ not-false _ c.if-not-few_tokens.false-raw in record {
       counted = counted _ _ _ (sizes) (few) (div-le_self _ _);
       t_value = passed;
     }
@@ -55,19 +56,19 @@ pub lengths-requires : goal.lengths-requires
 lengths-requires c =
     let settings : allowed c.args.s ≡ true = sym c.settings_allowed.ensures ∙ not-false _ c.if-not-settings_allowed.false-raw in
     let sizes : Bounded c.args.s = bounded _ (allowed-says _ (settings)) in
-    let few : c.in-Shaped.tokens ≤ 4194304 = let z = shaped-says c.args.s.picture c.args.grid_h c.args.grid_w c.args.patches c.in-Shaped.tokens (sym c.shape-shaped.ensures ∙ c.in-Shaped.is) in
+    let few : c.in_ok-tokens.tokens ≤ 4194304 = let z = shaped-says c.args.s.picture c.args.grid_h c.args.grid_w c.args.patches c.in_ok-tokens.tokens (sym c.shape.ensures ∙ c.in_ok-tokens.was) in
     omega (arith, z.grids.tokens, z.tokens) in
     let b = sizes in (b, counted _ _ _ b (few) (div-le_self _ _))
 
-pub returns-else-not-few_tokens : goal.returns-else-not-few_tokens
+pub returns : goal.returns
 unfolding checked_by
-returns-else-not-few_tokens c =
+returns c =
     let settings : allowed c.args.s ≡ true = sym c.settings_allowed.ensures ∙ not-false _ c.if-not-settings_allowed.false-raw in
-    let passed : few_tokens c.args.f c.in-Shaped.tokens ≡ true = sym c.few_tokens.ensures ∙ not-false _ c.if-not-few_tokens.false-raw in
-    rw (settings, ← c.shape-shaped.ensures, c.in-Shaped.is, passed, ← c.tables_fit-tables.ensures, ← c.scratch_by-needed.ensures) c.lengths.ensures
+    let passed : few_tokens c.args.f c.in_ok-tokens.tokens ≡ true = sym c.few_tokens.ensures ∙ not-false _ c.if-not-few_tokens.false-raw in
+    rw (settings, ← c.shape.ensures, c.in_ok-tokens.was, passed, ← c.tables_fit-tables.ensures, ← c.scratch_by-needed.ensures) c.lengths.ensures
 
-pub returns-in-Unshaped : goal.returns-in-Unshaped
+pub returns-in_err-tokens : goal.returns-in_err-tokens
 unfolding checked_by
-returns-in-Unshaped c =
+returns-in_err-tokens c =
     let settings : allowed c.args.s ≡ true = sym c.settings_allowed.ensures ∙ not-false _ c.if-not-settings_allowed.false-raw in
-    rw (settings, ← c.shape-shaped.ensures, c.in-Unshaped.is)
+    let p = err_from_is_err_and c.from_residual.result c.from_residual.ensures.1 in rw (p.1, p.2, settings, ← c.shape.ensures, c.in_err-tokens.was) refl
