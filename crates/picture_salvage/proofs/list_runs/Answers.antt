@@ -118,9 +118,6 @@ list_run-e-requires c =
       omega (arith, c.loop-r.invariant.1, c.loop-r.invariant.2, counted, none.0, runs-mono (entry c.args.t.now) c.args.p c.args.bits.now (c.loop-r.r + 1) c.args.m u, c.requires.3),
     )
 
-pub overflow_add-r : goal.overflow_add-r
-overflow_add-r c = omega (arith, c.loop-r-test.true, c.requires.1)
-
 pub loop-r-preserved : goal.loop-r-preserved
 loop-r-preserved c =
     let counted : let a = c.args in let r = c.loop-r.r in let k = entry c.args.t.now in

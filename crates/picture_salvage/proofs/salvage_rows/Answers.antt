@@ -133,21 +133,6 @@ overflow_add-o c =
     let s = c.before.before.before.before.before.before.before.before in
     omega (arith, c.well_formed, inside.1, c.loop-y.invariant.1)
 
-pub overflow_add-y : goal.overflow_add-y
-overflow_add-y c =
-    let sizes : let a = c.args in Sizes c.args.p c.args.gh c.args.gw = let a = c.args in
-    let q = square c.args.p c.requires.1 in
-    let f : patch_floats c.args.p ≤ 3072 = omega arith in
-    let t : c.args.p * 3 ≤ 96 = omega (arith, c.requires.1) in
-    record {
-      area = q;
-      line = times c.args.gw (patch_floats c.args.p) 2048 3072 c.requires.3 f;
-      bytes = times c.args.gw (c.args.p * 3) 2048 96 c.requires.3 t;
-      tall = times c.args.gh c.args.p 2048 32 c.requires.2 c.requires.1;
-    } in
-    let z = sizes in
-    omega (arith, z.tall, c.loop-y-test.true)
-
 pub loop-y-preserved : goal.loop-y-preserved
 loop-y-preserved c =
     let k = entry c.args.t.now in
