@@ -1,9 +1,11 @@
 // The numbers of the bilinear resize: where an index lies in the source, and the byte of four neighbours.
 #![tactic(auto)]
 
-ghost use Rattle.std.specs.Prelude.{◌≡◌, ◌-◌, min};
+ghost use Rattle.std.specs.Prelude.{◌≡◌};
 ghost use Rattle.picture_resize.specs.Resize.{whole, near, blend, to_byte};
 ghost use Rattle.picture_resize.specs.inner.Weighed.{weighed, held, Held};
+
+use number_floats::whole::{f64_to_usize, floor_f64};
 
 // Where an index of the target lies in the source: two neighbours, and how far from the first.
 #[derive(Drop)]
@@ -11,22 +13,6 @@ pub struct Near {
     pub low: usize,
     pub high: usize,
     pub part: f64,
-}
-
-fn smaller(a: usize, b: usize) -> usize
-    ensures { result ≡ min a b }
-{
-    if a <= b { a } else { b }
-}
-
-// The last index of a side, 0 where it has none.
-fn last_of(n: usize) -> usize
-    ensures { result ≡ n - 1 }
-{
-    if n == 0 {
-        return 0;
-    }
-    n - 1
 }
 
 fn whole_of(n: usize) -> f64
@@ -40,12 +26,9 @@ pub fn near_of(from: usize, to: usize, i: usize) -> Near
     ensures { result ≡ near from to i }
 {
     let y = whole_of(i) * (whole_of(from) / whole_of(to));
-    let last = last_of(from);
-    let low = smaller(
-        number_floats::whole::f64_to_usize(number_floats::whole::floor_f64(y)),
-        last,
-    );
-    let high = smaller(low + 1, last);
+    let last = from.saturating_sub(1);
+    let low = f64_to_usize(floor_f64(y)).min(last);
+    let high = (low + 1).min(last);
     Near {
         low,
         high,
