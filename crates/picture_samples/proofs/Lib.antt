@@ -1,3 +1,4 @@
 pub mod Channels
+pub mod Ranges
 pub mod Table
 pub mod Finds

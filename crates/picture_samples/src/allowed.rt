@@ -1,6 +1,6 @@
 // Whether the channels of a table are allowed: 256 finite values, strictly rising or strictly falling.
 ghost use Rattle.std.specs.Prelude.{◌≡◌, ◌+◌, ◌<◌};
-ghost use Rattle.std.specs.Float.Ieee.Scale as Scale;
+ghost use Rattle.std.specs.Float.Ieee.Scale.{finite};
 ghost use Rattle.buffers.specs.Rows.{all};
 ghost use Rattle.picture_samples.specs.Samples.{value, entry, rising, falling, channel_allowed, channels_allowed};
 
@@ -13,46 +13,32 @@ fn value_of(t: &[u32; 768], c: usize, b: usize) -> f32
     f32_of_bits(t[c * 256 + b])
 }
 
-fn finite(t: &[u32; 768], c: usize) -> bool
+fn all_finite(t: &[u32; 768], c: usize) -> bool
     requires { c < 3 }
-    ensures { result ≡ all 256 (λ b. Scale.finite (value (entry t.now) c b)) }
+    ensures { result ≡ all 256 (λ b. finite (value (entry t.now) c b)) }
 {
-    let inf = 1.0f32 / 0.0;
-    let mut ok = true;
-    for b in 0..256 {
-        let v = value_of(t, c, b);
-        ok = ok & ((v < inf) & (-inf < v));
-    }
-    ok
+    (0..256).all(|b| value_of(t, c, b).is_finite())
 }
 
 fn rises(t: &[u32; 768], c: usize) -> bool
     requires { c < 3 }
     ensures { result ≡ rising (value (entry t.now) c) }
 {
-    let mut ok = true;
-    for b in 0..255 {
-        ok = ok & (value_of(t, c, b) < value_of(t, c, b + 1));
-    }
-    ok
+    (0..255).all(|b| value_of(t, c, b) < value_of(t, c, b + 1))
 }
 
 fn falls(t: &[u32; 768], c: usize) -> bool
     requires { c < 3 }
     ensures { result ≡ falling (value (entry t.now) c) }
 {
-    let mut ok = true;
-    for b in 0..255 {
-        ok = ok & (value_of(t, c, b + 1) < value_of(t, c, b));
-    }
-    ok
+    (0..255).all(|b| value_of(t, c, b + 1) < value_of(t, c, b))
 }
 
 fn channel_allowed(t: &[u32; 768], c: usize) -> bool
     requires { c < 3 }
     ensures { result ≡ channel_allowed (value (entry t.now) c) }
 {
-    finite(t, c) & (rises(t, c) | falls(t, c))
+    all_finite(t, c) & (rises(t, c) | falls(t, c))
 }
 
 pub fn channels_allowed(t: &[u32; 768]) -> bool

@@ -4,4 +4,4 @@ use Rattle.picture_samples.proofs.allowed.channel_allowed.Goals as goal
 
 pub returns : goal.returns
 unfolding channel_allowed
-returns c = cc (c.falls.ensures, c.rises.ensures, c.finite.ensures)
+returns c = cc (c.falls.ensures, c.rises.ensures, c.all_finite.ensures)
