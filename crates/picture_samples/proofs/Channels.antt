@@ -16,7 +16,13 @@ use lib.Ieee.Scale.{finite}
 use Rattle.number_floats.proofs.Order.{lt-self, lt_trans}
 use Rattle.buffers.specs.Rows.{tab, grid, all}
 use Rattle.buffers.proofs.Lists.{get_or-tab, tab-ext, tab-mul, rows_ext, all-at, all-ext, and_left, and_right}
-use Rattle.picture_samples.specs.Samples.{sample, sample_of, rising, falling, channel_allowed, channels_allowed, value, entry, sample_bits, sample_table}
+use Rattle.std.specs.Prelude.{Result, Ok, Err}
+use Rattle.picture_limits.specs.declared.PictureSettings.{PictureSettings}
+use Rattle.picture_limits.specs.declared.Refusal.{Refusal}
+use Rattle.picture_limits.specs.declared.Refusal.TheVariants.{Setting, Channel}
+use Rattle.picture_limits.specs.Refusal.{unless}
+use Rattle.picture_limits.specs.Settings.{allowed}
+use Rattle.picture_samples.specs.Samples.{sample, sample_of, rising, falling, channel_allowed, channels_allowed, value, entry, sample_bits, sample_table, value_of, allowed_table}
 use Rattle.picture_samples.specs.inner.Clean.{Clean}
 use Rattle.picture_samples.proofs.Finds.{Distinct}
 
@@ -147,3 +153,44 @@ clean_of t a = record {
       subst (λ (x : Bool). T (not x)) (sym (nan_bits_is binary32 (entry t c b)))
       (no_nan (value (entry t) c b) (channel-finite (value (entry t) c) (channel-of (entry t) a c h) b l));
 }
+
+-- ---- the table of a call
+pub record Tabled (s : PictureSettings) (t : List ℕ) : Type 0 where
+  pub settings : allowed s ≡ true
+  pub table : t ≡ sample_table s.mean s.deviation
+  pub channels : channels_allowed (value (entry t)) ≡ true
+
+-- what is said where there is one
+pub table-says : (s : PictureSettings) (t : List ℕ) → Ok t ≡ allowed_table s → Tabled s t
+unfolding allowed_table
+table-says s t e = go (allowed s) (channels_allowed (value_of s)) refl refl e
+  where
+    no : (r : Refusal) → Ok t ≡ Err r → ⊥
+    no r h = let z : ◌≡◌ {A = ℕ} 0 1 = cc in absurd (omega arith)
+
+    go : (a d : Bool) → allowed s ≡ a → channels_allowed (value_of s) ≡ d → Ok t ≡ unless a (Err Setting) (unless d (Err Channel) (Ok (sample_table s.mean s.deviation))) → Tabled s t
+    go false d x y h = absurd (no Setting h)
+    go true false x y h = absurd (no Channel h)
+    go true true x y h =
+        let same : t ≡ sample_table s.mean s.deviation = cc in
+        record { settings = x; table = same; channels = allowed_of s.mean s.deviation t same ∙ y }
+
+-- a call that asks settings and channels first goes on to x where there is one, and has its refusal where there is none
+module _ {A : Type 0} (s : PictureSettings) (x : Result A Refusal) where
+  pub table-passes : (t : List ℕ) → Ok t ≡ allowed_table s → unless (allowed s) (Err Setting) (unless (channels_allowed (value_of s)) (Err Channel) x) ≡ x
+  table-passes t e =
+      let k = table-says s t e in
+      let d : channels_allowed (value_of s) ≡ true = sym (allowed_of s.mean s.deviation t k.table) ∙ k.channels in
+      rw (k.settings, d) refl
+
+  pub table-refuses : (r : Refusal) → Err r ≡ allowed_table s → unless (allowed s) (Err Setting) (unless (channels_allowed (value_of s)) (Err Channel) x) ≡ Err r
+  unfolding allowed_table
+  table-refuses r e = go (allowed s) (channels_allowed (value_of s)) e
+    where
+      same : (u : Refusal) → ◌≡◌ {A = Result (List ℕ) Refusal} (Err r) (Err u) → ◌≡◌ {A = Result A Refusal} (Err u) (Err r)
+      same u h = let z : r ≡ u = cc in ap Err (sym z)
+
+      go : (a d : Bool) → Err r ≡ unless a (Err Setting) (unless d (Err Channel) (Ok (sample_table s.mean s.deviation))) → unless a (Err Setting) (unless d (Err Channel) x) ≡ Err r
+      go false d h = same Setting h
+      go true false h = same Channel h
+      go true true h = let z : ◌≡◌ {A = ℕ} 0 1 = cc in absurd (omega arith)

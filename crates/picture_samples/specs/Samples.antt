@@ -1,11 +1,15 @@
 -- The sample value of a byte under three means and three deviations, which of them are allowed, and the byte of a sample by
 -- its bits. Assumes nothing.
-use Rattle.std.specs.Prelude.{Bool, ◌&&◌, ◌||◌, List, [], ◌∷◌, ℕ, suc, ◌+◌, ◌*◌, pos, eqb, get_or, Float}
+use Rattle.std.specs.Prelude.{Bool, ◌&&◌, ◌||◌, List, [], ◌∷◌, ℕ, suc, ◌+◌, ◌*◌, pos, eqb, get_or, Float, Result, Ok, Err}
 use Rattle.std.specs.Float.{nan, binary32}
 use Rattle.std.specs.Float.Ieee.{sub, div, lt, of_int, of_bits, to_bits}
 use Rattle.std.specs.Float.Ieee.Scale.{finite}
 use Rattle.buffers.specs.Rows.{grid, all, first}
 use Rattle.picture_limits.specs.declared.PictureSettings.{PictureSettings}
+use Rattle.picture_limits.specs.declared.Refusal.{Refusal}
+use Rattle.picture_limits.specs.declared.Refusal.TheVariants.{Setting, Channel}
+use Rattle.picture_limits.specs.Refusal.{unless}
+use Rattle.picture_limits.specs.Settings.{allowed}
 
 -- (byte / 255 − mean) / deviation in f32, each operation rounded; 0x437F_0000 is 255
 unfoldable pub sample : Float → Float → ℕ → Float
@@ -65,3 +69,7 @@ value_of s = sample_of s.mean s.deviation
 
 abbrev pub pattern_of : PictureSettings → ℕ → ℕ → ℕ
 pattern_of s = sample_bits s.mean s.deviation
+
+-- the table that a call works with: there is none, by 1 and then by 19, where the settings or the channels are not allowed
+unfoldable pub allowed_table : PictureSettings → Result (List ℕ) Refusal
+allowed_table s = unless (allowed s) (Err Setting) (unless (channels_allowed (value_of s)) (Err Channel) (Ok (sample_table s.mean s.deviation)))

@@ -1,10 +1,13 @@
-// Whether the channels of a table are allowed: 256 finite values, strictly rising or strictly falling.
+// Whether the channels of a table are allowed: 256 finite values, strictly rising or strictly falling; and the table of a call.
 ghost use Rattle.std.specs.Prelude.{◌≡◌, ◌+◌, ◌<◌};
 ghost use Rattle.std.specs.Float.Ieee.Scale.{finite};
 ghost use Rattle.buffers.specs.Rows.{all};
-ghost use Rattle.picture_samples.specs.Samples.{value, entry, rising, falling, channel_allowed, channels_allowed};
+ghost use Rattle.picture_samples.specs.Samples.{value, entry, rising, falling, channel_allowed, channels_allowed, allowed_table};
 
+use crate::samples;
 use number_floats::pattern::f32_of_bits;
+use picture_limits::settings::settings_allowed;
+use picture_limits::{PictureSettings, Refusal};
 
 fn value_of(t: &[u32; 768], c: usize, b: usize) -> f32
     requires { (c < 3) × (b < 256) }
@@ -45,4 +48,18 @@ pub fn channels_allowed(t: &[u32; 768]) -> bool
     ensures { result ≡ channels_allowed (value (entry t.now)) }
 {
     channel_allowed(t, 0) & channel_allowed(t, 1) & channel_allowed(t, 2)
+}
+
+// The table of a call's means and deviations, where settings and channels are allowed.
+pub fn allowed_table(s: PictureSettings) -> Result<[u32; 768], Refusal>
+    ensures { result ≡ allowed_table s }
+{
+    if !settings_allowed(s) {
+        return Err(Refusal::Setting);
+    }
+    let t = samples(s.mean, s.deviation);
+    if !channels_allowed(&t) {
+        return Err(Refusal::Channel);
+    }
+    Ok(t)
 }
