@@ -1,21 +1,21 @@
 // Patches back to the resized picture.
 #![tactic(auto)]
 
-ghost use Rattle.std.specs.Prelude.{◌≡◌, true, ◌*◌, length};
+ghost use Rattle.std.specs.Prelude.{◌≡◌, true, ◌*◌, length, Ok};
 ghost use Rattle.picture_samples.specs.Samples.{sample_table, channels_allowed, value, entry};
 ghost use Rattle.picture_limits.specs.Shape.{shaped};
 ghost use Rattle.picture_restore.specs.Restore.{restored, bytes_out, Numbered};
 
-use picture_limits::settings::{settings_allowed, shape};
-use picture_limits::{PictureSettings, Refusal, Shape, View};
-use picture_samples::allowed::channels_allowed;
-use picture_samples::samples;
+use picture_limits::settings::shape;
+use picture_limits::{PictureSettings, Refusal, View};
+use picture_samples::allowed::allowed_table;
 use picture_view::view::restore_view;
 
-#[derive(Drop)]
-pub enum Restored {
-    Picture { height: usize, width: usize },
-    Refused(Refusal),
+// The sides of a picture.
+#[derive(Clone, Copy, Debug, PartialEq, Eq)]
+pub struct Picture {
+    pub height: usize,
+    pub width: usize,
 }
 
 // What restore does where settings, channels, grid and length are in order: the view is the whole picture. t is the table of
@@ -27,8 +27,8 @@ fn restore_shaped(
     grid_w: usize,
     out: &mut [u8],
     t: &[u32; 768],
-) -> Restored
-    requires patches_value { shaped s grid_h grid_w (length patches.now) ≡ Shape.Shaped (grid_h * grid_w) }
+) -> Result<Picture, Refusal>
+    requires patches_value { shaped s grid_h grid_w (length patches.now) ≡ Ok (grid_h * grid_w) }
     requires t_value { (t.now ≡ sample_table s.mean s.deviation) × (channels_allowed (value (entry t.now)) ≡ true) }
     ensures answer { result ≡ restored s patches.now grid_h grid_w (length out.old) }
     ensures output { out.new ≡ bytes_out s patches.now grid_h grid_w out.old }
@@ -37,7 +37,7 @@ fn restore_shaped(
     let height = grid_h * p;
     let width = grid_w * p;
     if out.len() < height * width * 3 {
-        return Restored::Refused(Refusal::Output);
+        return Err(Refusal::Output);
     }
     let v = View {
         top: 0,
@@ -46,9 +46,9 @@ fn restore_shaped(
         width,
     };
     if !restore_view(s, patches, grid_h, grid_w, v, height, width, out, t) {
-        return Restored::Refused(Refusal::Sample);
+        return Err(Refusal::Sample);
     }
-    Restored::Picture { height, width }
+    Ok(Picture { height, width })
 }
 
 // The resized bytes that gave the patches, over the front of `out`. Every sample is tested before the first is written.
@@ -58,23 +58,12 @@ pub fn restore(
     grid_h: usize,
     grid_w: usize,
     out: &mut [u8],
-) -> Restored
+) -> Result<Picture, Refusal>
     ensures answer { result ≡ restored s patches.now grid_h grid_w (length out.old) }
     ensures output { out.new ≡ bytes_out s patches.now grid_h grid_w out.old }
     ensures numbers { Numbered s patches.now grid_h grid_w (length out.old) result }
 {
-    if !settings_allowed(s) {
-        return Restored::Refused(Refusal::Setting);
-    }
-    let mean = s.mean;
-    let deviation = s.deviation;
-    let t = samples(mean, deviation);
-    if !channels_allowed(&t) {
-        return Restored::Refused(Refusal::Channel);
-    }
-    let found = shape(s, grid_h, grid_w, patches.len());
-    match found {
-        Shape::Unshaped(r) => Restored::Refused(r),
-        Shape::Shaped { tokens } => restore_shaped(s, patches, grid_h, grid_w, out, &t),
-    }
+    let t = allowed_table(s)?;
+    shape(s, grid_h, grid_w, patches.len())?;
+    restore_shaped(s, patches, grid_h, grid_w, out, &t)
 }

@@ -5,7 +5,7 @@ use native.Mathlib.Omega.{arith}
 use borrow.Author.Tests.{not-true, not-false, le-leb, lt-leb}
 use lib.Dec.{leb}
 use lib.ListN.{length}
-use Rattle.picture_restore.specs.declared.Restored.TheVariants.{Picture, Refused}
+use Rattle.std.specs.Prelude.{Ok, Err}
 use Rattle.picture_limits.specs.declared.Refusal.TheVariants.{Output, Sample}
 use Rattle.picture_samples.specs.Samples.{entry, pattern_of}
 use Rattle.picture_limits.specs.Refusal.{unless}
@@ -42,8 +42,8 @@ pub returns-then-out-height : goal.returns-then-out-height
 returns-then-out-height c =
     let decision : let a = c.args in let p = c.args.s.patch_size in
     restored c.args.s c.args.patches.now c.args.grid_h c.args.grid_w (length c.args.out.now)
-    ≡ unless (leb (c.args.grid_h * p * (c.args.grid_w * p) * 3) (length c.args.out.now)) (Refused Output)
-    (unless (known (pattern_of c.args.s) p c.args.patches.now) (Refused Sample) (Picture (c.args.grid_h * p) (c.args.grid_w * p))) = let a = c.args in
+    ≡ unless (leb (c.args.grid_h * p * (c.args.grid_w * p) * 3) (length c.args.out.now)) (Err Output)
+    (unless (known (pattern_of c.args.s) p c.args.patches.now) (Err Sample) (Ok (record { height = c.args.grid_h * p; width = c.args.grid_w * p }))) = let a = c.args in
     let s = c.args.s in
     agreed s c.args.patches.now c.args.grid_h c.args.grid_w (length c.args.out.now) (c.args.grid_h * c.args.grid_w) c.requires.patches_value
     (sym (allowed_of c.args.s.mean c.args.s.deviation c.args.t.now c.requires.t_value.0) ∙ c.requires.t_value.1) in
@@ -57,8 +57,8 @@ returns-then-not-restore_view c =
     let accepted : let a = c.args in Accepted c.args.s c.args.grid_h c.args.grid_w (length c.args.patches.now) (c.args.grid_h * c.args.grid_w) = let a = c.args in shaped-says c.args.s c.args.grid_h c.args.grid_w (length c.args.patches.now) (c.args.grid_h * c.args.grid_w) c.requires.patches_value in
     let decision : let a = c.args in let p = c.args.s.patch_size in
     restored c.args.s c.args.patches.now c.args.grid_h c.args.grid_w (length c.args.out.now)
-    ≡ unless (leb (c.args.grid_h * p * (c.args.grid_w * p) * 3) (length c.args.out.now)) (Refused Output)
-    (unless (known (pattern_of c.args.s) p c.args.patches.now) (Refused Sample) (Picture (c.args.grid_h * p) (c.args.grid_w * p))) = let a = c.args in
+    ≡ unless (leb (c.args.grid_h * p * (c.args.grid_w * p) * 3) (length c.args.out.now)) (Err Output)
+    (unless (known (pattern_of c.args.s) p c.args.patches.now) (Err Sample) (Ok (record { height = c.args.grid_h * p; width = c.args.grid_w * p }))) = let a = c.args in
     let s = c.args.s in
     agreed s c.args.patches.now c.args.grid_h c.args.grid_w (length c.args.out.now) (c.args.grid_h * c.args.grid_w) c.requires.patches_value
     (sym (allowed_of c.args.s.mean c.args.s.deviation c.args.t.now c.requires.t_value.0) ∙ c.requires.t_value.1) in
@@ -81,8 +81,8 @@ returns c =
     let accepted : let a = c.args in Accepted c.args.s c.args.grid_h c.args.grid_w (length c.args.patches.now) (c.args.grid_h * c.args.grid_w) = let a = c.args in shaped-says c.args.s c.args.grid_h c.args.grid_w (length c.args.patches.now) (c.args.grid_h * c.args.grid_w) c.requires.patches_value in
     let decision : let a = c.args in let p = c.args.s.patch_size in
     restored c.args.s c.args.patches.now c.args.grid_h c.args.grid_w (length c.args.out.now)
-    ≡ unless (leb (c.args.grid_h * p * (c.args.grid_w * p) * 3) (length c.args.out.now)) (Refused Output)
-    (unless (known (pattern_of c.args.s) p c.args.patches.now) (Refused Sample) (Picture (c.args.grid_h * p) (c.args.grid_w * p))) = let a = c.args in
+    ≡ unless (leb (c.args.grid_h * p * (c.args.grid_w * p) * 3) (length c.args.out.now)) (Err Output)
+    (unless (known (pattern_of c.args.s) p c.args.patches.now) (Err Sample) (Ok (record { height = c.args.grid_h * p; width = c.args.grid_w * p }))) = let a = c.args in
     let s = c.args.s in
     agreed s c.args.patches.now c.args.grid_h c.args.grid_w (length c.args.out.now) (c.args.grid_h * c.args.grid_w) c.requires.patches_value
     (sym (allowed_of c.args.s.mean c.args.s.deviation c.args.t.now c.requires.t_value.0) ∙ c.requires.t_value.1) in
