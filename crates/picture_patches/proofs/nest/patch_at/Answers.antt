@@ -25,12 +25,6 @@ patch_channel-requires c = let h = c.loop-c-test.true in (c.requires.0, c.requir
 pub overflow_add-o : goal.overflow_add-o
 overflow_add-o c = omega (arith, c.requires.5, c.well_formed, c.loop-c.invariant.1, fit (c.args.f.p * c.args.f.p) c.loop-c-test.true)
 
-pub overflow_add-c : goal.overflow_add-c
-overflow_add-c c = omega (arith, c.loop-c-test.true)
-
-pub loop-c-smaller : goal.loop-c-smaller
-loop-c-smaller c = omega (arith, c.loop-c-test.true)
-
 pub loop-c-preserved : goal.loop-c-preserved
 loop-c-preserved c =
     let v = viewed (entry c.args.t.now) c.args.f c.args.rgb.now in (

@@ -32,12 +32,6 @@ overflow_add-o c =
     let room : c.loop-i.o + c.args.f.p ≤ length c.args.out.now = omega (arith, c.requires.6, c.loop-i.invariant.1, fit c.args.f.p c.loop-i-test.true) in
     omega (arith, room, c.well_formed)
 
-pub overflow_add-i : goal.overflow_add-i
-overflow_add-i c = omega (arith, c.requires.0.patch-high, c.loop-i-test.true)
-
-pub loop-i-smaller : goal.loop-i-smaller
-loop-i-smaller c = omega (arith, c.loop-i-test.true)
-
 pub loop-i-preserved : goal.loop-i-preserved
 loop-i-preserved c =
     let v = viewed (entry c.args.t.now) c.args.f c.args.rgb.now in (

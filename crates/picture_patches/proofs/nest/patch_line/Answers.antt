@@ -31,12 +31,6 @@ overflow_add-x c = omega (arith, c.requires.0.grid-wide, c.requires.0.target-wid
 pub overflow_add-o : goal.overflow_add-o
 overflow_add-o c = omega (arith, c.requires.4, c.well_formed, c.loop-b.invariant.2, fit (3 * (c.args.f.p * c.args.f.p)) c.loop-b-test.true)
 
-pub overflow_add-b : goal.overflow_add-b
-overflow_add-b c = omega (arith, c.requires.0.grid-wide-high, c.loop-b-test.true)
-
-pub loop-b-smaller : goal.loop-b-smaller
-loop-b-smaller c = omega (arith, c.loop-b-test.true)
-
 pub loop-b-preserved : goal.loop-b-preserved
 loop-b-preserved c =
     let v = viewed (entry c.args.t.now) c.args.f c.args.rgb.now in

@@ -19,12 +19,6 @@ pub strip_row-requires : goal.strip_row-requires
 strip_row-requires c =
     (c.requires.0, omega (arith, c.requires.1), c.requires.2, record { columns = c.requires.3.columns; left-long = c.loop-i.invariant.1 ∙ c.requires.3.left-long; right-long = c.loop-i.invariant.2 ∙ c.requires.3.right-long }, c.loop-i.invariant.4, omega (arith, c.requires.4, c.requires.0.frame.patch-high, c.loop-i.invariant.3))
 
-pub overflow_add-i : goal.overflow_add-i
-overflow_add-i c = omega (arith, c.requires.0.frame.patch-high, c.loop-i-test.true)
-
-pub loop-i-smaller : goal.loop-i-smaller
-loop-i-smaller c = omega (arith, c.loop-i-test.true)
-
 pub loop-i-preserved : goal.loop-i-preserved
 loop-i-preserved c = (
   omega (arith, c.loop-i-test.true),

@@ -38,12 +38,6 @@ overflow_add-r c = omega (arith, c.requires.0.frame.grid-tall, c.requires.0.fram
 pub overflow_add-o : goal.overflow_add-o
 overflow_add-o c = omega (arith, c.requires.2, c.well_formed, c.loop-a.invariant.2, fit (c.args.f.gw * (3 * (c.args.f.p * c.args.f.p))) c.loop-a-test.true)
 
-pub overflow_add-a : goal.overflow_add-a
-overflow_add-a c = omega (arith, c.requires.0.frame.grid-tall-high, c.loop-a-test.true)
-
-pub loop-a-smaller : goal.loop-a-smaller
-loop-a-smaller c = omega (arith, c.loop-a-test.true)
-
 pub loop-a-preserved : goal.loop-a-preserved
 loop-a-preserved c =
     let v = mixed (entry c.args.t.now) c.args.f c.args.rgb.now in

@@ -68,12 +68,6 @@ weigh_pixel-requires-in-loop-j c =
 pub overflow_add-o : goal.overflow_add-o
 overflow_add-o c = omega (arith, c.requires.4, c.loop-j.invariant.1, c.loop-j-test.true, c.well_formed)
 
-pub overflow_add-j : goal.overflow_add-j
-overflow_add-j c = omega (arith, c.requires.4, c.loop-j-test.true, c.well_formed)
-
-pub loop-j-smaller : goal.loop-j-smaller
-loop-j-smaller c = omega (arith, c.loop-j-test.true)
-
 pub loop-j-preserved : goal.loop-j-preserved
 loop-j-preserved c =
     let s = c.args.rgb.now in (
