@@ -14,7 +14,7 @@ use Rattle.picture_resize.specs.Resize.{resized_at}
 use Rattle.picture_patches.specs.declared.rows.Frame.{Frame}
 use Rattle.picture_patches.specs.Patches.{patch_at, patch_line}
 use Rattle.picture_patches.specs.Viewed.{view_at}
-use Rattle.picture_patches.specs.inner.Frame.{Framed, strip_frame, viewed, mixed}
+use Rattle.picture_patches.specs.inner.Frame.{Framed, strip_frame, strip_view, viewed, mixed}
 use Rattle.picture_patches.specs.inner.Strip.{span, Banded}
 
 pub strip-framed : (p m : ℕ) → 0 < p → p ≤ 32 → m * p ≤ 256 → m ≤ 2048 → Framed (strip_frame p m) (32 * span)
@@ -33,7 +33,6 @@ strip-framed p m l h n k =
       grid-wide = omega arith;
       grid-tall-high = lit≤ tt;
       grid-wide-high = k;
-      plain = λ _. (omega arith, omega arith);
     }
 
 module _ (k : ℕ → ℕ → ℕ) (rgb : List ℕ) (f : Frame) (r b m : ℕ) (band : List ℕ) (h : Banded rgb f r (b * f.p) (m * f.p) f.p band) where
@@ -41,13 +40,13 @@ module _ (k : ℕ → ℕ → ℕ) (rgb : List ℕ) (f : Frame) (r b m : ℕ) (b
   p = f.p
 
   -- the byte at row i and column x of the strip
-  byte_at : (i x c : ℕ) → i < p → x < m * p → c < 3 → view_at band 256 (strip_frame p m).view (0 + i) x c ≡ resized_at rgb f.h f.w f.th f.tw (r + i) (b * p + x) c
+  byte_at : (i x c : ℕ) → i < p → x < m * p → c < 3 → view_at band 256 (strip_view p m) (0 + i) x c ≡ resized_at rgb f.h f.w f.th f.tw (r + i) (b * p + x) c
   unfolding view_at
   byte_at i x c I X C =
       let e : ((0 + (0 + i)) * 256 + (0 + x)) * 3 + c ≡ i * span + (x * 3 + c) = omega arith in
       rw (lt-ltb (0 + i) p (omega arith), lt-ltb x (m * p) X) (ap (λ (n : ℕ). get_or band n 0) e ∙ h.row i I x c X C)
 
-  pub strip-line : patch_line p m (viewed k (strip_frame p m) band) 0 ≡ rows m (λ e. patch_at p (mixed k f rgb) r ((b + e) * p))
+  pub strip-line : patch_line p m (viewed k (strip_frame p m) (strip_view p m) band) 0 ≡ rows m (λ e. patch_at p (mixed k f rgb) r ((b + e) * p))
   strip-line =
       rows_ext m _ _ (λ e E. rows_ext 3 _ _ (λ c C. rows_ext p _ _ (λ i I. tab-ext p _ _ (λ j J.
       let x : e * p + j < m * p = omega (arith, fit p E) in

@@ -4,8 +4,9 @@ ghost use Rattle.picture_samples.specs.Samples.{entry};
 ghost use Rattle.picture_patches.specs.Resized.{fits, patches_over};
 ghost use Rattle.picture_patches.specs.Viewed.{view_over};
 
+use crate::nest::all_patches;
 use crate::rows::Frame;
-use crate::strip::framed_patches;
+use crate::strip::resized_all;
 use picture_limits::View;
 use picture_limits::settings::{sides_allowed, view_inside};
 use picture_samples::allowed::channels_allowed;
@@ -42,25 +43,26 @@ pub fn resized_patches(
     if !(channels_allowed(t) & patches_fit(rgb.len(), h, w, th, tw, p, out.len())) {
         return;
     }
-    let gh = th / p;
-    let gw = tw / p;
     let f = Frame {
         h,
         w,
         th,
         tw,
         p,
-        gh,
-        gw,
-        plain: (th == h) & (tw == w),
-        view: View {
+        gh: th / p,
+        gw: tw / p,
+    };
+    if (th == h) & (tw == w) {
+        let v = View {
             top: 0,
             left: 0,
             height: h,
             width: w,
-        },
-    };
-    framed_patches(rgb, f, out, t);
+        };
+        all_patches(rgb, f, v, out, t);
+        return;
+    }
+    resized_all(rgb, f, out, t);
 }
 
 // The patches of side p of a view of a picture, padded with zero bytes right and below to th rows of tw pixels, by the
@@ -85,18 +87,14 @@ pub fn view_patches(
     if !view_inside(v, h, w) {
         return;
     }
-    let gh = th / p;
-    let gw = tw / p;
     let f = Frame {
         h,
         w,
         th,
         tw,
         p,
-        gh,
-        gw,
-        plain: true,
-        view: v,
+        gh: th / p,
+        gw: tw / p,
     };
-    framed_patches(rgb, f, out, t);
+    all_patches(rgb, f, v, out, t);
 }

@@ -5,10 +5,7 @@ ghost use Rattle.buffers.specs.Region.{put};
 ghost use Rattle.picture_samples.specs.Samples.{value, entry};
 ghost use Rattle.picture_samples.specs.inner.Clean.{Clean};
 
-use picture_limits::View;
-
-// The sides of a picture, of its target and of a patch, and how many patches stand down and across; where it is `plain`
-// the target is a view of the picture, padded right and below, and else the picture resized.
+// The sides of a picture, of its target and of a patch, and how many patches stand down and across.
 #[derive(Clone, Copy)]
 pub(crate) struct Frame {
     pub h: usize,
@@ -18,8 +15,6 @@ pub(crate) struct Frame {
     pub p: usize,
     pub gh: usize,
     pub gw: usize,
-    pub plain: bool,
-    pub view: View,
 }
 
 // The value of byte b in channel c by the table t.

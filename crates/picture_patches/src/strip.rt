@@ -1,24 +1,18 @@
 // The patches of a picture resized: strip by strip the resized picture is worked out in a small picture of its own, which is
 // then cut like any other.
-ghost use Rattle.std.specs.Prelude.{◌≡◌, ℕ, ◌+◌, ◌*◌, ◌≤◌, ◌<◌, min, length, get_or};
+ghost use Rattle.std.specs.Prelude.{◌≡◌, ℕ, ◌+◌, ◌*◌, ◌≤◌, ◌<◌, length, get_or};
 ghost use Rattle.buffers.specs.Region.{put};
 ghost use Rattle.picture_samples.specs.Samples.{entry};
 ghost use Rattle.picture_samples.specs.inner.Clean.{Clean};
 ghost use Rattle.picture_patches.specs.Patches.{patch_line, patches};
-ghost use Rattle.picture_patches.specs.inner.Frame.{Framed, Ready, seen, mixed, strip_frame};
+ghost use Rattle.picture_patches.specs.inner.Frame.{Framed, Ready, mixed, strip_frame};
 ghost use Rattle.picture_patches.specs.inner.Strip.{span, Held, Slots, RowAt, Banded};
 
-use crate::nest::{all_patches, patch_line};
+use crate::nest::patch_line;
 use crate::places::{COLUMNS, near_at, places};
 use crate::rows::Frame;
 use crate::weigh::{hold, mix_row};
 use picture_limits::View;
-
-fn smaller(a: usize, b: usize) -> usize
-    ensures { result ≡ min a b }
-{
-    if a <= b { a } else { b }
-}
 
 // Row r of the resized picture, n columns from column x on, from `at` on.
 fn strip_row(
@@ -95,27 +89,19 @@ fn fill_strip(
     }
 }
 
-// The frame of a strip of m patches of side p, which is a view of a picture of 32 rows of 256 pixels.
+// The frame of a strip of m patches of side p, in a picture of 32 rows of 256 pixels.
 fn strip_frame(p: usize, m: usize) -> Frame
     requires { (p ≤ 32) × (m * p ≤ 256) }
     ensures { result ≡ strip_frame p m }
 {
-    let width = m * p;
     Frame {
         h: 32,
         w: 256,
         th: p,
-        tw: width,
+        tw: m * p,
         p,
         gh: 1,
         gw: m,
-        plain: true,
-        view: View {
-            top: 0,
-            left: 0,
-            height: p,
-            width,
-        },
     }
 }
 
@@ -142,9 +128,15 @@ fn mixed_line(
     let mut b = 0usize;
     let mut o = at;
     while b < gw {
-        let m = smaller(gw - b, most);
+        let m = most.min(gw - b);
         fill_strip(rgb, f, r, b * p, m * p, left, right, band, lows, parts);
-        patch_line(band, strip_frame(p, m), 0, o, out, t);
+        let v = View {
+            top: 0,
+            left: 0,
+            height: p,
+            width: m * p,
+        };
+        patch_line(band, strip_frame(p, m), v, 0, o, out, t);
         o += m * (3 * (p * p));
         b += m;
     }
@@ -166,19 +158,14 @@ fn mixed_patches(
     ensures { out.new ≡ put out.old 0 (patches f.p f.gh f.gw (mixed (entry t.now) f rgb.now)) }
 {
     let p = f.p;
-    let gh = f.gh;
     let n = f.gw * (3 * (p * p));
-    let mut r = 0usize;
-    let mut o = 0usize;
-    for a in 0..gh {
-        mixed_line(rgb, f, r, o, out, t, left, right, band, lows, parts);
-        r += p;
-        o += n;
+    for a in 0..f.gh {
+        mixed_line(rgb, f, a * p, a * n, out, t, left, right, band, lows, parts);
     }
 }
 
 // The same, with the neighbours of rows and columns worked out first.
-fn resized_all(rgb: &[u8], f: Frame, out: &mut [f32], t: &[u32; 768])
+pub(crate) fn resized_all(rgb: &[u8], f: Frame, out: &mut [f32], t: &[u32; 768])
     requires { Framed f (length rgb.now) × Clean t.now × (f.gh * (f.gw * (3 * (f.p * f.p))) ≤ length out.old) }
     ensures { out.new ≡ put out.old 0 (patches f.p f.gh f.gw (mixed (entry t.now) f rgb.now)) }
 {
@@ -192,16 +179,4 @@ fn resized_all(rgb: &[u8], f: Frame, out: &mut [f32], t: &[u32; 768])
     mixed_patches(
         rgb, f, out, t, &mut left, &mut right, &mut band, &lows, &parts,
     );
-}
-
-// All patches by the table t: of a view, or of the picture resized.
-pub(crate) fn framed_patches(rgb: &[u8], f: Frame, out: &mut [f32], t: &[u32; 768])
-    requires { Framed f (length rgb.now) × Clean t.now × (f.gh * (f.gw * (3 * (f.p * f.p))) ≤ length out.old) }
-    ensures { out.new ≡ put out.old 0 (patches f.p f.gh f.gw (seen (entry t.now) f rgb.now)) }
-{
-    if f.plain {
-        all_patches(rgb, f, out, t);
-        return;
-    }
-    resized_all(rgb, f, out, t);
 }

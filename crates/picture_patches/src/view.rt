@@ -1,11 +1,11 @@
 // A row of a patch, straight from a view of a picture.
-ghost use Rattle.std.specs.Prelude.{◌≡◌, true, ◌+◌, ◌≤◌, ◌<◌, length};
+ghost use Rattle.std.specs.Prelude.{◌≡◌, ◌+◌, ◌≤◌, ◌<◌, length};
 ghost use Rattle.buffers.specs.Rows.{tab};
 ghost use Rattle.buffers.specs.Region.{put};
 ghost use Rattle.picture_samples.specs.Samples.{value, entry};
 ghost use Rattle.picture_samples.specs.inner.Clean.{Clean};
 ghost use Rattle.picture_patches.specs.Patches.{patch_row};
-ghost use Rattle.picture_patches.specs.inner.Frame.{Framed, own, viewed};
+ghost use Rattle.picture_patches.specs.inner.Frame.{Framed, Inside, own, viewed};
 
 use crate::rows::{Frame, plain_row, sample_of};
 use picture_limits::View;
@@ -17,11 +17,7 @@ fn own_columns(v: View, p: usize, r: usize, x: usize) -> usize
     if v.height <= r {
         return 0;
     }
-    if v.width <= x {
-        return 0;
-    }
-    let n = v.width - x;
-    if n < p { n } else { p }
+    p.min(v.width.saturating_sub(x))
 }
 
 // n samples of byte 0 in channel c.
@@ -29,15 +25,15 @@ fn zero_row(n: usize, c: usize, at: usize, out: &mut [f32], t: &[u32; 768])
     requires { (at + n ≤ length out.old) × (c < 3) × Clean t.now }
     ensures { out.new ≡ put out.old at (tab n (λ _. value (entry t.now) c 0)) }
 {
-    for j in 0..n {
-        out[at + j] = sample_of(t, c, 0);
-    }
+    let end = at + n;
+    out[at..end].fill(sample_of(t, c, 0));
 }
 
 // The samples of channel c at row r from column x on, of a view: its own, and behind them those of byte 0.
 pub(crate) fn view_row(
     rgb: &[u8],
     f: Frame,
+    v: View,
     r: usize,
     x: usize,
     c: usize,
@@ -45,11 +41,10 @@ pub(crate) fn view_row(
     out: &mut [f32],
     t: &[u32; 768],
 )
-    requires { Framed f (length rgb.now) × Clean t.now × (f.plain ≡ true) × (r < f.th) × (x + f.p ≤ f.tw) × (c < 3) × (at + f.p ≤ length out.old) }
-    ensures { out.new ≡ put out.old at (patch_row f.p (viewed (entry t.now) f rgb.now) r x c) }
+    requires { Framed f (length rgb.now) × Clean t.now × Inside f v × (r < f.th) × (x + f.p ≤ f.tw) × (c < 3) × (at + f.p ≤ length out.old) }
+    ensures { out.new ≡ put out.old at (patch_row f.p (viewed (entry t.now) f v rgb.now) r x c) }
 {
     let p = f.p;
-    let v = f.view;
     let from = ((v.top + r) * f.w + (v.left + x)) * 3 + c;
     let n = own_columns(v, p, r, x);
     plain_row(rgb, from, n, c, at, out, t);

@@ -1,5 +1,5 @@
 -- What the loops over rows and patches ask and write. Assumes nothing.
-use Rattle.std.specs.Prelude.{◌≡◌, true, cond, List, ℕ, ◌+◌, ◌-◌, ◌*◌, ◌≤◌, ◌<◌, min, ltb, Float}
+use Rattle.std.specs.Prelude.{◌≡◌, cond, List, ℕ, ◌+◌, ◌-◌, ◌*◌, ◌≤◌, ◌<◌, min, ltb, Float}
 use Rattle.picture_limits.specs.declared.View.{View}
 use Rattle.picture_patches.specs.declared.rows.Frame.{Frame}
 use Rattle.picture_resize.specs.Resize.{resized_at}
@@ -7,15 +7,12 @@ use Rattle.picture_samples.specs.Samples.{value}
 use Rattle.picture_patches.specs.Viewed.{view_at}
 use Rattle.picture_patches.specs.inner.Places.{columns, Placed}
 
--- the sample at a row, a column and a channel, by a table k: of the picture resized, and of its view
+-- the sample at a row, a column and a channel, by a table k: of the picture resized, and of a view of it
 abbrev pub mixed : (ℕ → ℕ → ℕ) → Frame → List ℕ → ℕ → ℕ → ℕ → Float
 mixed k f rgb y x c = value k c (resized_at rgb f.h f.w f.th f.tw y x c)
 
-abbrev pub viewed : (ℕ → ℕ → ℕ) → Frame → List ℕ → ℕ → ℕ → ℕ → Float
-viewed k f rgb y x c = value k c (view_at rgb f.w f.view y x c)
-
-abbrev pub seen : (ℕ → ℕ → ℕ) → Frame → List ℕ → ℕ → ℕ → ℕ → Float
-seen k f rgb = cond f.plain (viewed k f rgb) (mixed k f rgb)
+abbrev pub viewed : (ℕ → ℕ → ℕ) → Frame → View → List ℕ → ℕ → ℕ → ℕ → Float
+viewed k f v rgb y x c = value k c (view_at rgb f.w v y x c)
 
 -- how many of the p columns from column x on are the view's, in row r
 unfoldable pub own : View → ℕ → ℕ → ℕ → ℕ
@@ -36,25 +33,20 @@ pub record Framed (f : Frame) (len : ℕ) : Type 0 where
   pub grid-wide : f.gw * f.p ≤ f.tw
   pub grid-tall-high : f.gh ≤ columns
   pub grid-wide-high : f.gw ≤ columns
-  pub plain : f.plain ≡ true → (f.view.top + f.view.height ≤ f.h) × (f.view.left + f.view.width ≤ f.w)
 
--- and the neighbours of rows and columns are in place
+-- a view of the picture lies inside it
+abbrev pub Inside : Frame → View → Type 0
+Inside f v = (v.top + v.height ≤ f.h) × (v.left + v.width ≤ f.w)
+
+-- the frame, and the neighbours of rows and columns are in place
 pub record Ready (f : Frame) (len : ℕ) (lows : List ℕ) (parts : List Float) : Type 0 where
   pub frame : Framed f len
   pub down : Placed f.h f.th 0 lows parts
   pub across : Placed f.w f.tw columns lows parts
 
--- a strip of m patches of side p, as a view of a picture of 32 rows of 256 pixels
+-- a strip of m patches of side p, in a picture of 32 rows of 256 pixels, and what it is a view of
 abbrev pub strip_frame : ℕ → ℕ → Frame
-strip_frame p m =
-    record {
-      h = 32;
-      w = 256;
-      th = p;
-      tw = m * p;
-      p = p;
-      gh = 1;
-      gw = m;
-      plain = true;
-      view = record { top = 0; left = 0; height = p; width = m * p };
-    }
+strip_frame p m = record { h = 32; w = 256; th = p; tw = m * p; p = p; gh = 1; gw = m }
+
+abbrev pub strip_view : ℕ → ℕ → View
+strip_view p m = record { top = 0; left = 0; height = p; width = m * p }

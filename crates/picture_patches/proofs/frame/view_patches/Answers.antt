@@ -34,30 +34,31 @@ returns-then-not-view_inside c =
     let b = both in
     rw (b.0, b.1, sym c.view_inside.ensures ∙ not-true _ c.if-not-view_inside.true-raw)
 
-pub nonzero_div-gh : goal.nonzero_div-gh
-nonzero_div-gh c =
+pub nonzero_div-f : goal.nonzero_div-f
+nonzero_div-f c =
     let both : let a = c.args in (channels_allowed (value (entry c.args.t.now)) ≡ true) × (fits (length c.args.rgb.now) c.args.h c.args.w c.args.th c.args.tw c.args.p (length c.args.out.now) ≡ true) = let e = not-false _ c.if-not-channels_allowed-patches_fit.false-raw in
     (sym c.channels_allowed.ensures ∙ and_left c.channels_allowed.result c.patches_fit.result e, sym c.patches_fit.ensures ∙ and_right c.channels_allowed.result c.patches_fit.result e) in
     let passed : let a = c.args in Fits (length c.args.rgb.now) c.args.h c.args.w c.args.th c.args.tw c.args.p (length c.args.out.now) = fits-says _ _ _ _ _ _ _ both.1 in
     omega (arith, passed.patch-low)
 
-pub nonzero_div-gw : goal.nonzero_div-gw
-nonzero_div-gw c =
+pub nonzero_div-f-2 : goal.nonzero_div-f-2
+nonzero_div-f-2 c =
     let both : let a = c.args in (channels_allowed (value (entry c.args.t.now)) ≡ true) × (fits (length c.args.rgb.now) c.args.h c.args.w c.args.th c.args.tw c.args.p (length c.args.out.now) ≡ true) = let e = not-false _ c.if-not-channels_allowed-patches_fit.false-raw in
     (sym c.channels_allowed.ensures ∙ and_left c.channels_allowed.result c.patches_fit.result e, sym c.patches_fit.ensures ∙ and_right c.channels_allowed.result c.patches_fit.result e) in
     let passed : let a = c.args in Fits (length c.args.rgb.now) c.args.h c.args.w c.args.th c.args.tw c.args.p (length c.args.out.now) = fits-says _ _ _ _ _ _ _ both.1 in
     omega (arith, passed.patch-low)
 
-pub framed_patches-requires : goal.framed_patches-requires
-framed_patches-requires c =
+pub all_patches-requires : goal.all_patches-requires
+all_patches-requires c =
     let both : let a = c.args in (channels_allowed (value (entry c.args.t.now)) ≡ true) × (fits (length c.args.rgb.now) c.args.h c.args.w c.args.th c.args.tw c.args.p (length c.args.out.now) ≡ true) = let e = not-false _ c.if-not-channels_allowed-patches_fit.false-raw in
     (sym c.channels_allowed.ensures ∙ and_left c.channels_allowed.result c.patches_fit.result e, sym c.patches_fit.ensures ∙ and_right c.channels_allowed.result c.patches_fit.result e) in
     let passed : let a = c.args in Fits (length c.args.rgb.now) c.args.h c.args.w c.args.th c.args.tw c.args.p (length c.args.out.now) = fits-says _ _ _ _ _ _ _ both.1 in
     let within : let a = c.args in inside c.args.v c.args.h c.args.w ≡ true = sym c.view_inside.ensures ∙ not-false _ c.if-not-view_inside.false-raw in
     let a = c.args in
     let f = passed in (
-      framed _ _ _ _ _ _ _ true c.args.v f (inside-says c.args.v c.args.h c.args.w (within)),
+      framed _ _ _ _ _ _ _ f,
       clean_of c.args.t.now both.0,
+      inside-says c.args.v c.args.h c.args.w within,
       omega (arith, f.space, mul_assoc (c.args.th / c.args.p) (c.args.tw / c.args.p) (patch_floats c.args.p)),
     )
 
@@ -77,6 +78,6 @@ returns c =
     let v : ℕ → ℕ → ℕ → ℕ = view_at c.args.rgb.now c.args.w c.args.v in
     let ys = view_patches (value k) c.args.rgb.now c.args.w c.args.v c.args.th c.args.tw c.args.p in
     let l : length ys ≤ length c.args.out.now = omega (arith, passed.space, length-patches c.args.p (λ y x c. value k c (v y x c)) gh gw, mul_assoc gh gw (patch_floats c.args.p)) in
-    c.framed_patches.ensures
+    c.all_patches.ensures
     ∙ put-over c.args.out.now ys l
     ∙ sym (view-written k c.args.rgb.now c.args.h c.args.w c.args.v c.args.th c.args.tw c.args.p c.args.out.now b.0 b.1 (within))

@@ -1,6 +1,6 @@
 -- `picture_patches::nest::all_patches` meets its contract. Assumes nothing.
 use mathlib.Core.Path.{◌≡◌}
-use Prim.Native.Nat.{◌+◌, ◌*◌, ◌-◌, ◌≤◌}
+use Prim.Native.Nat.{◌+◌, ◌*◌}
 use lib.ListN.{length}
 use Rattle.buffers.specs.Rows.{rows}
 use Rattle.buffers.specs.Region.{put}
@@ -11,4 +11,4 @@ use Rattle.picture_patches.proofs.nest.all_patches.Given as goal
 
 abbrev pub invariant-loop-a : goal.invariant-loop-a
 invariant-loop-a l =
-    (l.a ≤ l.gh) × (l.r ≡ l.a * l.p) × (l.o ≡ 0 + l.a * l.n) × (length l.out ≡ length l.initial.out) × (l.out ≡ put l.initial.out 0 (rows l.a (λ k. patch_line l.p l.gw (viewed (entry l.t) l.f l.rgb) (k * l.p))))
+    (length l.out ≡ length l.initial.out) × (l.out ≡ put l.initial.out 0 (rows l.a (λ k. patch_line l.p l.f.gw (viewed (entry l.t) l.f l.v l.rgb) (k * l.p))))

@@ -1,6 +1,6 @@
 -- `picture_patches::nest::patch_line` meets its contract. Assumes nothing.
 use mathlib.Core.Path.{◌≡◌}
-use Prim.Native.Nat.{◌+◌, ◌*◌, ◌-◌, ◌≤◌}
+use Prim.Native.Nat.{◌+◌, ◌*◌}
 use lib.ListN.{length}
 use Rattle.buffers.specs.Rows.{rows}
 use Rattle.buffers.specs.Region.{put}
@@ -11,4 +11,4 @@ use Rattle.picture_patches.proofs.nest.patch_line.Given as goal
 
 abbrev pub invariant-loop-b : goal.invariant-loop-b
 invariant-loop-b l =
-    (l.b ≤ l.gw) × (l.x ≡ l.b * l.p) × (l.o ≡ l.at + l.b * l.n) × (length l.out ≡ length l.initial.out) × (l.out ≡ put l.initial.out l.at (rows l.b (λ k. patch_at l.p (viewed (entry l.t) l.f l.rgb) l.r (k * l.p))))
+    (length l.out ≡ length l.initial.out) × (l.out ≡ put l.initial.out l.at (rows l.b (λ k. patch_at l.p (viewed (entry l.t) l.f l.v l.rgb) l.r (k * l.p))))

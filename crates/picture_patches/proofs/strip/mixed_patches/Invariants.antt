@@ -11,10 +11,7 @@ use Rattle.picture_patches.proofs.strip.mixed_patches.Given as goal
 
 abbrev pub invariant-loop-a : goal.invariant-loop-a
 invariant-loop-a l =
-    (l.a ≤ l.gh)
-    × (l.r ≡ l.a * l.p)
-    × (l.o ≡ 0 + l.a * l.n)
-    × (length l.out ≡ length l.initial.out)
+    (length l.out ≡ length l.initial.out)
     × (length l.left ≡ length l.initial.left)
     × (length l.right ≡ length l.initial.right)
     × (length l.band ≡ length l.initial.band)
