@@ -1,5 +1,6 @@
 -- When preprocess accepts, and what an acceptance says. Assumes nothing.
-use mathlib.Core.Path.{◌≡◌}
+use Rattle.std.specs.Prelude.{Result, Ok, Err}
+use mathlib.Core.Path.{◌≡◌, sym, ap}
 use mathlib.Core.Bool.{true}
 use mathlib.Core.List.{List}
 use Prim.Native.Nat.{ℕ, ◌*◌, ◌≤◌}
@@ -11,13 +12,12 @@ use lib.Ieee.{Float}
 use Rattle.picture_limits.specs.declared.PictureSettings.{PictureSettings}
 use Rattle.picture_limits.specs.declared.Refusal.{Refusal}
 use Rattle.picture_limits.specs.declared.Refusal.TheVariants.{Setting, Channel, Side, RgbLength, ImageSize, Output}
-use Rattle.picture.specs.declared.Preprocessed.{Preprocessed}
-use Rattle.picture.specs.declared.Preprocessed.TheVariants.{Patches, Refused}
+use Rattle.picture.specs.declared.Patches.{Patches}
 use Rattle.buffers.specs.Region.{over}
 use Rattle.picture_limits.specs.Settings.{allowed, sided, align}
 use Rattle.picture_samples.specs.Samples.{channels_allowed, value_of}
 use Rattle.picture_limits.specs.Sides.{gh_of, gw_of}
-use Rattle.picture.specs.Preprocess.{floats_of, preprocessed, patches_of, patches_left}
+use Rattle.picture.specs.Preprocess.{sized, floats_of, preprocessed, grid_h, grid_w, floats, patches_of, patches_left}
 use Rattle.picture_limits.proofs.Refusals.{passed}
 
 -- what preprocess asks
@@ -29,12 +29,13 @@ pub record Accepts (s : PictureSettings) (len h w room : ℕ) : Type 0 where
   pub image : align s ≤ s.image_size
   pub fits : floats_of s h w ≤ room
 
-pub accepted : (s : PictureSettings) (len h w room : ℕ) → Accepts s len h w room → preprocessed s len h w room ≡ Patches (gh_of s h w) (gw_of s h w) (floats_of s h w)
+pub accepted : (s : PictureSettings) (len h w room : ℕ) → Accepts s len h w room → preprocessed s len h w room ≡ Ok (sized (gh_of s h w) (gw_of s h w) (floats_of s h w))
 unfolding preprocessed
 accepted s len h w room a = simp (a.settings, a.channels, a.sides, eq-eqb _ _ a.bytes, le-leb _ _ a.image, le-leb _ _ a.fits)
 
-never : (r : Refusal) (gh gw n : ℕ) → Refused r ≡ Patches gh gw n → ⊥
-never r gh gw n e = let z : ◌≡◌ {A = ℕ} 0 1 = cc in omega arith
+-- a refusal is no other answer
+pub never : {A : Type 0} (r : Refusal) (a : A) → Err r ≡ Ok a → ⊥
+never r a e = let z : ◌≡◌ {A = ℕ} 0 1 = cc in omega arith
 
 pub record Accepted (s : PictureSettings) (len h w room gh gw n : ℕ) : Type 0 where
   pub asks : Accepts s len h w room
@@ -42,22 +43,22 @@ pub record Accepted (s : PictureSettings) (len h w room gh gw n : ℕ) : Type 0 
   pub wide : gw ≡ gw_of s h w
   pub count : n ≡ floats_of s h w
 
-pub acceptance : (s : PictureSettings) (len h w room gh gw n : ℕ) → preprocessed s len h w room ≡ Patches gh gw n → Accepted s len h w room gh gw n
+pub acceptance : (s : PictureSettings) (len h w room gh gw n : ℕ) → preprocessed s len h w room ≡ Ok (sized gh gw n) → Accepted s len h w room gh gw n
 unfolding preprocessed
 acceptance s len h w room gh gw n e =
-    let x = Patches gh gw n in
-    let a = passed (allowed s) _ _ x (never Setting gh gw n) e in
-    let k = passed (channels_allowed (value_of s)) _ _ x (never Channel gh gw n) a.1 in
-    let b = passed (sided h w) _ _ x (never Side gh gw n) k.1 in
-    let c = passed (eqb len (h * w * 3)) _ _ x (never RgbLength gh gw n) b.1 in
-    let d = passed (leb (align s) s.image_size) _ _ x (never ImageSize gh gw n) c.1 in
-    let f = passed (leb (floats_of s h w) room) _ _ x (never Output gh gw n) d.1 in
+    let x = Ok (sized gh gw n) in
+    let a = passed (allowed s) _ _ x (never Setting _) e in
+    let k = passed (channels_allowed (value_of s)) _ _ x (never Channel _) a.1 in
+    let b = passed (sided h w) _ _ x (never Side _) k.1 in
+    let c = passed (eqb len (h * w * 3)) _ _ x (never RgbLength _) b.1 in
+    let d = passed (leb (align s) s.image_size) _ _ x (never ImageSize _) c.1 in
+    let f = passed (leb (floats_of s h w) room) _ _ x (never Output _) d.1 in
     let g = f.1 in
     record {
       asks = record { settings = a.0; channels = k.0; sides = b.0; bytes = eqb-true _ _ c.0; image = leb-true _ _ d.0; fits = leb-true _ _ f.0 };
-      tall = cc;
-      wide = cc;
-      count = cc;
+      tall = sym (ap grid_h g);
+      wide = sym (ap grid_w g);
+      count = sym (ap floats g);
     }
 
 -- what was written is what the definition says

@@ -1,4 +1,5 @@
 -- The undo: the three statements of specs/Undo.antt. Assumes nothing.
+use Rattle.std.specs.Prelude.{Result, Ok, Err}
 use mathlib.Core.Path.{◌≡◌, refl, sym, ap, ◌∙◌}
 use mathlib.Core.Bool.{Bool, true, false}
 use mathlib.Core.List.{List}
@@ -15,14 +16,14 @@ use Rattle.buffers.specs.Region.{over}
 use Rattle.buffers.proofs.Lists.{fit, and_both, and_left, and_right, rows_ext, tab-ext}
 use Rattle.picture_limits.specs.declared.PictureSettings.{PictureSettings}
 use Rattle.picture_limits.specs.declared.Refusal.{Refusal}
-use Rattle.picture.specs.declared.Preprocessed.{Preprocessed}
-use Rattle.picture_restore.specs.declared.Restored.{Restored}
+use Rattle.picture.specs.declared.Patches.{Patches}
+use Rattle.picture_restore.specs.declared.Picture.{Picture}
 use Rattle.picture_limits.specs.Settings.{within, allowed, align}
 use Rattle.picture_limits.specs.Sides.{side, th_of, tw_of, gh_of, gw_of}
 use Rattle.picture_samples.specs.Samples.{byte_of, value_of, pattern_of}
 use Rattle.picture_limits.specs.Places.{patch_floats, picture, sample_place}
 use Rattle.picture_limits.specs.Shape.{grid_allowed}
-use Rattle.picture.specs.Preprocess.{floats_of, preprocessed, resized_pixel, resized_bytes, patches_of, patches_left}
+use Rattle.picture.specs.Preprocess.{sized, floats_of, preprocessed, resized_pixel, resized_bytes, patches_of, patches_left}
 use Rattle.picture_view.specs.Known.{known, bytes_from}
 use Rattle.picture_restore.specs.Restore.{restored, bytes_of, bytes_left, bytes_out}
 use Rattle.picture_samples.proofs.Channels.{value-is}
@@ -38,23 +39,23 @@ use Rattle.picture_resize.proofs.Same.{byte-below, pixel-same, picture-same}
 use Rattle.buffers.specs.Lent.{Bytes, Floats}
 use Rattle.buffers.proofs.Bytes.{bytes-tab, bytes-rows}
 use Rattle.picture_limits.specs.Refusal.{unless}
-use Rattle.picture.specs.Undo.{Undo, UndoCalls, Unresized, OwnBytes, Asked, Source, Eight}
+use Rattle.picture.specs.Undo.{pictured, Undo, UndoCalls, Unresized, OwnBytes, Asked, Source, Eight}
 use Rattle.picture.proofs.Spans.{spanned, spans}
 use Rattle.picture.proofs.Given.{known_of, bytes-of, samples, given_is}
 
 -- then the samples decide
 pub decides : (s : PictureSettings) (l : List Float) (gh gw room : ℕ) → Asked s l gh gw room
-    → restored s l gh gw room ≡ unless (known (pattern_of s) s.patch_size l) (Restored.Refused Refusal.Sample) (Restored.Picture (gh * s.patch_size) (gw * s.patch_size))
+    → restored s l gh gw room ≡ unless (known (pattern_of s) s.patch_size l) (Err Refusal.Sample) (Ok (pictured (gh * s.patch_size) (gw * s.patch_size)))
 unfolding restored
 decides s l gh gw room a = simp (a.settings, a.channels, a.grid, eq-eqb _ _ a.samples, le-leb _ _ a.fits)
 
 -- ---- 1
 -- in any room that is enough
 pub record Back (s : PictureSettings) (rgb : List ℕ) (h w gh gw room : ℕ) : Type 0 where
-  pub answer : restored s (patches_of s rgb h w) gh gw room ≡ Restored.Picture (th_of s h w) (tw_of s h w)
+  pub answer : restored s (patches_of s rgb h w) gh gw room ≡ Ok (pictured (th_of s h w) (tw_of s h w))
   pub bytes : bytes_of s (patches_of s rgb h w) gh gw ≡ resized_bytes s rgb h w
 
-pub back : (s : PictureSettings) (rgb : List ℕ) (h w gh gw n room room' : ℕ) → preprocessed s (length rgb) h w room ≡ Preprocessed.Patches gh gw n
+pub back : (s : PictureSettings) (rgb : List ℕ) (h w gh gw n room room' : ℕ) → preprocessed s (length rgb) h w room ≡ Ok (sized gh gw n)
     → th_of s h w * tw_of s h w * 3 ≤ room' → Back s rgb h w gh gw room'
 back s rgb h w gh gw n room room' e r =
     let p = s.patch_size in
@@ -76,7 +77,7 @@ back s rgb h w gh gw n room room' e r =
       fits = rw (a.span, b.span) r;
     } in
     let k : known (pattern_of s) p l ≡ true = ap (known (pattern_of s) p) g ∙ known_of (pattern_of s) (samples s q.channels) p (gh_of s h w) (gw_of s h w) v low o.patch-low in
-    let answer : restored s l (gh_of s h w) (gw_of s h w) room' ≡ Restored.Picture (th_of s h w) (tw_of s h w) = decides s l (gh_of s h w) (gw_of s h w) room' z ∙ rw (k, a.span, b.span) in
+    let answer : restored s l (gh_of s h w) (gw_of s h w) room' ≡ Ok (pictured (th_of s h w) (tw_of s h w)) = decides s l (gh_of s h w) (gw_of s h w) room' z ∙ rw (k, a.span, b.span) in
     let bytes : bytes_of s l (gh_of s h w) (gw_of s h w) ≡ resized_bytes s rgb h w =
     ap (λ (x : List Float). bytes_from (pattern_of s) p x (gh_of s h w) (gw_of s h w)) g ∙ bytes-of (pattern_of s) (samples s q.channels) p (gh_of s h w) (gw_of s h w) v low o.patch-low ∙ rw (a.span, b.span) in
     rw (t.tall, t.wide) (record { answer = answer; bytes = bytes })
@@ -87,11 +88,11 @@ undo s rgb h w gh gw n room old e r =
     record {
       answer = u.answer;
       bytes = u.bytes;
-      output = ap (λ (x : Restored). bytes_left x (bytes_of s (patches_of s rgb h w) gh gw) old) u.answer ∙ ap (λ (x : List ℕ). over x old) u.bytes;
+      output = ap (λ (x : Result Picture Refusal). bytes_left x (bytes_of s (patches_of s rgb h w) gh gw) old) u.answer ∙ ap (λ (x : List ℕ). over x old) u.bytes;
     }
 
 -- the count, and the front of what was left
-pub patches-count : (s : PictureSettings) (rgb : List ℕ) (h w room gh gw n : ℕ) → preprocessed s (length rgb) h w room ≡ Preprocessed.Patches gh gw n
+pub patches-count : (s : PictureSettings) (rgb : List ℕ) (h w room gh gw n : ℕ) → preprocessed s (length rgb) h w room ≡ Ok (sized gh gw n)
     → n ≡ length (patches_of s rgb h w)
 patches-count s rgb h w room gh gw n e =
     let p = s.patch_size in
@@ -99,10 +100,10 @@ patches-count s rgb h w room gh gw n e =
     ∙ mul_assoc (gh_of s h w) (gw_of s h w) (patch_floats p)
     ∙ sym (length-patches p (λ y x c. value_of s c (resized_pixel s rgb h w y x c)) (gh_of s h w) (gw_of s h w))
 
-pub patches-front : (s : PictureSettings) (rgb : List ℕ) (h w room gh gw n : ℕ) (old : List Float) → preprocessed s (length rgb) h w room ≡ Preprocessed.Patches gh gw n
+pub patches-front : (s : PictureSettings) (rgb : List ℕ) (h w room gh gw n : ℕ) (old : List Float) → preprocessed s (length rgb) h w room ≡ Ok (sized gh gw n)
     → take n (patches_left (preprocessed s (length rgb) h w room) (patches_of s rgb h w) old) ≡ patches_of s rgb h w
 patches-front s rgb h w room gh gw n old e =
-    ap (λ (x : Preprocessed). take n (patches_left x (patches_of s rgb h w) old)) e
+    ap (λ (x : Result Patches Refusal). take n (patches_left x (patches_of s rgb h w) old)) e
     ∙ take_at (patches_of s rgb h w) _ _ (sym (patches-count s rgb h w room gh gw n e))
 
 pub undo-calls : UndoCalls
@@ -177,7 +178,7 @@ source s l gh gw room z f k =
       room = floats_of s h w;
       n = floats_of s h w;
       bytes = bs;
-      accepted = accepted s (length rgb) h w (floats_of s h w) q ∙ ap (λ (i : ℕ). Preprocessed.Patches i (gw_of s h w) (floats_of s h w)) a.back ∙ ap (λ (i : ℕ). Preprocessed.Patches gh i (floats_of s h w)) b.back;
+      accepted = accepted s (length rgb) h w (floats_of s h w) q ∙ ap (λ (i : ℕ). Ok (sized i (gw_of s h w) (floats_of s h w))) a.back ∙ ap (λ (i : ℕ). Ok (sized gh i (floats_of s h w))) b.back;
       given =
           rw (a.back, b.back, a.same, b.same)
           (rows_ext gh _ _ (λ i hi. rows_ext gw _ _ (λ j hj. rows_ext 3 _ _ (λ c hc. rows_ext p _ _ (λ t ht. tab-ext p _ _ (λ u hu.
@@ -191,7 +192,7 @@ source s l gh gw room z f k =
     }
 
 -- patches of an accepted picture are known
-seen : (s : PictureSettings) (l : List Float) (gh gw room : ℕ) → Asked s l gh gw room → Source s l gh gw → restored s l gh gw room ≡ Restored.Picture (gh * s.patch_size) (gw * s.patch_size)
+seen : (s : PictureSettings) (l : List Float) (gh gw room : ℕ) → Asked s l gh gw room → Source s l gh gw → restored s l gh gw room ≡ Ok (pictured (gh * s.patch_size) (gw * s.patch_size))
 seen s l gh gw room z c =
     let t = acceptance s (length c.rgb) c.h c.w c.room gh gw c.n c.accepted in
     let q = t.asks in
@@ -209,6 +210,6 @@ eight s l gh gw room f z = record {
   refused = λ c. decides s l gh gw room z ∙ last (known (pattern_of s) s.patch_size l) refl c;
 }
   where
-    last : (b : Bool) → known (pattern_of s) s.patch_size l ≡ b → (Source s l gh gw → ⊥) → unless b (Restored.Refused Refusal.Sample) (Restored.Picture (gh * s.patch_size) (gw * s.patch_size)) ≡ Restored.Refused Refusal.Sample
+    last : (b : Bool) → known (pattern_of s) s.patch_size l ≡ b → (Source s l gh gw → ⊥) → unless b (Err Refusal.Sample) (Ok (pictured (gh * s.patch_size) (gw * s.patch_size))) ≡ Err Refusal.Sample
     last true e c = absurd (c (source s l gh gw room z f e))
     last false e c = refl

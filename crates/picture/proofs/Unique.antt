@@ -1,4 +1,5 @@
 -- Any two results that satisfy the contract of a public function are equal. Each contract is one equation for the result and one for each lent buffer. Assumes nothing.
+use Rattle.std.specs.Prelude.{Result, Ok, Err}
 use mathlib.Core.Path.{◌≡◌}
 use mathlib.Core.Bool.{Bool}
 use mathlib.Core.List.{List}
@@ -6,8 +7,9 @@ use Prim.Native.Nat.{ℕ}
 use lib.ListN.{length}
 use lib.Ieee.{Float}
 use Rattle.picture_limits.specs.declared.PictureSettings.{PictureSettings}
-use Rattle.picture.specs.declared.Preprocessed.{Preprocessed}
-use Rattle.picture_restore.specs.declared.Restored.{Restored}
+use Rattle.picture_limits.specs.declared.Refusal.{Refusal}
+use Rattle.picture.specs.declared.Patches.{Patches}
+use Rattle.picture_restore.specs.declared.Picture.{Picture}
 use Rattle.number_floats.proofs.Unique.{one}
 use Rattle.picture_samples.specs.Samples.{channels_allowed, value, entry, sample_table}
 use Rattle.picture_resize.specs.declared.Near.{Near}
@@ -19,17 +21,17 @@ use Rattle.picture.specs.Preprocess.{preprocessed, patches_out}
 use Rattle.picture_restore.specs.Restore.{restored, bytes_out}
 
 -- the contracts, as types of an answer and of the output at exit
-abbrev pub Preprocesses : PictureSettings → List ℕ → ℕ → ℕ → List Float → Preprocessed → List Float → Type 0
+abbrev pub Preprocesses : PictureSettings → List ℕ → ℕ → ℕ → List Float → Result Patches Refusal → List Float → Type 0
 Preprocesses s rgb h w old r out = (r ≡ preprocessed s (length rgb) h w (length old)) × (out ≡ patches_out s rgb h w old)
 
-abbrev pub Restores : PictureSettings → List Float → ℕ → ℕ → List ℕ → Restored → List ℕ → Type 0
+abbrev pub Restores : PictureSettings → List Float → ℕ → ℕ → List ℕ → Result Picture Refusal → List ℕ → Type 0
 Restores s l gh gw old r out = (r ≡ restored s l gh gw (length old)) × (out ≡ bytes_out s l gh gw old)
 
-pub preprocess-unique : (s : PictureSettings) (rgb : List ℕ) (h w : ℕ) (old : List Float) (r q : Preprocessed) (x y : List Float)
+pub preprocess-unique : (s : PictureSettings) (rgb : List ℕ) (h w : ℕ) (old : List Float) (r q : Result Patches Refusal) (x y : List Float)
     → Preprocesses s rgb h w old r x → Preprocesses s rgb h w old q y → (r ≡ q) × (x ≡ y)
 preprocess-unique s rgb h w old r q x y a b = (one _ a.0 b.0, one _ a.1 b.1)
 
-pub restore-unique : (s : PictureSettings) (l : List Float) (gh gw : ℕ) (old : List ℕ) (r q : Restored) (x y : List ℕ)
+pub restore-unique : (s : PictureSettings) (l : List Float) (gh gw : ℕ) (old : List ℕ) (r q : Result Picture Refusal) (x y : List ℕ)
     → Restores s l gh gw old r x → Restores s l gh gw old q y → (r ≡ q) × (x ≡ y)
 restore-unique s l gh gw old r q x y a b = (one _ a.0 b.0, one _ a.1 b.1)
 

@@ -1,31 +1,35 @@
 -- Patches can be undone: what restore gives back of what preprocess wrote, and which floats it refuses.
 -- Three statements, the first also of what the calls leave; proofs/Undo.antt proves them. Assumes nothing.
-use Rattle.std.specs.Prelude.{◌≡◌, true, ◌&&◌, List, ℕ, ◌*◌, ◌%◌, ◌≤◌, length, take, Float}
+use Rattle.std.specs.Prelude.{◌≡◌, Result, Ok, Err, true, ◌&&◌, List, ℕ, ◌*◌, ◌%◌, ◌≤◌, length, take, Float}
 use Rattle.buffers.specs.Region.{over}
 use Rattle.buffers.specs.Lent.{Bytes, Floats}
 use Rattle.picture_limits.specs.declared.PictureSettings.{PictureSettings}
 use Rattle.picture_limits.specs.declared.Refusal.{Refusal}
-use Rattle.picture.specs.declared.Preprocessed.{Preprocessed}
-use Rattle.picture_restore.specs.declared.Restored.{Restored}
+use Rattle.picture.specs.declared.Patches.{Patches}
+use Rattle.picture_restore.specs.declared.Picture.{Picture}
 use Rattle.picture_limits.specs.Settings.{allowed, align}
 use Rattle.picture_limits.specs.Sides.{th_of, tw_of}
 use Rattle.picture_limits.specs.Shape.{grid_allowed}
 use Rattle.picture_samples.specs.Samples.{channels_allowed, value_of}
 use Rattle.picture_limits.specs.Places.{patch_floats}
-use Rattle.picture.specs.Preprocess.{preprocessed, resized_bytes, patches_of, patches_out}
+use Rattle.picture.specs.Preprocess.{sized, preprocessed, resized_bytes, patches_of, patches_out}
 use Rattle.picture_restore.specs.Restore.{restored, bytes_of, bytes_out}
 
 -- ---- 1. From the patches and the grid of an accepted picture the resized bytes come back
 
+-- a picture's sides
+abbrev pub pictured : ℕ → ℕ → Picture
+pictured h w = record { height = h; width = w }
+
 -- into any output that has room for them: restore accepts, reports the resized height and width, and keeps the tail
 pub record Undone (s : PictureSettings) (rgb : List ℕ) (h w gh gw : ℕ) (old : List ℕ) : Type 0 where
-  pub answer : restored s (patches_of s rgb h w) gh gw (length old) ≡ Restored.Picture (th_of s h w) (tw_of s h w)
+  pub answer : restored s (patches_of s rgb h w) gh gw (length old) ≡ Ok (pictured (th_of s h w) (tw_of s h w))
   pub bytes : bytes_of s (patches_of s rgb h w) gh gw ≡ resized_bytes s rgb h w
   pub output : bytes_out s (patches_of s rgb h w) gh gw old ≡ over (resized_bytes s rgb h w) old
 
 abbrev pub Undo : Type 0
 Undo = (s : PictureSettings) (rgb : List ℕ) (h w gh gw n room : ℕ) (old : List ℕ)
-    → preprocessed s (length rgb) h w room ≡ Preprocessed.Patches gh gw n
+    → preprocessed s (length rgb) h w room ≡ Ok (sized gh gw n)
     → th_of s h w * tw_of s h w * 3 ≤ length old
     → Undone s rgb h w gh gw old
 
@@ -34,12 +38,12 @@ Undo = (s : PictureSettings) (rgb : List ℕ) (h w gh gw n room : ℕ) (old : Li
 pub record Returned (s : PictureSettings) (rgb : List ℕ) (h w gh gw n : ℕ) (out : List Float) (old : List ℕ) : Type 0 where
   pub count : n ≡ length (patches_of s rgb h w)
   pub front : take n (patches_out s rgb h w out) ≡ patches_of s rgb h w
-  pub answer : restored s (take n (patches_out s rgb h w out)) gh gw (length old) ≡ Restored.Picture (th_of s h w) (tw_of s h w)
+  pub answer : restored s (take n (patches_out s rgb h w out)) gh gw (length old) ≡ Ok (pictured (th_of s h w) (tw_of s h w))
   pub output : bytes_out s (take n (patches_out s rgb h w out)) gh gw old ≡ over (resized_bytes s rgb h w) old
 
 abbrev pub UndoCalls : Type 0
 UndoCalls = (s : PictureSettings) (rgb : List ℕ) (h w gh gw n : ℕ) (out : List Float) (old : List ℕ)
-    → preprocessed s (length rgb) h w (length out) ≡ Preprocessed.Patches gh gw n
+    → preprocessed s (length rgb) h w (length out) ≡ Ok (sized gh gw n)
     → th_of s h w * tw_of s h w * 3 ≤ length old
     → Returned s rgb h w gh gw n out old
 
@@ -55,7 +59,7 @@ pub record Unresized (s : PictureSettings) (h w : ℕ) : Type 0 where
 abbrev pub OwnBytes : Type 0
 OwnBytes = (s : PictureSettings) (rgb : List ℕ) (h w gh gw n room : ℕ)
     → Bytes rgb
-    → preprocessed s (length rgb) h w room ≡ Preprocessed.Patches gh gw n
+    → preprocessed s (length rgb) h w room ≡ Ok (sized gh gw n)
     → Unresized s h w
     → resized_bytes s rgb h w ≡ rgb
 
@@ -77,12 +81,12 @@ pub record Source (s : PictureSettings) (l : List Float) (gh gw : ℕ) : Type 0 
   pub room : ℕ
   pub n : ℕ
   pub bytes : Bytes rgb
-  pub accepted : preprocessed s (length rgb) h w room ≡ Preprocessed.Patches gh gw n
+  pub accepted : preprocessed s (length rgb) h w room ≡ Ok (sized gh gw n)
   pub given : patches_of s rgb h w ≡ l
 
 pub record Exactly (s : PictureSettings) (l : List Float) (gh gw room : ℕ) : Type 0 where
-  pub none : restored s l gh gw room ≡ Restored.Refused Refusal.Sample → Source s l gh gw → ⊥
-  pub refused : (Source s l gh gw → ⊥) → restored s l gh gw room ≡ Restored.Refused Refusal.Sample
+  pub none : restored s l gh gw room ≡ Err Refusal.Sample → Source s l gh gw → ⊥
+  pub refused : (Source s l gh gw → ⊥) → restored s l gh gw room ≡ Err Refusal.Sample
 
 abbrev pub Eight : Type 0
 Eight = (s : PictureSettings) (l : List Float) (gh gw room : ℕ)

@@ -4,14 +4,10 @@
 pub mod patch;
 pub mod preprocess;
 
-use picture_limits::Refusal;
-
-#[derive(Drop)]
-pub enum Preprocessed {
-    Patches {
-        grid_h: usize,
-        grid_w: usize,
-        floats: usize,
-    },
-    Refused(Refusal),
+// The grid of a picture's patches, and how many floats they have.
+#[derive(Clone, Copy, Debug, PartialEq, Eq)]
+pub struct Patches {
+    pub grid_h: usize,
+    pub grid_w: usize,
+    pub floats: usize,
 }

@@ -1,16 +1,15 @@
 // A picture to patches: what is refused, and the sides of the picture resized.
-ghost use Rattle.std.specs.Prelude.{◌≡◌, true, ◌≤◌, ◌<◌, max, length};
+ghost use Rattle.std.specs.Prelude.{◌≡◌, true, ◌≤◌, ◌<◌, length};
 ghost use Rattle.picture_limits.specs.Settings.{allowed};
 ghost use Rattle.picture_samples.specs.Samples.{channels_allowed, value, entry, sample_table};
 ghost use Rattle.picture_limits.specs.Sides.{kept, side, resized};
 ghost use Rattle.picture.specs.Preprocess.{preprocessed, patches_out, Numbered};
 
-use crate::Preprocessed;
-use picture_limits::settings::{settings_allowed, sides_allowed};
+use crate::Patches;
+use picture_limits::settings::sides_allowed;
 use picture_limits::{PictureSettings, Refusal};
 use picture_patches::frame::resized_patches;
-use picture_samples::allowed::channels_allowed;
-use picture_samples::samples;
+use picture_samples::allowed::allowed_table;
 
 // A side x rounded up to a multiple of a, cut to n, rounded down to a multiple of a.
 fn side_of(a: usize, n: usize, x: usize) -> usize
@@ -24,19 +23,13 @@ fn side_of(a: usize, n: usize, x: usize) -> usize
     n / a * a
 }
 
-fn longer(h: usize, w: usize) -> usize
-    ensures { result ≡ max h w }
-{
-    if h <= w { w } else { h }
-}
-
 // A side x of a picture whose longer side is m, before the rounding to an image of size n.
 fn kept_side(rule: usize, n: usize, m: usize, x: usize) -> usize
     requires { (0 < m) × (n ≤ 2048) × (x ≤ 8192) }
     ensures { result ≡ kept rule n m x }
 {
     if (rule == 2) & (n < m) {
-        return longer(1, x * n / m);
+        return (x * n / m).max(1);
     }
     x
 }
@@ -58,38 +51,38 @@ fn preprocess_by(
     width: usize,
     out: &mut [f32],
     t: &[u32; 768],
-) -> Preprocessed
+) -> Result<Patches, Refusal>
     requires { (allowed s ≡ true) × (channels_allowed (value (entry t.now)) ≡ true) × (t.now ≡ sample_table s.mean s.deviation) }
     ensures answer { result ≡ preprocessed s (length rgb.now) height width (length out.old) }
     ensures output { out.new ≡ patches_out s rgb.now height width out.old }
 {
     if !sides_allowed(height, width) {
-        return Preprocessed::Refused(Refusal::Side);
+        return Err(Refusal::Side);
     }
     if rgb.len() != height * width * 3 {
-        return Preprocessed::Refused(Refusal::RgbLength);
+        return Err(Refusal::RgbLength);
     }
     let p = s.patch_size;
     let a = p * s.spatial_merge_size;
     let n = s.image_size;
     if n < a {
-        return Preprocessed::Refused(Refusal::ImageSize);
+        return Err(Refusal::ImageSize);
     }
-    let m = longer(height, width);
+    let m = height.max(width);
     let th = resized_side(s, m, height);
     let tw = resized_side(s, m, width);
     let gh = th / p;
     let gw = tw / p;
     let floats = gh * gw * (3 * (p * p));
     if out.len() < floats {
-        return Preprocessed::Refused(Refusal::Output);
+        return Err(Refusal::Output);
     }
     resized_patches(rgb, height, width, th, tw, p, out, t);
-    Preprocessed::Patches {
+    Ok(Patches {
         grid_h: gh,
         grid_w: gw,
         floats,
-    }
+    })
 }
 
 // The patches of a picture, over the front of `out`.
@@ -99,19 +92,11 @@ pub fn pixtral_preprocess(
     height: usize,
     width: usize,
     out: &mut [f32],
-) -> Preprocessed
+) -> Result<Patches, Refusal>
     ensures answer { result ≡ preprocessed s (length rgb.now) height width (length out.old) }
     ensures output { out.new ≡ patches_out s rgb.now height width out.old }
     ensures numbers { Numbered s (length rgb.now) height width (length out.old) result }
 {
-    if !settings_allowed(s) {
-        return Preprocessed::Refused(Refusal::Setting);
-    }
-    let mean = s.mean;
-    let deviation = s.deviation;
-    let t = samples(mean, deviation);
-    if !channels_allowed(&t) {
-        return Preprocessed::Refused(Refusal::Channel);
-    }
+    let t = allowed_table(s)?;
     preprocess_by(s, rgb, height, width, out, &t)
 }

@@ -94,7 +94,7 @@ resized_side-th-requires c =
     let sides : sided c.args.height c.args.width ≡ true = sym c.sides_allowed.ensures ∙ not-false _ c.if-not-sides_allowed.false-raw in
     let a = c.args in
     let t = sided-says c.args.height c.args.width (sides) in
-    let e = c.longer-m.ensures in
+    let e = c.max-m.ensures in
     (c.requires.0, omega (arith, e, le-max_left c.args.height c.args.width), t.0, omega (arith, e, max-le {a = c.args.height} {b = c.args.width} t.1 t.3))
 
 pub resized_side-tw-requires : goal.resized_side-tw-requires
@@ -102,7 +102,7 @@ resized_side-tw-requires c =
     let sides : sided c.args.height c.args.width ≡ true = sym c.sides_allowed.ensures ∙ not-false _ c.if-not-sides_allowed.false-raw in
     let a = c.args in
     let t = sided-says c.args.height c.args.width (sides) in
-    let e = c.longer-m.ensures in
+    let e = c.max-m.ensures in
     (c.requires.0, omega (arith, e, le-max_right c.args.height c.args.width), t.2, omega (arith, e, max-le {a = c.args.height} {b = c.args.width} t.1 t.3))
 
 pub nonzero_div-gh : goal.nonzero_div-gh
@@ -121,11 +121,11 @@ overflow_mul-floats c =
     let tall : Spans (c.resized_side-th.result / c.args.s.patch_size) c.args.s.patch_size = let s = c.args.s in
     let k = known in
     let e = c.resized_side-th.ensures in
-    spans _ _ k.patch-low (omega (arith, e, side-le (align s) c.args.s.image_size (kept c.args.s.resize_rule c.args.s.image_size c.longer-m.result c.args.height))) in
+    spans _ _ k.patch-low (omega (arith, e, side-le (align s) c.args.s.image_size (kept c.args.s.resize_rule c.args.s.image_size c.max-m.result c.args.height))) in
     let wide : Spans (c.resized_side-tw.result / c.args.s.patch_size) c.args.s.patch_size = let s = c.args.s in
     let k = known in
     let e = c.resized_side-tw.ensures in
-    spans _ _ k.patch-low (omega (arith, e, side-le (align s) c.args.s.image_size (kept c.args.s.resize_rule c.args.s.image_size c.longer-m.result c.args.width))) in
+    spans _ _ k.patch-low (omega (arith, e, side-le (align s) c.args.s.image_size (kept c.args.s.resize_rule c.args.s.image_size c.max-m.result c.args.width))) in
     omega (arith, times _ _ 2048 2048 tall.low wide.low)
 
 pub overflow_mul-floats-2 : goal.overflow_mul-floats-2
@@ -144,11 +144,11 @@ overflow_mul-floats-4 c =
     let tall : Spans (c.resized_side-th.result / c.args.s.patch_size) c.args.s.patch_size = let s = c.args.s in
     let k = known in
     let e = c.resized_side-th.ensures in
-    spans _ _ k.patch-low (omega (arith, e, side-le (align s) c.args.s.image_size (kept c.args.s.resize_rule c.args.s.image_size c.longer-m.result c.args.height))) in
+    spans _ _ k.patch-low (omega (arith, e, side-le (align s) c.args.s.image_size (kept c.args.s.resize_rule c.args.s.image_size c.max-m.result c.args.height))) in
     let wide : Spans (c.resized_side-tw.result / c.args.s.patch_size) c.args.s.patch_size = let s = c.args.s in
     let k = known in
     let e = c.resized_side-tw.ensures in
-    spans _ _ k.patch-low (omega (arith, e, side-le (align s) c.args.s.image_size (kept c.args.s.resize_rule c.args.s.image_size c.longer-m.result c.args.width))) in
+    spans _ _ k.patch-low (omega (arith, e, side-le (align s) c.args.s.image_size (kept c.args.s.resize_rule c.args.s.image_size c.max-m.result c.args.width))) in
     let p = c.args.s.patch_size in
     let b : 3 * (p * p) ≤ 3072 = omega (arith, square p known.patch-high) in
     omega (arith, times (c.resized_side-th.result / p * (c.resized_side-tw.result / p)) (3 * (p * p)) (2048 * 2048) 3072 (times _ _ 2048 2048 tall.low wide.low) b)
@@ -158,7 +158,7 @@ unfolding preprocessed
 returns-then-out-floats c =
     let sides : sided c.args.height c.args.width ≡ true = sym c.sides_allowed.ensures ∙ not-false _ c.if-not-sides_allowed.false-raw in
     let channels : channels_allowed (value_of c.args.s) ≡ true = let a = c.args in sym (allowed_of c.args.s.mean c.args.s.deviation c.args.t.now c.requires.2) ∙ c.requires.1 in
-    let counted : c.resized_side-th.result / c.args.s.patch_size * (c.resized_side-tw.result / c.args.s.patch_size) * patch_floats c.args.s.patch_size ≡ floats_of c.args.s c.args.height c.args.width = cc (c.resized_side-th.ensures, c.resized_side-tw.ensures, c.longer-m.ensures) in
+    let counted : c.resized_side-th.result / c.args.s.patch_size * (c.resized_side-tw.result / c.args.s.patch_size) * patch_floats c.args.s.patch_size ≡ floats_of c.args.s c.args.height c.args.width = cc (c.resized_side-th.ensures, c.resized_side-tw.ensures, c.max-m.ensures) in
     let a = c.args in
     let e = c.requires.0 in
     let d = channels in
@@ -174,7 +174,7 @@ pub returns : goal.returns
 returns c =
     let sides : sided c.args.height c.args.width ≡ true = sym c.sides_allowed.ensures ∙ not-false _ c.if-not-sides_allowed.false-raw in
     let channels : channels_allowed (value_of c.args.s) ≡ true = let a = c.args in sym (allowed_of c.args.s.mean c.args.s.deviation c.args.t.now c.requires.2) ∙ c.requires.1 in
-    let counted : c.resized_side-th.result / c.args.s.patch_size * (c.resized_side-tw.result / c.args.s.patch_size) * patch_floats c.args.s.patch_size ≡ floats_of c.args.s c.args.height c.args.width = cc (c.resized_side-th.ensures, c.resized_side-tw.ensures, c.longer-m.ensures) in
+    let counted : c.resized_side-th.result / c.args.s.patch_size * (c.resized_side-tw.result / c.args.s.patch_size) * patch_floats c.args.s.patch_size ≡ floats_of c.args.s c.args.height c.args.width = cc (c.resized_side-th.ensures, c.resized_side-tw.ensures, c.max-m.ensures) in
     let asked : Accepts c.args.s (length c.args.rgb.now) c.args.height c.args.width (length c.args.out.now) = record {
       settings = c.requires.0;
       channels = channels;
@@ -187,11 +187,11 @@ returns c =
     let tall : Spans (c.resized_side-th.result / c.args.s.patch_size) c.args.s.patch_size = let s = c.args.s in
     let k = known in
     let e = c.resized_side-th.ensures in
-    spans _ _ k.patch-low (omega (arith, e, side-le (align s) c.args.s.image_size (kept c.args.s.resize_rule c.args.s.image_size c.longer-m.result c.args.height))) in
+    spans _ _ k.patch-low (omega (arith, e, side-le (align s) c.args.s.image_size (kept c.args.s.resize_rule c.args.s.image_size c.max-m.result c.args.height))) in
     let wide : Spans (c.resized_side-tw.result / c.args.s.patch_size) c.args.s.patch_size = let s = c.args.s in
     let k = known in
     let e = c.resized_side-tw.ensures in
-    spans _ _ k.patch-low (omega (arith, e, side-le (align s) c.args.s.image_size (kept c.args.s.resize_rule c.args.s.image_size c.longer-m.result c.args.width))) in
+    spans _ _ k.patch-low (omega (arith, e, side-le (align s) c.args.s.image_size (kept c.args.s.resize_rule c.args.s.image_size c.max-m.result c.args.width))) in
     let handed : let a = c.args in
     fits (length c.args.rgb.now) c.args.height c.args.width c.resized_side-th.result c.resized_side-tw.result c.args.s.patch_size (length c.args.out.now) ≡ true = let a = c.args in
     let s = c.args.s in
@@ -199,8 +199,8 @@ returns c =
     fits-where _ _ _ _ _ _ _
     (record {
       sides = sides;
-      tall = omega (arith, c.resized_side-th.ensures, o.image-high, side-le (align s) c.args.s.image_size (kept c.args.s.resize_rule c.args.s.image_size c.longer-m.result c.args.height));
-      wide = omega (arith, c.resized_side-tw.ensures, o.image-high, side-le (align s) c.args.s.image_size (kept c.args.s.resize_rule c.args.s.image_size c.longer-m.result c.args.width));
+      tall = omega (arith, c.resized_side-th.ensures, o.image-high, side-le (align s) c.args.s.image_size (kept c.args.s.resize_rule c.args.s.image_size c.max-m.result c.args.height));
+      wide = omega (arith, c.resized_side-tw.ensures, o.image-high, side-le (align s) c.args.s.image_size (kept c.args.s.resize_rule c.args.s.image_size c.max-m.result c.args.width));
       patch-low = o.patch-low;
       patch-high = o.patch-high;
       bytes = c.if-rgb-height.false;
@@ -216,7 +216,7 @@ returns c =
     let th = th_of c.args.s h w in
     let tw = tw_of c.args.s h w in
     let v = value (entry c.args.t.now) in
-    let m = c.longer-m.ensures in
+    let m = c.max-m.ensures in
     let y = c.resized_side-th.ensures ∙ ap (λ (l : ℕ). resized c.args.s l h) m in
     let x = c.resized_side-tw.ensures ∙ ap (λ (l : ℕ). resized c.args.s l w) m in record {
       answer = cc (accepted c.args.s (length c.args.rgb.now) h w (length c.args.out.now) q, y, x);
