@@ -1,4 +1,5 @@
 -- What the calls on a tile answer and leave where they are accepted, from what their leaves write. Assumes nothing.
+use Rattle.std.specs.Prelude.{Result, Ok, Err}
 use mathlib.Core.Path.{◌≡◌, refl, sym, ap, ◌∙◌}
 use mathlib.Core.Bool.{Bool, true, false, ◌||◌, cond}
 use mathlib.Core.List.{List}
@@ -37,7 +38,6 @@ use Rattle.picture_view.specs.Known.{known}
 use Rattle.picture_restore.specs.Restore.{bytes_of}
 use Rattle.picture_view.specs.View.{view_row, view_place, view_fits, view_back, view_out}
 use Rattle.picture_view.proofs.Known.{known_same}
-use Rattle.picture_tiles.specs.declared.Tiled as D
 use Rattle.picture_tiles.specs.Cut.{Ready, tiles, own_height, own_width, tile_height, tile_width, grid_h, grid_w}
 use Rattle.picture_tiles.specs.Tile.{tile_view, tile_at, found, padded, tile_known}
 use Rattle.picture_tiles.specs.Join.{row_place, own_row, put_tile}
@@ -104,7 +104,7 @@ module _ (s : PictureSettings) (t : List ℕ) (e : t ≡ sample_table s.mean s.d
 
 -- ---- a tile's restore: where no number but 8 applies
 pub given : (s : PictureSettings) (l : List Float) (h w i room : ℕ) → Given s (length l) h w i room
-    → (b : Bool) → tile_known (pattern_of s) s l h w i ≡ b → untiled s l h w i room ≡ cond b (tile_of s h w i) (D.Tiled.Refused Sample)
+    → (b : Bool) → tile_known (pattern_of s) s l h w i ≡ b → untiled s l h w i room ≡ cond b (tile_of s h w i) (Err Sample)
 unfolding untiled
 given s l h w i room q true e =
     rw (q.ready.settings, q.channels, q.sides, le-leb _ _ q.ready.image, lt-ltb _ _ q.cut, eq-eqb _ _ q.samples, le-leb _ _ q.space, e) refl
@@ -188,5 +188,5 @@ module _ (s : PictureSettings) (t : List ℕ) (e : t ≡ sample_table s.mean s.d
       rw (a, g) (rows_are old)
   restored-out old false m k e =
       let a : view_back (entry t) p gh gw l u h w (length old) ≡ false = ap (view_back (entry t) p gh gw l u h w) m ∙ back_is ∙ e in
-      let g : untiled s l h w i (length old) ≡ D.Tiled.Refused Sample = ap (untiled s l h w i) m ∙ given s l h w i room q false k in
+      let g : untiled s l h w i (length old) ≡ Err Sample = ap (untiled s l h w i) m ∙ given s l h w i room q false k in
       rw (a, g) refl

@@ -1,5 +1,6 @@
 -- The undo of a tile: restore gives back the padded tile, and joining the restored tiles the sweep; and which patches are
 -- those of a tile. Patches and bytes are first taken over any table of patterns that is distinct in each channel. Assumes nothing.
+use Rattle.std.specs.Prelude.{Result, Ok, Err}
 use mathlib.Core.Path.{◌≡◌, refl, sym, ap, ◌∙◌, subst}
 use mathlib.Core.Bool.{Bool, true, false, ◌||◌, cond, true≢false}
 use mathlib.Core.List.{List}
@@ -14,7 +15,6 @@ use lib.Ieee.Bits.{of_bits-to_bits}
 use Rattle.buffers.specs.Rows.{rows, all}
 use Rattle.buffers.proofs.Lists.{fit, and_both, and_left, and_right, all_of, all-at, rows_ext, tab-ext}
 use Rattle.picture_limits.specs.declared.PictureSettings.{PictureSettings}
-use Rattle.picture_restore.specs.declared.Restored.{Restored}
 use Rattle.picture_limits.specs.Shape.{grid_allowed}
 use Rattle.picture_limits.specs.Places.{patch_floats, picture, sample_place}
 use Rattle.picture_limits.proofs.Places.{patch-in, place-in-patch, place-of, picture-at, length-picture}
@@ -34,7 +34,7 @@ use Rattle.picture_restore.specs.Restore.{restored, bytes_of}
 use Rattle.picture_view.specs.inner.Known.{known_patches}
 use Rattle.picture_view.proofs.Known.{known_at, known-cut}
 use Rattle.picture.proofs.Places.{sample-at, patches-self}
-use Rattle.picture.specs.Undo.{Asked}
+use Rattle.picture.specs.Undo.{pictured, Asked}
 use Rattle.picture.proofs.Given.{Table, samples, bytes-of}
 use Rattle.picture.proofs.Undo.{decides}
 use Rattle.picture_tiles.specs.Cut.{Ready, tiles, top, left, tile_height, tile_width, grid_h, grid_w}
@@ -233,7 +233,7 @@ pub tile-samples : (s : PictureSettings) (rgb : List ℕ) (h w i : ℕ)
 tile-samples s rgb h w i = patches-ext s.patch_size (grid_h s h w i) (grid_w s w i) _ _ (λ y x c _ _ hc. value-is s.mean s.deviation c (tile_at s rgb h w i y x c))
 
 pub record Restores (s : PictureSettings) (rgb : List ℕ) (h w i room : ℕ) : Type 0 where
-  pub answer : restored s (tile_patches (pattern_of s) s rgb h w i) (grid_h s h w i) (grid_w s w i) room ≡ Restored.Picture (tile_height s h w i) (tile_width s w i)
+  pub answer : restored s (tile_patches (pattern_of s) s rgb h w i) (grid_h s h w i) (grid_w s w i) room ≡ Ok (pictured (tile_height s h w i) (tile_width s w i))
   pub bytes : bytes_of s (tile_patches (pattern_of s) s rgb h w i) (grid_h s h w i) (grid_w s w i) ≡ tile_bytes s rgb h w i
 
 pub restores : (s : PictureSettings) (rgb : List ℕ) (h w i room : ℕ) → Ready s → channels_allowed (value_of s) ≡ true → i < tiles s h w → Bytes rgb → tile_height s h w i * tile_width s w i * 3 ≤ room → Restores s rgb h w i room

@@ -1,4 +1,5 @@
 -- The five statements of specs/Undo.antt, and that no pixel is seen. Assumes nothing.
+use Rattle.std.specs.Prelude.{Result, Ok, Err}
 use mathlib.Core.Path.{◌≡◌, refl, sym, ap, ◌∙◌}
 use mathlib.Core.Bool.{Bool, true, false}
 use mathlib.Core.List.{List, [], ◌∷◌}
@@ -27,7 +28,7 @@ use Rattle.picture_resize.specs.Resize.{pixel}
 use Rattle.picture_restore.specs.Restore.{bytes_of}
 use Rattle.picture.proofs.Places.{sample-at}
 use Rattle.picture.proofs.Given.{samples}
-use Rattle.picture_tiles.specs.declared.Tiled as D
+use Rattle.picture.proofs.Accepts.{never}
 use Rattle.picture_tiles.specs.Cut.{Ready, tile_side, down, across, tiles, in_cut, own_height, grid_h, grid_w}
 use Rattle.picture_tiles.specs.Tile.{tile_at, tile_patches, tile_known}
 use Rattle.picture_tiles.specs.Join.{row_place, own_row, put_tile, put_tiles}
@@ -62,14 +63,11 @@ once s rgb h w q r z c hr hz hc =
     }
 
 -- ---- what an acceptance says
-never : (r : Refusal) (gh gw n t l h w : ℕ) → D.Tiled.Refused r ≡ D.Tiled.Tile gh gw n t l h w → ⊥
-never r gh gw n t l h w e = let z : ◌≡◌ {A = ℕ} 0 1 = cc in omega arith
-
 pub accepted : (s : PictureSettings) (len h w i room : ℕ) → tiled s len h w i room ≡ tile_of s h w i → Taken s len h w i room
 unfolding tiled
 accepted s len h w i room e =
     let x = tile_of s h w i in
-    let no : (r : Refusal) → D.Tiled.Refused r ≡ x → ⊥ = λ r. never r _ _ _ _ _ _ _ in
+    let no : (r : Refusal) → Err r ≡ x → ⊥ = λ r. never r _ in
     let a = passed (allowed s) _ _ x (no Setting) e in
     let k = passed (channels_allowed (value_of s)) _ _ x (no Channel) a.1 in
     let b = passed (sided h w) _ _ x (no Side) k.1 in
@@ -175,8 +173,8 @@ eight s l h w i room f z =
       refused = λ c. given s l h w i room z false (x.refused c);
     }
   where
-    go : (b : Bool) → tile_known (pattern_of s) s l h w i ≡ b → untiled s l h w i room ≡ D.Tiled.Refused Sample → tile_known (pattern_of s) s l h w i ≡ false
-    go true k e = absurd (never Sample _ _ _ _ _ _ _ (sym e ∙ given s l h w i room z true k))
+    go : (b : Bool) → tile_known (pattern_of s) s l h w i ≡ b → untiled s l h w i room ≡ Err Sample → tile_known (pattern_of s) s l h w i ≡ false
+    go true k e = absurd (never Sample _ (sym e ∙ given s l h w i room z true k))
     go false k e = k
 
 -- ---- 5

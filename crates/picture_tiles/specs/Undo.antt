@@ -1,19 +1,17 @@
 -- Nothing of a sweep is lost in its tiles: every sample lies in one of them, and the tiles give the sweep back. Five statements;
 -- proofs/Undo.antt proves them. Assumes nothing.
-use Rattle.std.specs.Prelude.{◌≡◌, true, List, [], ◌∷◌, ℕ, ◌+◌, ◌*◌, ◌≤◌, ◌<◌, length, get_or, take, Float}
+use Rattle.std.specs.Prelude.{◌≡◌, Ok, Err, true, List, [], ◌∷◌, ℕ, ◌+◌, ◌*◌, ◌≤◌, ◌<◌, length, get_or, take, Float}
 use Rattle.std.specs.Float.{nan}
 use Rattle.buffers.specs.Lent.{Bytes, Floats}
 use Rattle.picture_limits.specs.declared.PictureSettings.{PictureSettings}
 use Rattle.picture_limits.specs.declared.Refusal.TheVariants.{Sample}
-use Rattle.picture_limits.specs.declared.Shape.TheVariants.{Shaped}
 use Rattle.picture_limits.specs.Settings.{sided}
 use Rattle.picture_limits.specs.Shape.{shaped}
 use Rattle.picture_limits.specs.Places.{sample_place}
 use Rattle.picture_samples.specs.Samples.{channels_allowed, value_of, pattern_of}
 use Rattle.picture_resize.specs.Resize.{pixel}
-use Rattle.picture_restore.specs.declared.Restored.{Restored}
+use Rattle.picture.specs.Undo.{pictured}
 use Rattle.picture_restore.specs.Restore.{restored, bytes_of}
-use Rattle.picture_tiles.specs.declared.Tiled.{Tiled}
 use Rattle.picture_tiles.specs.Cut.{Ready, tiles, top, left, own_height, own_width, tile_height, tile_width, grid_h, grid_w}
 use Rattle.picture_tiles.specs.Tile.{tile_bytes, tile_patches}
 use Rattle.picture_tiles.specs.Join.{put_tile, Has}
@@ -49,7 +47,7 @@ patches_at s rgb h w i out = take (tile_floats s h w i) (patches_out s rgb h w i
 
 pub record Back (s : PictureSettings) (rgb : List ℕ) (h w i : ℕ) (out : List Float) (room : ℕ) (old : List ℕ) : Type 0 where
   pub patches : patches_at s rgb h w i out ≡ tile_patches (pattern_of s) s rgb h w i
-  pub padded : tile_height s h w i * tile_width s w i * 3 ≤ room → restored s (patches_at s rgb h w i out) (grid_h s h w i) (grid_w s w i) room ≡ Restored.Picture (tile_height s h w i) (tile_width s w i)
+  pub padded : tile_height s h w i * tile_width s w i * 3 ≤ room → restored s (patches_at s rgb h w i out) (grid_h s h w i) (grid_w s w i) room ≡ Ok (pictured (tile_height s h w i) (tile_width s w i))
   pub bytes : bytes_of s (patches_at s rgb h w i out) (grid_h s h w i) (grid_w s w i) ≡ tile_bytes s rgb h w i
   pub answer : untiled s (patches_at s rgb h w i out) h w i (length old) ≡ tile_of s h w i
   pub output : bytes_out s (patches_at s rgb h w i out) h w i old ≡ put_tile s h w i (tile_bytes s rgb h w i) old
@@ -95,12 +93,12 @@ pub record Source (k : ℕ → ℕ → ℕ) (s : PictureSettings) (l : List Floa
   pub given : tile_patches k s rgb h w i ≡ l
 
 pub record Exactly (s : PictureSettings) (l : List Float) (h w i room : ℕ) : Type 0 where
-  pub none : untiled s l h w i room ≡ Tiled.Refused Sample → Source (pattern_of s) s l h w i → ⊥
-  pub refused : (Source (pattern_of s) s l h w i → ⊥) → untiled s l h w i room ≡ Tiled.Refused Sample
+  pub none : untiled s l h w i room ≡ Err Sample → Source (pattern_of s) s l h w i → ⊥
+  pub refused : (Source (pattern_of s) s l h w i → ⊥) → untiled s l h w i room ≡ Err Sample
 
 abbrev pub Eight : Type 0
 Eight = (s : PictureSettings) (l : List Float) (h w i room : ℕ) → Floats l → Given s (length l) h w i room → Exactly s l h w i room
 
 -- ---- 5. The grid of every tile is one that forward accepts: of its numbers 1, 6 and 7 none applies
 abbrev pub Forwarded : Type 0
-Forwarded = (s : PictureSettings) (len h w i room : ℕ) → tiled s len h w i room ≡ tile_of s h w i → shaped s (grid_h s h w i) (grid_w s w i) (tile_floats s h w i) ≡ Shaped (grid_h s h w i * grid_w s w i)
+Forwarded = (s : PictureSettings) (len h w i room : ℕ) → tiled s len h w i room ≡ tile_of s h w i → shaped s (grid_h s h w i) (grid_w s w i) (tile_floats s h w i) ≡ Ok (grid_h s h w i * grid_w s w i)

@@ -7,29 +7,22 @@ mod place;
 pub mod preprocess;
 pub mod restore;
 
-use picture_limits::Refusal;
-
-#[derive(Drop)]
-pub enum Cutting {
-    Tiles {
-        side: usize,
-        rows: usize,
-        columns: usize,
-    },
-    Refused(Refusal),
+// The side of a tile, and how many tiles stand below each other and side by side.
+#[derive(Clone, Copy, Debug, PartialEq, Eq)]
+pub struct Tiles {
+    pub side: usize,
+    pub rows: usize,
+    pub columns: usize,
 }
 
 // A tile: its grid and how many floats its patches have, and where its own bytes lie in the sweep.
-#[derive(Drop)]
-pub enum Tiled {
-    Tile {
-        grid_h: usize,
-        grid_w: usize,
-        floats: usize,
-        top: usize,
-        left: usize,
-        height: usize,
-        width: usize,
-    },
-    Refused(Refusal),
+#[derive(Clone, Copy, Debug, PartialEq, Eq)]
+pub struct Tile {
+    pub grid_h: usize,
+    pub grid_w: usize,
+    pub floats: usize,
+    pub top: usize,
+    pub left: usize,
+    pub height: usize,
+    pub width: usize,
 }

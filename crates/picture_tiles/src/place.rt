@@ -1,5 +1,5 @@
 // Where a tile lies in the sweep, and how many patches it has.
-ghost use Rattle.std.specs.Prelude.{◌≡◌, true, ◌/◌, ◌≤◌, ◌<◌, min};
+ghost use Rattle.std.specs.Prelude.{◌≡◌, true, ◌/◌, ◌≤◌, ◌<◌};
 ghost use Rattle.picture_limits.specs.Settings.{sided, align};
 ghost use Rattle.picture_tiles.specs.Cut.{Ready, pieces, up, tile_side, in_cut, tiles};
 ghost use Rattle.picture_tiles.specs.Tile.{tile_view};
@@ -31,12 +31,6 @@ pub(crate) fn in_cut(s: PictureSettings, height: usize, width: usize, index: usi
     index < pieces_of(t, height) * pieces_of(t, width)
 }
 
-fn smaller(a: usize, b: usize) -> usize
-    ensures { result ≡ min a b }
-{
-    if a <= b { a } else { b }
-}
-
 // What a tile has of the sweep.
 pub(crate) fn tile_view(s: PictureSettings, height: usize, width: usize, index: usize) -> View
     requires { Ready s × (sided height width ≡ true) × (index < tiles s height width) }
@@ -49,8 +43,8 @@ pub(crate) fn tile_view(s: PictureSettings, height: usize, width: usize, index: 
     View {
         top,
         left,
-        height: smaller(t, height - top),
-        width: smaller(t, width - left),
+        height: t.min(height - top),
+        width: t.min(width - left),
     }
 }
 

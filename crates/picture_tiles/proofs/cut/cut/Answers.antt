@@ -1,5 +1,7 @@
 -- `picture_tiles::cut::cut` meets its contract. Assumes nothing.
-use mathlib.Core.Path.{◌≡◌, sym, ◌∙◌}
+use mathlib.Core.Path.{◌≡◌, sym, ap, ◌∙◌}
+use Rattle.std.specs.Prelude.{Err}
+use Rattle.std.proofs.lemmas.Result.{err_from_is_err_and}
 use mathlib.Core.Bool.{true}
 use native.Mathlib.Omega.{arith}
 use borrow.Author.Tests.{not-true, not-false, le-leb, lt-leb}
@@ -7,34 +9,30 @@ use Rattle.picture_limits.specs.Settings.{allowed, sided}
 use Rattle.picture_limits.proofs.Places.{times}
 use Rattle.picture_limits.proofs.Sides.{allowed-says}
 use Rattle.picture_samples.specs.Samples.{channels_allowed, value_of}
-use Rattle.picture_samples.proofs.Channels.{allowed_of}
+use Rattle.picture_samples.proofs.Channels.{allowed_of, table-says, table-refuses}
 use Rattle.picture_tiles.specs.Cut.{Ready}
 use Rattle.picture_tiles.specs.Answer.{cut_of}
 use Rattle.picture_tiles.proofs.Bounds.{Bounds, bounds}
 use Rattle.picture_tiles.proofs.cut.cut.Goals as goal
 
-pub returns-then-not-settings_allowed : goal.returns-then-not-settings_allowed
+pub returns-in_err-allowed_table : goal.returns-in_err-allowed_table
 unfolding cut_of
-returns-then-not-settings_allowed c = rw (sym c.settings_allowed.ensures ∙ not-true _ c.if-not-settings_allowed.true-raw)
-
-pub returns-then-not-channels_allowed : goal.returns-then-not-channels_allowed
-unfolding cut_of
-returns-then-not-channels_allowed c =
-    let settings : allowed c.args.s ≡ true = sym c.settings_allowed.ensures ∙ not-false _ c.if-not-settings_allowed.false-raw in
-    let channels : c.channels_allowed.result ≡ channels_allowed (value_of c.args.s) = c.channels_allowed.ensures ∙ allowed_of c.args.s.mean c.args.s.deviation _ c.samples-t.ensures in
-    rw (settings, sym (channels) ∙ not-true _ c.if-not-channels_allowed.true-raw)
+returns-in_err-allowed_table c =
+    let p = err_from_is_err_and c.from_residual.result c.from_residual.ensures.1 in
+    p.1 ∙ ap Err p.2 ∙ sym (table-refuses c.args.s _ _ c.in_err-allowed_table.ensures)
 
 pub returns-then-not-sides_allowed : goal.returns-then-not-sides_allowed
 unfolding cut_of
 returns-then-not-sides_allowed c =
-    let settings : allowed c.args.s ≡ true = sym c.settings_allowed.ensures ∙ not-false _ c.if-not-settings_allowed.false-raw in
-    let channels : c.channels_allowed.result ≡ channels_allowed (value_of c.args.s) = c.channels_allowed.ensures ∙ allowed_of c.args.s.mean c.args.s.deviation _ c.samples-t.ensures in
-    let passed : channels_allowed (value_of c.args.s) ≡ true = sym (channels) ∙ not-false _ c.if-not-channels_allowed.false-raw in
+    let table = table-says c.args.s _ c.in_ok-allowed_table.ensures in
+    let settings : allowed c.args.s ≡ true = table.settings in
+    let passed : channels_allowed (value_of c.args.s) ≡ true = sym (allowed_of c.args.s.mean c.args.s.deviation _ table.table) ∙ table.channels in
     rw (settings, passed, sym c.sides_allowed.ensures ∙ not-true _ c.if-not-sides_allowed.true-raw)
 
 pub overflow_mul-s : goal.overflow_mul-s
 overflow_mul-s c =
-    let settings : allowed c.args.s ≡ true = sym c.settings_allowed.ensures ∙ not-false _ c.if-not-settings_allowed.false-raw in
+    let table = table-says c.args.s _ c.in_ok-allowed_table.ensures in
+    let settings : allowed c.args.s ≡ true = table.settings in
     let s = c.args.s in
     let o = allowed-says s (settings) in
     omega (arith, times c.args.s.patch_size c.args.s.spatial_merge_size 32 4 o.patch-high o.merge-high)
@@ -42,22 +40,24 @@ overflow_mul-s c =
 pub returns-then-s : goal.returns-then-s
 unfolding cut_of
 returns-then-s c =
-    let settings : allowed c.args.s ≡ true = sym c.settings_allowed.ensures ∙ not-false _ c.if-not-settings_allowed.false-raw in
-    let channels : c.channels_allowed.result ≡ channels_allowed (value_of c.args.s) = c.channels_allowed.ensures ∙ allowed_of c.args.s.mean c.args.s.deviation _ c.samples-t.ensures in
-    let passed : channels_allowed (value_of c.args.s) ≡ true = sym (channels) ∙ not-false _ c.if-not-channels_allowed.false-raw in
+    let table = table-says c.args.s _ c.in_ok-allowed_table.ensures in
+    let settings : allowed c.args.s ≡ true = table.settings in
+    let passed : channels_allowed (value_of c.args.s) ≡ true = sym (allowed_of c.args.s.mean c.args.s.deviation _ table.table) ∙ table.channels in
     let sides : sided c.args.height c.args.width ≡ true = sym c.sides_allowed.ensures ∙ not-false _ c.if-not-sides_allowed.false-raw in
     rw (settings, passed, sides, lt-leb _ _ c.if-s.true)
 
 pub tile_side-side-requires : goal.tile_side-side-requires
 tile_side-side-requires c =
-    let settings : allowed c.args.s ≡ true = sym c.settings_allowed.ensures ∙ not-false _ c.if-not-settings_allowed.false-raw in
+    let table = table-says c.args.s _ c.in_ok-allowed_table.ensures in
+    let settings : allowed c.args.s ≡ true = table.settings in
     let ready : Ready c.args.s = record { settings = settings; image = c.if-s.false } in
     ready
 
 pub pieces_of-requires : goal.pieces_of-requires
 pieces_of-requires c =
     let sides : let a = c.args in sided c.args.height c.args.width ≡ true = sym c.sides_allowed.ensures ∙ not-false _ c.if-not-sides_allowed.false-raw in
-    let settings : allowed c.args.s ≡ true = sym c.settings_allowed.ensures ∙ not-false _ c.if-not-settings_allowed.false-raw in
+    let table = table-says c.args.s _ c.in_ok-allowed_table.ensures in
+    let settings : allowed c.args.s ≡ true = table.settings in
     let ready : Ready c.args.s = record { settings = settings; image = c.if-s.false } in
     let at-end : let a = c.args in Bounds c.args.s c.args.height c.args.width = bounds _ _ _ (ready) (sides) in
     let z = at-end in rw c.tile_side-side.ensures (z.side-low, z.side-high, z.tall)
@@ -65,7 +65,8 @@ pieces_of-requires c =
 pub pieces_of-requires-2 : goal.pieces_of-requires-2
 pieces_of-requires-2 c =
     let sides : let a = c.args in sided c.args.height c.args.width ≡ true = sym c.sides_allowed.ensures ∙ not-false _ c.if-not-sides_allowed.false-raw in
-    let settings : allowed c.args.s ≡ true = sym c.settings_allowed.ensures ∙ not-false _ c.if-not-settings_allowed.false-raw in
+    let table = table-says c.args.s _ c.in_ok-allowed_table.ensures in
+    let settings : allowed c.args.s ≡ true = table.settings in
     let ready : Ready c.args.s = record { settings = settings; image = c.if-s.false } in
     let at-end : let a = c.args in Bounds c.args.s c.args.height c.args.width = bounds _ _ _ (ready) (sides) in
     let z = at-end in rw c.tile_side-side.ensures (z.side-low, z.side-high, z.wide)
@@ -73,8 +74,8 @@ pieces_of-requires-2 c =
 pub returns : goal.returns
 unfolding cut_of
 returns c =
-    let settings : allowed c.args.s ≡ true = sym c.settings_allowed.ensures ∙ not-false _ c.if-not-settings_allowed.false-raw in
-    let channels : c.channels_allowed.result ≡ channels_allowed (value_of c.args.s) = c.channels_allowed.ensures ∙ allowed_of c.args.s.mean c.args.s.deviation _ c.samples-t.ensures in
-    let passed : channels_allowed (value_of c.args.s) ≡ true = sym (channels) ∙ not-false _ c.if-not-channels_allowed.false-raw in
+    let table = table-says c.args.s _ c.in_ok-allowed_table.ensures in
+    let settings : allowed c.args.s ≡ true = table.settings in
+    let passed : channels_allowed (value_of c.args.s) ≡ true = sym (allowed_of c.args.s.mean c.args.s.deviation _ table.table) ∙ table.channels in
     let sides : sided c.args.height c.args.width ≡ true = sym c.sides_allowed.ensures ∙ not-false _ c.if-not-sides_allowed.false-raw in
     rw (settings, passed, sides, le-leb _ _ c.if-s.false, c.pieces_of.ensures, c.pieces_of-2.ensures, c.tile_side-side.ensures)

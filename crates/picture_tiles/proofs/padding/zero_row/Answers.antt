@@ -50,9 +50,6 @@ returns-then-not-zero_pixel c =
     sym (row-fails c.args.v c.args.y (c.args.gw * c.args.p) _ c.loop-x.x (omega (arith, e, c.loop-x.invariant.1)) c.loop-x-test.true
     (sym (zero_is (entry c.args.t.now) c.args.p c.args.gw c.args.patches.now c.args.y c.loop-x.x) ∙ sym (told) ∙ not-true _ c.if-not-zero_pixel.true-raw))
 
-pub overflow_add-x : goal.overflow_add-x
-overflow_add-x c = omega (arith, c.loop-x-test.true, times c.args.gw c.args.p 2048 32 c.requires.2 c.requires.1)
-
 pub loop-x-preserved : goal.loop-x-preserved
 loop-x-preserved c =
     let told : let a = c.args in

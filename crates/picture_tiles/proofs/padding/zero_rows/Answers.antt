@@ -37,11 +37,6 @@ returns-then-not-zero_row c =
     let y = c.loop-y.y in
     sym (all-fails (c.args.gh * c.args.p) (λ i. zero_row (entry c.args.t.now) c.args.p c.args.gw c.args.patches.now c.args.v i) y c.loop-y-test.true (sym c.zero_row.ensures ∙ not-true _ c.if-not-zero_row.true-raw))
 
-pub overflow_add-y : goal.overflow_add-y
-overflow_add-y c =
-    let tall-high : c.args.gh * c.args.p ≤ 65536 = times c.args.gh c.args.p 2048 32 c.requires.2 c.requires.1 in
-    omega (arith, c.loop-y-test.true, tall-high)
-
 pub loop-y-preserved : goal.loop-y-preserved
 loop-y-preserved c =
     (omega arith, all-step c.loop-y.y (λ i. zero_row (entry c.args.t.now) c.args.p c.args.gw c.args.patches.now c.args.v i) c.loop-y.invariant.1 (sym c.zero_row.ensures ∙ not-false _ c.if-not-zero_row.false-raw))

@@ -44,4 +44,4 @@ overflow_sub-width c =
     let z = within in rw (c.pieces_of-across.ensures, c.tile_side-t.ensures) (omega (arith, z.stops))
 
 pub returns : goal.returns
-returns c = rw (c.smaller.ensures, c.smaller-2.ensures, c.pieces_of-across.ensures, c.tile_side-t.ensures)
+returns c = rw (c.min.ensures, c.min-2.ensures, c.pieces_of-across.ensures, c.tile_side-t.ensures)

@@ -1,39 +1,21 @@
 -- `picture_tiles::preprocess::preprocess_tile` meets its contract: settings and channels are refused first. Assumes nothing.
-use mathlib.Core.Path.{◌≡◌, sym, ◌∙◌}
-use mathlib.Core.Bool.{true, false}
-use borrow.Author.Tests.{not-true, not-false}
-use Rattle.picture_limits.specs.Settings.{allowed}
-use Rattle.picture_samples.specs.Samples.{channels_allowed, value_of}
-use Rattle.picture_samples.proofs.Channels.{allowed_of}
+use Rattle.std.proofs.Common.{◌≡◌, refl, sym, ap, ◌∙◌}
+use Rattle.std.specs.Prelude.{Err, length}
+use Rattle.std.proofs.lemmas.Result.{err_from_is_err_and}
+use Rattle.picture_samples.proofs.Channels.{Tabled, table-says, table-refuses}
 use Rattle.picture_tiles.specs.Answer.{tiled}
 use Rattle.picture_tiles.proofs.preprocess.preprocess_tile.Goals as goal
 
-pub returns-then-not-settings_allowed : goal.returns-then-not-settings_allowed
+pub returns-in_err-t : goal.returns-in_err-t
 unfolding tiled
-returns-then-not-settings_allowed c =
-    let e : allowed c.args.s ≡ false = sym c.settings_allowed.ensures ∙ not-true _ c.if-not-settings_allowed.true-raw in record {
-      answer = simp e;
-      output = simp e;
-    }
-
-pub returns-then-not-channels_allowed : goal.returns-then-not-channels_allowed
-unfolding tiled
-returns-then-not-channels_allowed c =
-    let settings : allowed c.args.s ≡ true = sym c.settings_allowed.ensures ∙ not-false _ c.if-not-settings_allowed.false-raw in
-    let channels : c.channels_allowed.result ≡ channels_allowed (value_of c.args.s) = c.channels_allowed.ensures ∙ allowed_of c.args.s.mean c.args.s.deviation _ c.samples-t.ensures in
-    let e = settings in
-    let d : channels_allowed (value_of c.args.s) ≡ false = sym (channels) ∙ not-true _ c.if-not-channels_allowed.true-raw in record {
-      answer = simp (e, d);
-      output = simp (e, d);
+returns-in_err-t c =
+    let p = err_from_is_err_and c.from_residual.result c.from_residual.ensures.1 in
+    let r : tiled c.args.s (length c.args.rgb.now) c.args.height c.args.width c.args.index (length c.args.out.now) ≡ Err c.in_err-t.field-0.0 = table-refuses c.args.s _ _ c.in_err-t.ensures in record {
+      answer = p.1 ∙ ap Err p.2 ∙ sym r;
+      output = rw r refl;
     }
 
 pub preprocess_tile_by-requires : goal.preprocess_tile_by-requires
 preprocess_tile_by-requires c =
-    let settings : allowed c.args.s ≡ true = sym c.settings_allowed.ensures ∙ not-false _ c.if-not-settings_allowed.false-raw in
-    (settings, sym c.channels_allowed.ensures ∙ not-false _ c.if-not-channels_allowed.false-raw, c.samples-t.ensures)
-
-pub returns : goal.returns
-returns c = record {
-  answer = c.preprocess_tile_by.ensures.answer;
-  output = c.preprocess_tile_by.ensures.output;
-}
+    let k : Tabled c.args.s c.in_ok-t.t = table-says c.args.s _ c.in_ok-t.ensures in
+    (k.settings, k.channels, k.table)

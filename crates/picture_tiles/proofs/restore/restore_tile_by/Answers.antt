@@ -1,4 +1,5 @@
 -- `picture_tiles::restore::restore_tile_by` meets its contract. Assumes nothing.
+use Rattle.std.specs.Prelude.{Result, Ok, Err}
 use mathlib.Core.Path.{◌≡◌, refl, sym, ap, ◌∙◌}
 use mathlib.Core.Bool.{Bool, true, false, ◌&&◌, cond}
 use Prim.Native.Nat.{◌*◌, ◌/◌, ◌≤◌}
@@ -18,7 +19,6 @@ use Rattle.picture_view.specs.View.{view_out}
 use Rattle.picture_tiles.specs.Cut.{Ready, up, in_cut, grid_h, grid_w}
 use Rattle.picture_tiles.specs.Tile.{padded, tile_known}
 use Rattle.picture_limits.specs.declared.Refusal.TheVariants.{Sample}
-use Rattle.picture_tiles.specs.declared.Tiled as D
 use Rattle.picture_tiles.specs.Answer.{tile_floats, tile_of, untiled, bytes_out}
 use Rattle.picture_tiles.proofs.Bounds.{Inside, inside_of}
 use Rattle.picture_tiles.specs.Undo.{Given}
@@ -319,7 +319,7 @@ returns-then-not-restore_view c =
     let ends : let a = c.args in
     let g = c.before.before.before.before.before.before.before.before.before in
     (b : Bool) → c.restore_view.result ≡ b
-    → (untiled c.args.s c.args.patches.now c.args.height c.args.width c.args.index (length c.args.out.now) ≡ cond b (tile_of c.args.s c.args.height c.args.width c.args.index) (D.Tiled.Refused Sample))
+    → (untiled c.args.s c.args.patches.now c.args.height c.args.width c.args.index (length c.args.out.now) ≡ cond b (tile_of c.args.s c.args.height c.args.width c.args.index) (Err Sample))
     × (view_out (entry c.args.t.now) c.args.s.patch_size c.grid_side-gh.result c.grid_side-gw.result c.args.patches.now c.tile_view-v.result c.args.height c.args.width c.args.out.now ≡ bytes_out c.args.s c.args.patches.now c.args.height c.args.width c.args.index c.args.out.now) = λ b e. let y = c.before.before.before.before.before in
     let x = c.before.before.before.before.before.before.before in
     let r = c.before.before.before.before.before.before.before.before.before.before.before.before.before.before.before.before.before.before.before.before.before in
@@ -381,7 +381,7 @@ returns c =
     let ends : let a = c.args in
     let g = c.before.before.before.before.before.before.before.before.before in
     (b : Bool) → c.restore_view.result ≡ b
-    → (untiled c.args.s c.args.patches.now c.args.height c.args.width c.args.index (length c.args.out.now) ≡ cond b (tile_of c.args.s c.args.height c.args.width c.args.index) (D.Tiled.Refused Sample))
+    → (untiled c.args.s c.args.patches.now c.args.height c.args.width c.args.index (length c.args.out.now) ≡ cond b (tile_of c.args.s c.args.height c.args.width c.args.index) (Err Sample))
     × (view_out (entry c.args.t.now) c.args.s.patch_size c.grid_side-gh.result c.grid_side-gw.result c.args.patches.now c.tile_view-v.result c.args.height c.args.width c.args.out.now ≡ bytes_out c.args.s c.args.patches.now c.args.height c.args.width c.args.index c.args.out.now) = λ b e. let y = c.before.before.before.before.before in
     let x = c.before.before.before.before.before.before.before in
     let r = c.before.before.before.before.before.before.before.before.before.before.before.before.before.before.before.before.before.before.before.before.before in
