@@ -12,11 +12,11 @@ use Rattle.picture_limits.proofs.Places.{quotient, remainder}
 use Rattle.picture_limits.proofs.Shapes.{shaped-says}
 use Rattle.picture_limits.specs.declared.PictureSettings.{PictureSettings}
 use Rattle.picture_limits.specs.declared.Refusal as F
-use Rattle.picture_limits.specs.declared.Shape.{Shape}
+use Rattle.std.specs.Prelude.{Result, Ok, Err}
 use Rattle.picture_limits.specs.Refusal.{unless}
 use Rattle.picture_limits.specs.Settings.{allowed}
 use Rattle.picture_limits.specs.Shape.{grid_allowed, shaped}
-use Rattle.picture_salvage.specs.declared.Salvaged as D
+use Rattle.picture_salvage.specs.declared.Salvaged.{Salvaged}
 use Rattle.picture_samples.specs.Samples.{channels_allowed, byte_of, value_of, pattern_of}
 use Rattle.picture_samples.proofs.Finds.{Same, byte-same}
 use lib.ListN.{length, get_or, length-append}
@@ -220,31 +220,31 @@ module _ (k m : ℕ → ℕ → ℕ) (e : Same k m) (p : ℕ) (l : List ℕ) whe
   saved-same gh gw = rows_ext (gh * p) _ _ (λ y _. rows_ext (gw * p) _ _ (λ x _. tab-ext 3 _ _ (λ c hc. ap saved (byte-same k m e c (get_or l (sample_place p gw y x c) 0) hc))))
 
 -- ---- where settings, grid and length are in order, and the channels too, the room and then the list decide
-abbrev pub decided : PictureSettings → List ℕ → ℕ → ℕ → ℕ → ℕ → D.Salvaged
+abbrev pub decided : PictureSettings → List ℕ → ℕ → ℕ → ℕ → ℕ → Result Salvaged F.Refusal
 decided s l gh gw room space =
-    unless (leb (gh * s.patch_size * (gw * s.patch_size) * 3) room) (D.Salvaged.Refused F.Refusal.Output)
-    (unless (leb (bad_samples (pattern_of s) s.patch_size l) (space / 3)) (D.Salvaged.Refused F.Refusal.List)
-    (D.Salvaged.Picture (gh * s.patch_size) (gw * s.patch_size) (bad_samples (pattern_of s) s.patch_size l)))
+    unless (leb (gh * s.patch_size * (gw * s.patch_size) * 3) room) (Err F.Refusal.Output)
+    (unless (leb (bad_samples (pattern_of s) s.patch_size l) (space / 3)) (Err F.Refusal.List)
+    (Ok (record { height = gh * s.patch_size; width = gw * s.patch_size; bad = bad_samples (pattern_of s) s.patch_size l })))
 
-abbrev pub decided_by : PictureSettings → List ℕ → ℕ → ℕ → ℕ → ℕ → Shape → D.Salvaged
-decided_by s l gh gw room space (Shape.Unshaped r) = D.Salvaged.Refused r
-decided_by s l gh gw room space (Shape.Shaped t) = decided s l gh gw room space
+abbrev pub decided_by : PictureSettings → List ℕ → ℕ → ℕ → ℕ → ℕ → Result ℕ F.Refusal → Result Salvaged F.Refusal
+decided_by s l gh gw room space (Err r) = Err r
+decided_by s l gh gw room space (Ok t) = decided s l gh gw room space
 
 pub agrees : (s : PictureSettings) (l : List ℕ) (gh gw room space : ℕ)
-    → salvaged s l gh gw room space ≡ unless (allowed s) (D.Salvaged.Refused F.Refusal.Setting) (unless (channels_allowed (value_of s)) (D.Salvaged.Refused F.Refusal.Channel) (decided_by s l gh gw room space (shaped s gh gw (length l))))
+    → salvaged s l gh gw room space ≡ unless (allowed s) (Err F.Refusal.Setting) (unless (channels_allowed (value_of s)) (Err F.Refusal.Channel) (decided_by s l gh gw room space (shaped s gh gw (length l))))
 unfolding salvaged shaped
 agrees s l gh gw room space = go (allowed s) (channels_allowed (value_of s)) (grid_allowed s gh && grid_allowed s gw) (eqb (length l) (gh * gw * patch_floats s.patch_size))
   where
     go : (a d g n : Bool)
-        → unless a (D.Salvaged.Refused F.Refusal.Setting) (unless d (D.Salvaged.Refused F.Refusal.Channel) (unless g (D.Salvaged.Refused F.Refusal.Grid) (unless n (D.Salvaged.Refused F.Refusal.PatchesLength) (decided s l gh gw room space))))
-        ≡ unless a (D.Salvaged.Refused F.Refusal.Setting) (unless d (D.Salvaged.Refused F.Refusal.Channel) (decided_by s l gh gw room space (unless a (Shape.Unshaped F.Refusal.Setting) (unless g (Shape.Unshaped F.Refusal.Grid) (unless n (Shape.Unshaped F.Refusal.PatchesLength) (Shape.Shaped (gh * gw)))))))
+        → unless a (Err F.Refusal.Setting) (unless d (Err F.Refusal.Channel) (unless g (Err F.Refusal.Grid) (unless n (Err F.Refusal.PatchesLength) (decided s l gh gw room space))))
+        ≡ unless a (Err F.Refusal.Setting) (unless d (Err F.Refusal.Channel) (decided_by s l gh gw room space (unless a (Err F.Refusal.Setting) (unless g (Err F.Refusal.Grid) (unless n (Err F.Refusal.PatchesLength) (Ok (gh * gw)))))))
     go false d g n = refl
     go true false g n = refl
     go true true false n = refl
     go true true true false = refl
     go true true true true = refl
 
-pub agreed : (s : PictureSettings) (l : List ℕ) (gh gw room space t : ℕ) → shaped s gh gw (length l) ≡ Shape.Shaped t → channels_allowed (value_of s) ≡ true
+pub agreed : (s : PictureSettings) (l : List ℕ) (gh gw room space t : ℕ) → shaped s gh gw (length l) ≡ Ok t → channels_allowed (value_of s) ≡ true
     → salvaged s l gh gw room space ≡ decided s l gh gw room space
 agreed s l gh gw room space t e d =
     let a = (shaped-says s gh gw (length l) t e).accepts in

@@ -30,13 +30,19 @@ use Rattle.picture_samples.proofs.Channels.{entry-of, allowed_of, clean_of}
 use Rattle.picture_samples.proofs.Finds.{byte-same, missed, pattern-back}
 use Rattle.picture_spot.specs.Bytes.{known_at}
 use Rattle.picture_view.proofs.Known.{channel-at}
-use Rattle.picture_restore.specs.declared.Restored.{Restored}
+use Rattle.std.specs.Prelude.{Result, Ok, Err}
+use Rattle.picture_restore.specs.declared.Picture.{Picture}
 use Rattle.picture_view.specs.Known as K
 use Rattle.picture_view.specs.Known.{known}
 use Rattle.picture_restore.specs.Restore.{restored, bytes_of}
 use Rattle.picture_salvage.specs.declared.Salvaged.{Salvaged}
+use Rattle.picture_salvage.specs.Salvage as Sal
 use Rattle.picture_salvage.specs.Salvage.{bits_of, bad, bad_samples, entry_of, listed, saved, saved_from, salvaged}
 use Rattle.picture_salvage.specs.Saved.{floats_of, Agreed, Agree, Came, Back, Listing, Listed, List-says}
+
+-- restore's answer with these sides
+abbrev pictured : ℕ → ℕ → Result Picture Refusal
+pictured h w = Ok (record { height = h; width = w })
 
 -- ---- what an acceptance says
 record Accepts (s : PictureSettings) (l : List ℕ) (gh gw room h w n : ℕ) : Type 0 where
@@ -49,19 +55,19 @@ record Accepts (s : PictureSettings) (l : List ℕ) (gh gw room h w n : ℕ) : T
   width : gw * s.patch_size ≡ w
   counted : bad_samples (pattern_of s) s.patch_size l ≡ n
 
-accepted : (s : PictureSettings) (l : List ℕ) (gh gw room space h w n : ℕ) → salvaged s l gh gw room space ≡ Salvaged.Picture h w n → Accepts s l gh gw room h w n
+accepted : (s : PictureSettings) (l : List ℕ) (gh gw room space h w n : ℕ) → salvaged s l gh gw room space ≡ Ok (record { height = h; width = w; bad = n }) → Accepts s l gh gw room h w n
 unfolding salvaged
 accepted s l gh gw room space h w n =
     go (allowed s) refl (channels_allowed (value_of s)) refl (grid_allowed s gh && grid_allowed s gw) refl (eqb (length l) (gh * gw * patch_floats s.patch_size)) refl
     (leb (gh * s.patch_size * (gw * s.patch_size) * 3) room) refl (leb (bad_samples (pattern_of s) s.patch_size l) (space / 3))
   where
-    never : (r : Refusal) → Salvaged.Refused r ≡ Salvaged.Picture h w n → ⊥
+    never : (r : Refusal) → ◌≡◌ {A = Result Salvaged Refusal} (Err r) (Ok (record { height = h; width = w; bad = n })) → ⊥
     never r e = let z : ◌≡◌ {A = ℕ} 0 1 = cc in omega arith
 
     go : (a : Bool) → allowed s ≡ a → (d : Bool) → channels_allowed (value_of s) ≡ d → (g : Bool) → grid_allowed s gh && grid_allowed s gw ≡ g
         → (m : Bool) → eqb (length l) (gh * gw * patch_floats s.patch_size) ≡ m → (f : Bool) → leb (gh * s.patch_size * (gw * s.patch_size) * 3) room ≡ f → (b : Bool)
-        → unless a (Salvaged.Refused Refusal.Setting) (unless d (Salvaged.Refused Refusal.Channel) (unless g (Salvaged.Refused Refusal.Grid) (unless m (Salvaged.Refused Refusal.PatchesLength) (unless f (Salvaged.Refused Refusal.Output) (unless b (Salvaged.Refused Refusal.List)
-        (Salvaged.Picture (gh * s.patch_size) (gw * s.patch_size) (bad_samples (pattern_of s) s.patch_size l))))))) ≡ Salvaged.Picture h w n
+        → unless {A = Result Salvaged Refusal} a (Err Refusal.Setting) (unless d (Err Refusal.Channel) (unless g (Err Refusal.Grid) (unless m (Err Refusal.PatchesLength) (unless f (Err Refusal.Output) (unless b (Err Refusal.List)
+        (Ok (record { height = gh * s.patch_size; width = gw * s.patch_size; bad = bad_samples (pattern_of s) s.patch_size l }))))))) ≡ Ok (record { height = h; width = w; bad = n })
         → Accepts s l gh gw room h w n
     go false ea d ed g eg m em f ef b e = absurd (never Refusal.Setting e)
     go true ea false ed g eg m em f ef b e = absurd (never Refusal.Channel e)
@@ -69,7 +75,7 @@ accepted s l gh gw room space h w n =
     go true ea true ed true eg false em f ef b e = absurd (never Refusal.PatchesLength e)
     go true ea true ed true eg true em false ef b e = absurd (never Refusal.Output e)
     go true ea true ed true eg true em true ef false e = absurd (never Refusal.List e)
-    go true ea true ed true eg true em true ef true e = record { settings = ea; channels = ed; grid = eg; samples = em; fits = ef; height = cc; width = cc; counted = cc }
+    go true ea true ed true eg true em true ef true e = record { settings = ea; channels = ed; grid = eg; samples = em; fits = ef; height = ap Sal.height e; width = ap Sal.width e; counted = ap Sal.bad_of e }
 
 not_yes : (b : Bool) → not b ≡ true → b ≡ false
 not_yes true e = sym e
@@ -118,7 +124,7 @@ module _ (s : PictureSettings) (l : List ℕ) (a : channels_allowed (value_of s)
       ∙ all-ext (length l) _ _ (λ i h. ap (λ (b : ℕ). ltb b 256) (bits-same i (i / (p * p) % 3) h (mod-lt (i / (p * p)) (omega arith))))
 
   answer : (gh gw room h w n : ℕ) → Accepts s l gh gw room h w n
-      → restored s (floats_of l) gh gw room ≡ unless (known (pattern_of s) s.patch_size (floats_of l)) (Restored.Refused Refusal.Sample) (Restored.Picture (gh * s.patch_size) (gw * s.patch_size))
+      → restored s (floats_of l) gh gw room ≡ unless (known (pattern_of s) s.patch_size (floats_of l)) (Err Refusal.Sample) (pictured (gh * s.patch_size) (gw * s.patch_size))
   unfolding restored
   answer gh gw room h w n k = rw (k.settings, k.channels, k.grid, long, k.samples, k.fits) refl
 
@@ -148,7 +154,7 @@ agree s l gh gw room space h w n u e =
     let p = s.patch_size in
     let f : ℕ → Bool = known_at (pattern_of s) p (bits_of l) in
     record {
-      accepts = λ z. answer s l k.channels u gh gw room h w n k ∙ rw (known_is s l k.channels u, none-fails (length l) f (k.counted ∙ z)) (ap (λ (x : ℕ). Restored.Picture x (gw * p)) k.height ∙ ap (Restored.Picture h) k.width);
+      accepts = λ z. answer s l k.channels u gh gw room h w n k ∙ rw (known_is s l k.channels u, none-fails (length l) f (k.counted ∙ z)) (ap (λ (x : ℕ). pictured x (gw * p)) k.height ∙ ap (pictured h) k.width);
       bytes = λ z.
           rows_ext (gh * p) _ _ (λ y hy. rows_ext (gw * p) _ _ (λ x hx. tab-ext 3 _ _ (λ c hc.
           let i = sample_place p gw y x c in

@@ -1,11 +1,11 @@
 -- What salvage answers and writes, for every input: like restore, of patterns in the place of floats, where a sample that has
 -- the bits of no byte becomes byte 0 and is listed. Assumes nothing.
-use Rattle.std.specs.Prelude.{Bool, not, ◌&&◌, cond, List, [], ◌∷◌, ℕ, ◌*◌, ◌/◌, ◌%◌, eqb, leb, ltb, length, get_or}
+use Rattle.std.specs.Prelude.{Bool, not, ◌&&◌, cond, List, [], ◌∷◌, ℕ, ◌*◌, ◌/◌, ◌%◌, eqb, leb, ltb, length, get_or, Result, Ok, Err}
 use Rattle.buffers.specs.Rows.{rows, count}
 use Rattle.buffers.specs.Region.{over}
 use Rattle.picture_limits.specs.declared.PictureSettings.{PictureSettings}
 use Rattle.picture_limits.specs.declared.Refusal as F
-use Rattle.picture_salvage.specs.declared.Salvaged as D
+use Rattle.picture_salvage.specs.declared.Salvaged.{Salvaged}
 use Rattle.picture_limits.specs.Refusal as R
 use Rattle.picture_limits.specs.Refusal.{unless}
 use Rattle.picture_limits.specs.Settings.{allowed}
@@ -44,20 +44,20 @@ saved_from k p l gh gw = bytes_by saved k p gh gw (bits_of l)
 -- ---- salvage, by the table of the settings' means and deviations
 
 -- the answer; `room` is the length of the output, and `space` that of the list, which holds a third as many entries
-unfoldable pub salvaged : PictureSettings → List ℕ → ℕ → ℕ → ℕ → ℕ → D.Salvaged
+unfoldable pub salvaged : PictureSettings → List ℕ → ℕ → ℕ → ℕ → ℕ → Result Salvaged F.Refusal
 salvaged s l gh gw room space =
-    unless (allowed s) (D.Salvaged.Refused F.Refusal.Setting)
-    (unless (channels_allowed (value_of s)) (D.Salvaged.Refused F.Refusal.Channel)
-    (unless (grid_allowed s gh && grid_allowed s gw) (D.Salvaged.Refused F.Refusal.Grid)
-    (unless (eqb (length l) (gh * gw * patch_floats s.patch_size)) (D.Salvaged.Refused F.Refusal.PatchesLength)
-    (unless (leb (gh * s.patch_size * (gw * s.patch_size) * 3) room) (D.Salvaged.Refused F.Refusal.Output)
-    (unless (leb (bad_samples (pattern_of s) s.patch_size l) (space / 3)) (D.Salvaged.Refused F.Refusal.List)
-    (D.Salvaged.Picture (gh * s.patch_size) (gw * s.patch_size) (bad_samples (pattern_of s) s.patch_size l)))))))
+    unless (allowed s) (Err F.Refusal.Setting)
+    (unless (channels_allowed (value_of s)) (Err F.Refusal.Channel)
+    (unless (grid_allowed s gh && grid_allowed s gw) (Err F.Refusal.Grid)
+    (unless (eqb (length l) (gh * gw * patch_floats s.patch_size)) (Err F.Refusal.PatchesLength)
+    (unless (leb (gh * s.patch_size * (gw * s.patch_size) * 3) room) (Err F.Refusal.Output)
+    (unless (leb (bad_samples (pattern_of s) s.patch_size l) (space / 3)) (Err F.Refusal.List)
+    (Ok (record { height = gh * s.patch_size; width = gw * s.patch_size; bad = bad_samples (pattern_of s) s.patch_size l })))))))
 
 -- output and list after the call, from what they were
-abbrev pub left_of : D.Salvaged → List ℕ → List ℕ → List ℕ
-left_of (D.Salvaged.Picture h w n) ys old = over ys old
-left_of (D.Salvaged.Refused r) ys old = old
+abbrev pub left_of : Result Salvaged F.Refusal → List ℕ → List ℕ → List ℕ
+left_of (Ok p) ys old = over ys old
+left_of (Err r) ys old = old
 
 abbrev pub saved_out : PictureSettings → List ℕ → ℕ → ℕ → ℕ → List ℕ → List ℕ
 saved_out s l gh gw space old = left_of (salvaged s l gh gw (length old) space) (saved_from (pattern_of s) s.patch_size l gh gw) old
@@ -67,18 +67,18 @@ list_out s l gh gw room old = left_of (salvaged s l gh gw room (length old)) (li
 
 -- ---- the paper's number and sizes of an answer: 0 for every size of a refusal
 
-abbrev pub number : D.Salvaged → ℕ
-number (D.Salvaged.Picture h w n) = 0
-number (D.Salvaged.Refused r) = R.number r
+abbrev pub number : Result Salvaged F.Refusal → ℕ
+number (Ok p) = 0
+number (Err r) = R.number r
 
-abbrev pub height : D.Salvaged → ℕ
-height (D.Salvaged.Picture h w n) = h
-height (D.Salvaged.Refused r) = 0
+abbrev pub height : Result Salvaged F.Refusal → ℕ
+height (Ok p) = p.height
+height (Err r) = 0
 
-abbrev pub width : D.Salvaged → ℕ
-width (D.Salvaged.Picture h w n) = w
-width (D.Salvaged.Refused r) = 0
+abbrev pub width : Result Salvaged F.Refusal → ℕ
+width (Ok p) = p.width
+width (Err r) = 0
 
-abbrev pub bad_of : D.Salvaged → ℕ
-bad_of (D.Salvaged.Picture h w n) = n
-bad_of (D.Salvaged.Refused r) = 0
+abbrev pub bad_of : Result Salvaged F.Refusal → ℕ
+bad_of (Ok p) = p.bad
+bad_of (Err r) = 0

@@ -1,6 +1,6 @@
 -- What an accepted salvage says of the samples that it was handed, for every allowed choice of settings, means and deviations.
 -- Three statements; proofs/Saved.antt proves them. Assumes nothing.
-use Rattle.std.specs.Prelude.{◌≡◌, true, false, List, ℕ, ◌+◌, ◌*◌, ◌/◌, ◌%◌, ◌<◌, length, get_or, Float}
+use Rattle.std.specs.Prelude.{◌≡◌, true, false, List, ℕ, ◌+◌, ◌*◌, ◌/◌, ◌%◌, ◌<◌, length, get_or, Float, Ok, Err}
 use Rattle.std.specs.Float.{binary32}
 use Rattle.std.specs.Float.Ieee.{of_bits}
 use Rattle.buffers.specs.Rows.{tab, count}
@@ -10,9 +10,7 @@ use Rattle.picture_limits.specs.declared.PictureSettings.{PictureSettings}
 use Rattle.picture_limits.specs.declared.Refusal.{Refusal}
 use Rattle.picture_limits.specs.Places.{patch_floats, sample_place}
 use Rattle.picture_samples.specs.Samples.{pattern_of}
-use Rattle.picture_restore.specs.declared.Restored.{Restored}
 use Rattle.picture_restore.specs.Restore.{restored, bytes_of}
-use Rattle.picture_salvage.specs.declared.Salvaged.{Salvaged}
 use Rattle.picture_salvage.specs.Salvage.{bits_of, bad, entry_of, listed, saved_from, salvaged}
 
 -- ---- 1. None is bad exactly when restore accepts the same samples, and then the bytes agree
@@ -23,13 +21,13 @@ floats_of l = tab (length l) (λ i. of_bits binary32 (bits_of l i))
 
 -- n were bad: restore has the same answer where n is 0, and refuses with 8 where it is not
 pub record Agreed (s : PictureSettings) (l : List ℕ) (gh gw room h w n : ℕ) : Type 0 where
-  pub accepts : n ≡ 0 → restored s (floats_of l) gh gw room ≡ Restored.Picture h w
+  pub accepts : n ≡ 0 → restored s (floats_of l) gh gw room ≡ Ok (record { height = h; width = w })
   pub bytes : n ≡ 0 → saved_from (pattern_of s) s.patch_size l gh gw ≡ bytes_of s (floats_of l) gh gw
-  pub refuses : 0 < n → restored s (floats_of l) gh gw room ≡ Restored.Refused Refusal.Sample
+  pub refuses : 0 < n → restored s (floats_of l) gh gw room ≡ Err Refusal.Sample
 
 abbrev pub Agree : Type 0
 Agree = (s : PictureSettings) (l : List ℕ) (gh gw room space h w n : ℕ) → Words l
-    → salvaged s l gh gw room space ≡ Salvaged.Picture h w n
+    → salvaged s l gh gw room space ≡ Ok (record { height = h; width = w; bad = n })
     → Agreed s l gh gw room h w n
 
 -- ---- 2. A sample that is not bad comes back by restore's formula, and a bad one as byte 0
@@ -42,7 +40,7 @@ pub record Came (s : PictureSettings) (l : List ℕ) (i c v : ℕ) : Type 0 wher
 
 abbrev pub Back : Type 0
 Back = (s : PictureSettings) (l : List ℕ) (gh gw room space h w n : ℕ)
-    → salvaged s l gh gw room space ≡ Salvaged.Picture h w n
+    → salvaged s l gh gw room space ≡ Ok (record { height = h; width = w; bad = n })
     → (y x c : ℕ) → y < h → x < w → c < 3
     → Came s l (sample_place s.patch_size gw y x c) c (get_or (saved_from (pattern_of s) s.patch_size l gh gw) ((y * w + x) * 3 + c) 0)
 
@@ -70,5 +68,5 @@ pub record Listed (s : PictureSettings) (l : List ℕ) (n : ℕ) : Type 0 where
 
 abbrev pub List-says : Type 0
 List-says = (s : PictureSettings) (l : List ℕ) (gh gw room space h w n : ℕ)
-    → salvaged s l gh gw room space ≡ Salvaged.Picture h w n
+    → salvaged s l gh gw room space ≡ Ok (record { height = h; width = w; bad = n })
     → Listed s l n

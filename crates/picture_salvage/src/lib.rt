@@ -1,7 +1,7 @@
 // Patterns of damaged patches back to the picture: a sample that has no byte becomes byte 0, and is listed.
 #![tactic(auto)]
 
-ghost use Rattle.std.specs.Prelude.{◌≡◌, true, [], ◌∷◌, ◌+◌, ◌*◌, ◌/◌, ◌%◌, ◌≤◌, ◌<◌, length};
+ghost use Rattle.std.specs.Prelude.{◌≡◌, true, [], ◌∷◌, ◌+◌, ◌*◌, ◌/◌, ◌%◌, ◌≤◌, ◌<◌, length, Ok};
 ghost use Rattle.buffers.specs.Rows.{count};
 ghost use Rattle.buffers.specs.Region.{put};
 ghost use Rattle.picture_limits.specs.Shape.{shaped};
@@ -10,20 +10,17 @@ ghost use Rattle.picture_salvage.specs.Salvage.{saved, salvaged, saved_out, list
 ghost use Rattle.picture_spot.specs.inner.Spot.{guessed_by, spotted, Spots};
 ghost use Rattle.picture_salvage.specs.inner.Loops.{found_run, none_at, bad_run, entries_by, all_entries, saved_pixel, saved_pixels, saved_run, saved_line, saved_rows};
 
-use picture_limits::settings::{settings_allowed, shape};
-use picture_limits::{PictureSettings, Refusal, Shape};
-use picture_samples::allowed::channels_allowed;
-use picture_samples::samples;
+use picture_limits::settings::shape;
+use picture_limits::{PictureSettings, Refusal};
+use picture_samples::allowed::allowed_table;
 use picture_spot::{Way, byte_of, guess_of, way_of};
 
-#[derive(Drop)]
-pub enum Salvaged {
-    Picture {
-        height: usize,
-        width: usize,
-        bad: usize,
-    },
-    Refused(Refusal),
+// The sides of a salvaged picture, and how many samples had no byte.
+#[derive(Clone, Copy, Debug, PartialEq, Eq)]
+pub struct Salvaged {
+    pub height: usize,
+    pub width: usize,
+    pub bad: usize,
 }
 
 // Writes over the front of `found`, of each of the n samples from `at` on, the byte in channel c, and 256 where there is
@@ -266,8 +263,8 @@ fn salvage_shaped(
     out: &mut [u8],
     list: &mut [u32],
     t: &[u32; 768],
-) -> Salvaged
-    requires bits_value { shaped s grid_h grid_w (length bits.now) ≡ Shape.Shaped tokens }
+) -> Result<Salvaged, Refusal>
+    requires bits_value { shaped s grid_h grid_w (length bits.now) ≡ Ok tokens }
     requires t_value { (t.now ≡ sample_table s.mean s.deviation) × (channels_allowed (value (entry t.now)) ≡ true) }
     ensures answer { result ≡ salvaged s bits.now grid_h grid_w (length out.old) (length list.old) }
     ensures output { out.new ≡ saved_out s bits.now grid_h grid_w (length list.old) out.old }
@@ -275,22 +272,22 @@ fn salvage_shaped(
 {
     let p = s.patch_size;
     if out.len() < grid_h * p * (grid_w * p) * 3 {
-        return Salvaged::Refused(Refusal::Output);
+        return Err(Refusal::Output);
     }
     let mean = s.mean;
     let deviation = s.deviation;
     let w = way_of(t, mean, deviation);
     let bad = count_runs(bits, p, 3 * tokens, t, w);
     if list.len() / 3 < bad {
-        return Salvaged::Refused(Refusal::List);
+        return Err(Refusal::List);
     }
     list_bad(bits, p, 3 * tokens, bad, list, t, w);
     salvage_rows(bits, p, grid_h, grid_w, out, t, w);
-    Salvaged::Picture {
+    Ok(Salvaged {
         height: grid_h * p,
         width: grid_w * p,
         bad,
-    }
+    })
 }
 
 // The resized bytes of damaged patches, given as patterns, over the front of `out`, with byte 0 for each sample that has none;
@@ -302,25 +299,12 @@ pub fn salvage(
     grid_w: usize,
     out: &mut [u8],
     list: &mut [u32],
-) -> Salvaged
+) -> Result<Salvaged, Refusal>
     ensures answer { result ≡ salvaged s bits.now grid_h grid_w (length out.old) (length list.old) }
     ensures output { out.new ≡ saved_out s bits.now grid_h grid_w (length list.old) out.old }
     ensures entries { list.new ≡ list_out s bits.now grid_h grid_w (length out.old) list.old }
 {
-    if !settings_allowed(s) {
-        return Salvaged::Refused(Refusal::Setting);
-    }
-    let mean = s.mean;
-    let deviation = s.deviation;
-    let t = samples(mean, deviation);
-    if !channels_allowed(&t) {
-        return Salvaged::Refused(Refusal::Channel);
-    }
-    let found = shape(s, grid_h, grid_w, bits.len());
-    match found {
-        Shape::Unshaped(r) => Salvaged::Refused(r),
-        Shape::Shaped { tokens } => {
-            salvage_shaped(s, bits, grid_h, grid_w, tokens, out, list, &t)
-        }
-    }
+    let t = allowed_table(s)?;
+    let tokens = shape(s, grid_h, grid_w, bits.len())?;
+    salvage_shaped(s, bits, grid_h, grid_w, tokens, out, list, &t)
 }

@@ -1,63 +1,44 @@
 -- `picture_salvage::salvage` meets its contract: settings, channels and shape are refused in this order, and what they
 -- accept is salvaged. Assumes nothing.
-use mathlib.Core.Path.{◌≡◌, refl, sym, ◌∙◌}
-use mathlib.Core.Bool.{true}
-use borrow.Author.Tests.{not-true, not-false}
-use lib.ListN.{length}
-use Rattle.picture_limits.specs.declared.Refusal.TheVariants.{Setting, Channel}
-use Rattle.picture_limits.specs.declared.Shape.TheVariants.{Unshaped}
-use Rattle.picture_salvage.specs.declared.Salvaged.TheVariants.{Refused}
-use Rattle.picture_limits.specs.Settings.{allowed}
+use Rattle.std.proofs.Common.{◌≡◌, refl, sym, ap, ◌∙◌}
+use Rattle.std.specs.Prelude.{Ok, Err, length}
+use Rattle.std.proofs.lemmas.Result.{err_from_is_err_and}
 use Rattle.picture_limits.specs.Shape.{shaped}
-use Rattle.picture_samples.specs.Samples.{channels_allowed, value_of}
-use Rattle.picture_samples.proofs.Channels.{allowed_of}
+use Rattle.picture_samples.proofs.Channels.{Tabled, table-says, table-passes, table-refuses}
 use Rattle.picture_salvage.specs.Salvage.{salvaged}
-use Rattle.picture_salvage.proofs.Salvages.{agrees}
+use Rattle.picture_salvage.proofs.Salvages.{agrees, decided_by}
 use Rattle.picture_salvage.proofs.salvage.Goals as goal
 
-pub returns-then-not-settings_allowed : goal.returns-then-not-settings_allowed
-returns-then-not-settings_allowed c =
-    let b = sym c.settings_allowed.ensures ∙ not-true _ c.if-not-settings_allowed.true-raw in
-    let e : salvaged c.args.s c.args.bits.now c.args.grid_h c.args.grid_w (length c.args.out.now) (length c.args.list.now) ≡ Refused Setting = agrees c.args.s c.args.bits.now c.args.grid_h c.args.grid_w (length c.args.out.now) (length c.args.list.now) ∙ rw b refl in record {
-      answer = sym e;
-      output = rw e;
-      entries = rw e;
+pub returns-in_err-t : goal.returns-in_err-t
+returns-in_err-t c =
+    let l = c.args.bits.now in
+    let room = length c.args.out.now in
+    let space = length c.args.list.now in
+    let p = err_from_is_err_and c.from_residual.result c.from_residual.ensures.1 in
+    let r : salvaged c.args.s l c.args.grid_h c.args.grid_w room space ≡ Err c.in_err-t.field-0.0 = agrees c.args.s l c.args.grid_h c.args.grid_w room space ∙ table-refuses c.args.s _ _ c.in_err-t.ensures in record {
+      answer = p.1 ∙ ap Err p.2 ∙ sym r;
+      output = rw r refl;
+      entries = rw r refl;
     }
 
-pub returns-then-not-channels_allowed : goal.returns-then-not-channels_allowed
-returns-then-not-channels_allowed c =
-    let settings : allowed c.args.s ≡ true = sym c.settings_allowed.ensures ∙ not-false _ c.if-not-settings_allowed.false-raw in
-    let channels : c.channels_allowed.result ≡ channels_allowed (value_of c.args.s) = c.channels_allowed.ensures ∙ allowed_of c.args.s.mean c.args.s.deviation _ c.samples-t.ensures in
-    let b = settings in
-    let d = sym (channels) ∙ not-true _ c.if-not-channels_allowed.true-raw in
-    let e : salvaged c.args.s c.args.bits.now c.args.grid_h c.args.grid_w (length c.args.out.now) (length c.args.list.now) ≡ Refused Channel = agrees c.args.s c.args.bits.now c.args.grid_h c.args.grid_w (length c.args.out.now) (length c.args.list.now) ∙ rw (b, d) refl in record {
-      answer = sym e;
-      output = rw e;
-      entries = rw e;
+pub returns-in_err-tokens : goal.returns-in_err-tokens
+returns-in_err-tokens c =
+    let l = c.args.bits.now in
+    let room = length c.args.out.now in
+    let space = length c.args.list.now in
+    let p = err_from_is_err_and c.from_residual-in_err-tokens.result c.from_residual-in_err-tokens.ensures.1 in
+    let s : shaped c.args.s c.args.grid_h c.args.grid_w (length l) ≡ Err c.in_err-tokens.field-0.0 = sym c.in_err-tokens.ensures in
+    let r : salvaged c.args.s l c.args.grid_h c.args.grid_w room space ≡ Err c.in_err-tokens.field-0.0 =
+    agrees c.args.s l c.args.grid_h c.args.grid_w room space ∙ table-passes c.args.s _ _ c.in_ok-t.ensures ∙ ap (decided_by c.args.s l c.args.grid_h c.args.grid_w room space) s in record {
+      answer = p.1 ∙ ap Err p.2 ∙ sym r;
+      output = rw r refl;
+      entries = rw r refl;
     }
 
 pub salvage_shaped-requires : goal.salvage_shaped-requires
-salvage_shaped-requires c = record {
-  bits_value = sym c.shape-found.ensures ∙ c.in-Shaped.is;
-  t_value = (c.samples-t.ensures, sym c.channels_allowed.ensures ∙ not-false _ c.if-not-channels_allowed.false-raw);
-}
-
-pub returns-in-Unshaped : goal.returns-in-Unshaped
-returns-in-Unshaped c =
-    let settings : allowed c.args.s ≡ true = sym c.settings_allowed.ensures ∙ not-false _ c.if-not-settings_allowed.false-raw in
-    let channels : c.channels_allowed.result ≡ channels_allowed (value_of c.args.s) = c.channels_allowed.ensures ∙ allowed_of c.args.s.mean c.args.s.deviation _ c.samples-t.ensures in
-    let b = settings in
-    let d = sym (channels) ∙ not-false _ c.if-not-channels_allowed.false-raw in
-    let r : shaped c.args.s c.args.grid_h c.args.grid_w (length c.args.bits.now) ≡ Unshaped c.in-Unshaped.r = sym c.shape-found.ensures ∙ c.in-Unshaped.is in
-    let e : salvaged c.args.s c.args.bits.now c.args.grid_h c.args.grid_w (length c.args.out.now) (length c.args.list.now) ≡ Refused c.in-Unshaped.r = agrees c.args.s c.args.bits.now c.args.grid_h c.args.grid_w (length c.args.out.now) (length c.args.list.now) ∙ rw (b, d, r) refl in record {
-      answer = sym e;
-      output = rw e;
-      entries = rw e;
+salvage_shaped-requires c =
+    let k : Tabled c.args.s c.in_ok-t.t = table-says c.args.s _ c.in_ok-t.ensures in
+    record {
+      bits_value = sym c.in_ok-tokens.ensures;
+      t_value = (k.table, k.channels);
     }
-
-pub returns-in-Shaped : goal.returns-in-Shaped
-returns-in-Shaped c = record {
-  answer = c.salvage_shaped.ensures.answer;
-  output = c.salvage_shaped.ensures.output;
-  entries = c.salvage_shaped.ensures.entries;
-}
