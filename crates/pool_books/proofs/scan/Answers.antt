@@ -56,11 +56,6 @@ overflow_add-end c = omega arith
 pub overflow_add-floats : goal.overflow_add-floats
 overflow_add-floats c = omega arith
 
-pub overflow_add-i : goal.overflow_add-i
-overflow_add-i c =
-    let known : (c.args.p.len ≡ c.args.n) × (c.args.p.count ≤ 64) = early c.args.p.len c.args.n c.args.p.count c.if-p-n.false in
-    omega (arith, known.1)
-
 pub loop-i-preserved : goal.loop-i-preserved
 loop-i-preserved c =
     let known : (c.args.p.len ≡ c.args.n) × (c.args.p.count ≤ 64) = early c.args.p.len c.args.n c.args.p.count c.if-p-n.false in
@@ -94,11 +89,6 @@ returns-then-h-key c =
     let h = get_or c.args.p.held j (held 0 0 0) in
     let s = sought-here c.args.p c.args.key j (held 0 0 0) (room) c.loop-j-test.true c.loop-j.invariant c.if-h-key.true in
     c.found_at.ensures ∙ found c.args.p c.args.n c.args.key c.loop-i.floats c.loop-i.end c.loop-i.i j (Found.At h.start h.len) known room c.loop-i-test.false c.loop-i.invariant c.if-n-end.false s.0 s.1
-
-pub overflow_add-j : goal.overflow_add-j
-overflow_add-j c =
-    let known : (c.args.p.len ≡ c.args.n) × (c.args.p.count ≤ 64) = early c.args.p.len c.args.n c.args.p.count c.if-p-n.false in
-    omega (arith, known.1)
 
 pub loop-j-preserved : goal.loop-j-preserved
 loop-j-preserved c =

@@ -126,11 +126,6 @@ overflow_add-to c =
     let t = c.loop-i-test.true in
     omega (arith, low c.args.p c.loop-i.q c.args.s.now c.loop-i.s c.loop-i.to c.loop-i.i (held 0 0 0) (room) t c.loop-i.invariant, high c.args.p c.loop-i.q c.args.s.now c.loop-i.s c.loop-i.to c.loop-i.i (held 0 0 0) (room) t c.loop-i.invariant, c.well_formed.1.0.0)
 
-pub overflow_add-i : goal.overflow_add-i
-overflow_add-i c =
-    let few : c.args.p.count ≤ 64 = (made-says c.args.p (length c.args.s.now) c.requires).few in
-    omega (arith, few, c.loop-i-test.true)
-
 pub loop-i-preserved : goal.loop-i-preserved
 loop-i-preserved c =
     let few : c.args.p.count ≤ 64 = (made-says c.args.p (length c.args.s.now) c.requires).few in
