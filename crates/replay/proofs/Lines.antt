@@ -2,14 +2,13 @@
 use Rattle.std.proofs.Common.{◌≡◌, ℕ, zero, suc, Bool, true, false, List, [], ◌∷◌, length, sym, refl, ap, ◌∙◌, append-nil, arith}
 use lib.Seq.{drop-length}
 use Rattle.buffers.specs.Region.{over}
-use Rattle.replay.specs.declared.decimal.Number.{Number}
-use Rattle.replay.specs.declared.decimal.Number.TheVariants.{Value, Bad}
+use Rattle.std.specs.Prelude.{Option, Some, None}
 use Rattle.replay.specs.Line.{Read, stop_of, field_of, join, fields, read_of}
 
-length-join : (x : Number) (r : Read) (n : ℕ) → (r.whole ≡ true → length r.list ≡ n) → (join x r).whole ≡ true → length (join x r).list ≡ suc n
+length-join : (x : Option ℕ) (r : Read) (n : ℕ) → (r.whole ≡ true → length r.list ≡ n) → (join x r).whole ≡ true → length (join x r).list ≡ suc n
 unfolding join
-length-join Bad r n f e = let z : ◌≡◌ {A = ℕ} 0 1 = cc in absurd (omega arith)
-length-join (Value k) r n f e = ap suc (f e)
+length-join None r n f e = let z : ◌≡◌ {A = ℕ} 0 1 = cc in absurd (omega arith)
+length-join (Some k) r n f e = ap suc (f e)
 
 length_fields : (n : ℕ) (ps : List (List ℕ)) → (fields n ps).whole ≡ true → length (fields n ps).list ≡ n
 unfolding fields

@@ -1,7 +1,5 @@
 -- The numbers of a line, with a tab between two. Assumes nothing.
-use Rattle.std.specs.Prelude.{ℕ, zero, suc, ◌-◌, Bool, true, false, cond, List, [], ◌∷◌, length, take, ◌==◌, nat_lt, slice_index}
-use Rattle.replay.specs.declared.decimal.Number.{Number}
-use Rattle.replay.specs.declared.decimal.Number.TheVariants.{Value, Bad}
+use Rattle.std.specs.Prelude.{ℕ, zero, suc, ◌-◌, Bool, true, false, cond, Option, Some, None, List, [], ◌∷◌, length, take, ◌==◌, nat_lt, slice_index}
 use Rattle.replay.specs.Decimal.{number_of}
 use Rattle.replay.specs.Pieces.{pieces}
 
@@ -10,11 +8,11 @@ unfoldable pub stop_of : ℕ → ℕ
 stop_of n = cond (nat_lt 0 n) 9 10
 
 -- a decimal and the byte after it
-unfoldable pub field_of : ℕ → List ℕ → Number
+unfoldable pub field_of : ℕ → List ℕ → Option ℕ
 field_of stop s =
-    cond (length s == 0) Bad
+    cond (length s == 0) None
     (cond (slice_index s (length s - 1) == stop) (number_of (take (length s - 1) s))
-    Bad)
+    None)
 
 -- the numbers that a line starts with, and whether it has as many as are asked for and nothing else
 pub record Read : Type 0 where
@@ -25,9 +23,9 @@ abbrev pub none : Read
 none = record { whole = false; list = [] }
 
 -- one more in front
-unfoldable pub join : Number → Read → Read
-join Bad r = none
-join (Value n) r = record { whole = r.whole; list = n ∷ r.list }
+unfoldable pub join : Option ℕ → Read → Read
+join None r = none
+join (Some n) r = record { whole = r.whole; list = n ∷ r.list }
 
 -- n fields and no more
 unfoldable pub fields : ℕ → List (List ℕ) → Read

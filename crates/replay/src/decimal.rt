@@ -1,46 +1,27 @@
-// Numbers in decimal digits, below 2^64.
+// Numbers in decimal digits, below 2^64. What is no such number gives `None`.
 ghost use Rattle.std.specs.Prelude.{◌≡◌};
 ghost use Rattle.replay.specs.Decimal.{push, number_of};
 
-#[derive(Drop)]
-pub(crate) enum Number {
-    Value(usize),
-    // no digit, or one of the bytes is none, or the number is out of range
-    Bad,
-}
-
 // The number whose last digit is b, and whose others are those of n.
-fn pushed(n: usize, b: u8) -> Number
+fn pushed(n: usize, b: u8) -> Option<usize>
     ensures { result ≡ push n b }
 {
-    if b < b'0' {
-        return Number::Bad;
+    let d = b.checked_sub(b'0')?;
+    if 9 < d {
+        return None;
     }
-    if b'9' < b {
-        return Number::Bad;
-    }
-    let d = (b - b'0') as usize;
-    if 1844674407370955161 < n {
-        return Number::Bad;
-    }
-    if 18446744073709551615 - n * 10 < d {
-        return Number::Bad;
-    }
-    Number::Value(n * 10 + d)
+    n.checked_mul(10)?.checked_add(usize::from(d))
 }
 
-pub(crate) fn read_decimal(s: &[u8]) -> Number
+pub(crate) fn read_decimal(s: &[u8]) -> Option<usize>
     ensures { result ≡ number_of s.now }
 {
-    if s.len() == 0 {
-        return Number::Bad;
+    if s.is_empty() {
+        return None;
     }
     let mut n: usize = 0;
-    for i in 0..s.len() {
-        let Number::Value(m) = pushed(n, s[i]) else {
-            return Number::Bad;
-        };
-        n = m;
+    for b in s {
+        n = pushed(n, *b)?;
     }
-    Number::Value(n)
+    Some(n)
 }

@@ -4,35 +4,30 @@ ghost use Rattle.buffers.specs.Region.{over};
 ghost use Rattle.replay.specs.Pieces.{piece_len};
 ghost use Rattle.replay.specs.Line.{stop_of, field_of, read_of};
 
-use crate::decimal::{Number, read_decimal};
+use crate::decimal::read_decimal;
 
 // How many bytes the first piece has, the byte that ends it among them.
 pub fn piece_len(text: &[u8], stop: u8) -> usize
     ensures first { result ≡ piece_len stop text.now }
     ensures within { result ≤ length text.now }
 {
-    let mut i = 0;
-    while i < text.len() {
-        if text[i] == stop {
+    for (i, b) in text.iter().enumerate() {
+        if *b == stop {
             return i + 1;
         }
-        i += 1;
     }
-    i
+    text.len()
 }
 
 // A decimal and the byte after it.
-fn field(s: &[u8], stop: u8) -> Number
+fn field(s: &[u8], stop: u8) -> Option<usize>
     ensures { result ≡ field_of stop s.now }
 {
-    if s.len() == 0 {
-        return Number::Bad;
+    let (last, digits) = s.split_last()?;
+    if *last != stop {
+        return None;
     }
-    let n = s.len() - 1;
-    if s[n] != stop {
-        return Number::Bad;
-    }
-    read_decimal(&s[..n])
+    read_decimal(digits)
 }
 
 // The byte after a number that n others follow.
@@ -54,7 +49,7 @@ pub fn read_line(line: &[u8], to: &mut [usize]) -> bool
             return false;
         }
         let end = at + piece_len(&line[at..], b'\t');
-        let Number::Value(n) = field(&line[at..end], stop_of(to.len() - 1 - k)) else {
+        let Some(n) = field(&line[at..end], stop_of(to.len() - 1 - k)) else {
             return false;
         };
         to[k] = n;

@@ -1,31 +1,41 @@
--- `decimal::pushed` meets its contract: the tests on the way are those of `push`, as 2⁶⁴ is 10 · 1844674407370955161 and 6.
--- Assumes nothing.
-use Rattle.std.proofs.Common.{◌+◌, ◌-◌, ◌*◌, ◌<◌, ◌≤◌, arith, le-ltb, lt-ltb}
+-- `decimal::pushed` meets its contract: the tests on the way are those of `push`. Assumes nothing.
+use Rattle.std.proofs.Common.{◌≡◌, ℕ, ◌+◌, ◌-◌, ◌*◌, ◌<◌, ◌≤◌, cond, nat_lt, Option, Some, None, sym, ap, ◌∙◌, arith, le-ltb, lt-ltb}
+use Rattle.std.specs.Option.{SomeIff}
 use Rattle.replay.specs.Decimal.{push}
 use Rattle.replay.proofs.decimal.pushed.Goals as goal
 
-pub returns-then-b-lt48 : goal.returns-then-b-lt48
-unfolding push
-returns-then-b-lt48 c = simp (lt-ltb _ _ c.if-b-lt48.true)
+-- a sum that is held to its range
+held : (r : Option ℕ) (x y : ℕ) → SomeIff r (x < 18446744073709551616) x → x ≡ y → r ≡ cond (nat_lt y 18446744073709551616) (Some y) None
+held None x y h e = let l : 18446744073709551616 ≤ y = omega (arith, h) in simp (le-ltb _ _ l)
+held (Some z) x y h e = let l : y < 18446744073709551616 = omega (arith, h.0) in simp (lt-ltb _ _ l) (ap Some (h.1 ∙ e))
 
-pub returns-then-b-gt57 : goal.returns-then-b-gt57
+pub returns-in_err-d : goal.returns-in_err-d
 unfolding push
-returns-then-b-gt57 c = simp (le-ltb _ _ c.if-b-lt48.false, lt-ltb _ _ c.if-b-gt57.true)
+returns-in_err-d c =
+    let h : c.args.b < 48 = omega (arith, c.in_err-d.ensures) in
+    simp (lt-ltb _ _ h) c.from_residual.ensures
 
-pub returns-then-n-gt1844674407370955161 : goal.returns-then-n-gt1844674407370955161
+pub returns-then-d-gt9 : goal.returns-then-d-gt9
 unfolding push
-returns-then-n-gt1844674407370955161 c =
-    let h : 18446744073709551616 ≤ c.args.n * 10 + (c.args.b - 48) = omega arith in
-    simp (le-ltb _ _ c.if-b-lt48.false, le-ltb _ _ c.if-b-gt57.false, le-ltb _ _ h)
+returns-then-d-gt9 c =
+    let e = c.in_ok-d.ensures in
+    let h : 48 ≤ c.args.b = e.0 in
+    let k : 57 < c.args.b = omega (arith, e.1, c.if-d-gt9.true) in
+    simp (le-ltb _ _ h, lt-ltb _ _ k)
 
-pub returns-then-n-d : goal.returns-then-n-d
+pub returns-in_err-checked_mul : goal.returns-in_err-checked_mul
 unfolding push
-returns-then-n-d c =
-    let h : 18446744073709551616 ≤ c.args.n * 10 + (c.args.b - 48) = omega arith in
-    simp (le-ltb _ _ c.if-b-lt48.false, le-ltb _ _ c.if-b-gt57.false, le-ltb _ _ h)
+returns-in_err-checked_mul c =
+    let e = c.in_ok-d.ensures in
+    let h : 48 ≤ c.args.b = e.0 in
+    let k : c.args.b ≤ 57 = omega (arith, e.1, c.if-d-gt9.false) in
+    let l : 18446744073709551616 ≤ c.args.n * 10 + (c.args.b - 48) = omega (arith, c.in_err-checked_mul.ensures) in
+    simp (le-ltb _ _ h, le-ltb _ _ k, le-ltb _ _ l) c.from_residual-in_err-checked_mul.ensures
 
 pub returns : goal.returns
 unfolding push
 returns c =
-    let h : c.args.n * 10 + (c.args.b - 48) < 18446744073709551616 = omega arith in
-    simp (le-ltb _ _ c.if-b-lt48.false, le-ltb _ _ c.if-b-gt57.false, lt-ltb _ _ h)
+    let e = c.in_ok-d.ensures in
+    let h : 48 ≤ c.args.b = e.0 in
+    let k : c.args.b ≤ 57 = omega (arith, e.1, c.if-d-gt9.false) in
+    simp (le-ltb _ _ h, le-ltb _ _ k) (held _ _ _ c.checked_add.ensures (omega (arith, e.1, c.in_ok-checked_mul.ensures, c.from.ensures)))

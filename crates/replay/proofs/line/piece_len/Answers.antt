@@ -17,10 +17,10 @@ module _ (stop : ℕ) (s : List ℕ) (i : ℕ) where
   unfolding piece_len
   over h = rw (drop_of_length-le s {i = i} h)
 
-pub returns-then-text-i : goal.returns-then-text-i
-returns-then-text-i c =
+pub returns-then-b-stop : goal.returns-then-b-stop
+returns-then-b-stop c =
     let h : c.loop-i.i < length c.args.text.now = omega arith in
-    let e = ends c.args.stop c.args.text.now c.loop-i.i h c.if-text-i.true in record {
+    let e = ends c.args.stop c.args.text.now c.loop-i.i h c.if-b-stop.true in record {
       first = omega arith;
       within = omega arith;
     }
@@ -28,8 +28,8 @@ returns-then-text-i c =
 pub loop-i-preserved : goal.loop-i-preserved
 loop-i-preserved c =
     let h : c.loop-i.i < length c.args.text.now = omega arith in
-    let e = goes c.args.stop c.args.text.now c.loop-i.i h c.if-text-i.false in
-    (omega arith, omega arith)
+    let e = goes c.args.stop c.args.text.now c.loop-i.i h c.if-b-stop.false in
+    omega arith
 
 pub returns : goal.returns
 returns c =

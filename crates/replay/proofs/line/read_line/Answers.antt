@@ -3,7 +3,7 @@
 use Rattle.std.proofs.Common.{◌≡◌, ℕ, suc, ◌+◌, ◌-◌, ◌<◌, ◌≤◌, Bool, true, false, cond, eqb, leb, List, [], ◌∷◌, length, take, drop, set, sym, refl, ap, ◌∙◌, append_assoc, append-nil, add-one, arith, length-drop, length-set, take-append-drop, drop_of_length-le, length-take-le, drop-drop, take-suc-set, drop-set-lt, leb-false, leb-true}
 use native.Mathlib.Nat.{add-sub_cancel_left, sub-zero}
 use Rattle.buffers.specs.Region.{over}
-use Rattle.replay.specs.declared.decimal.Number.TheVariants.{Value}
+use Rattle.std.specs.Prelude.{Some}
 use Rattle.replay.specs.Pieces.{pieces, onto}
 use Rattle.replay.specs.Line.{Read, none, stop_of, field_of, join, fields, read_of}
 use Rattle.replay.proofs.Cuts.{next-piece}
@@ -15,7 +15,7 @@ abbrev nothing : Bool → Read
 nothing b = record { whole = b; list = [] }
 
 -- one number more, and what is behind it
-grow : (to : List ℕ) (k n : ℕ) (r : Read) → k < length to → behind (take k to) (join (Value n) r) ≡ behind (take (k + 1) (set to k n)) r
+grow : (to : List ℕ) (k n : ℕ) (r : Read) → k < length to → behind (take k to) (join (Some n) r) ≡ behind (take (k + 1) (set to k n)) r
 unfolding join
 grow to k n r h =
     rw (add-one k, take-suc-set to k n h) (ap (λ (l : List ℕ). record { whole = r.whole; list = l }) (sym (append_assoc (take k to) (n ∷ []) r.list)))
@@ -108,7 +108,7 @@ loop-k-preserved c =
     let a = c.args in
     let h : c.loop-k.k < length c.loop-k.to = omega arith in
     let e : length c.loop-k.to - 1 - c.loop-k.k ≡ length c.args.to.now - (c.loop-k.k + 1) = omega arith in
-    (omega arith, simp length-set c.loop-k.invariant.1, omega arith, left c.loop-k.to c.args.to.now c.loop-k.k _ c.loop-k.invariant.3, turned ∙ rw c.in-Value.is (grow c.loop-k.to c.loop-k.k _ _ h ∙ rw e refl))
+    (omega arith, simp length-set c.loop-k.invariant.1, omega arith, left c.loop-k.to c.args.to.now c.loop-k.k _ c.loop-k.invariant.3, turned ∙ rw c.in-Some.is (grow c.loop-k.to c.loop-k.k _ _ h ∙ rw e refl))
 
 pub returns : goal.returns
 returns c =

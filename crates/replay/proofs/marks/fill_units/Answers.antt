@@ -1,28 +1,7 @@
--- `marks::fill_units` meets its contract: x is the state after i steps, and the first i floats are written. Assumes nothing.
-use Rattle.std.proofs.Common.{◌≡◌, suc, length, ap, ◌∙◌, add-one, arith, length-set, rules}
-use Rattle.buffers.specs.Rows.{tab}
-use Rattle.buffers.specs.Region.{put}
-use Rattle.buffers.proofs.Lists.{length-tab, tab-step-0}
-use Rattle.buffers.proofs.Regions.{put_all}
-use Rattle.replay.specs.Marks.{next, seeded, stepped, unit_of, unit_at}
+-- `marks::fill_units` meets its contract. Assumes nothing.
+use Rattle.std.proofs.Common.{ℕ, ◌/◌, rules}
+use Rattle.replay.specs.Marks.{unit_of}
 use Rattle.replay.proofs.marks.fill_units.Goals as goal
 
-pub loop-i-init : goal.loop-i-init
-unfolding stepped tab put
-loop-i-init c = search rules
-
-pub loop-i-preserved : goal.loop-i-preserved
-unfolding stepped
-loop-i-preserved c =
-    let e : c.step-x.result ≡ stepped (seeded c.args.seed) (suc c.loop-i.i) = c.step-x.ensures.0 ∙ ap next c.loop-i.invariant.3 in (
-      omega arith,
-      simp length-set c.loop-i.invariant.1,
-      c.step-x.ensures.1,
-      rw (add-one c.loop-i.i) e,
-      tab-step-0 c.args.to.now c.loop-i.to c.loop-i.i (unit_at (seeded c.args.seed)) c.unit.result c.loop-i.invariant.4 (c.unit.ensures ∙ ap unit_of e),
-    )
-
 pub returns : goal.returns
-returns c =
-    let e : c.loop-i.i ≡ length c.args.to.now = omega arith in
-    c.loop-i.invariant.4 ∙ rw e (put_all c.args.to.now (tab (length c.args.to.now) (unit_at (seeded c.args.seed))) (length-tab _ _))
+returns c = c.fill.ensures (λ (x : ℕ). unit_of x) (λ x r l p. search rules)
