@@ -1,7 +1,7 @@
 -- Laws of hex digits that are read. Assumes nothing.
 use mathlib.Core.Path.{◌≡◌, refl, sym, ap, ◌∙◌}
 use mathlib.Core.List.{List, [], ◌∷◌, ◌++◌}
-use mathlib.Core.Option.{Option, none, some}
+use Rattle.std.specs.Prelude.{Option, None, Some}
 use Prim.Native.Nat.{ℕ, suc, ◌+◌, ◌-◌, ◌*◌, ◌<◌}
 use native.Mathlib.Numerals.{add-one}
 use native.Mathlib.Omega.{arith}
@@ -21,17 +21,17 @@ pair-next s i h =
     rw (e, f) refl
 
 -- an odd number of digits
-pub hex-odd : (k : ℕ) (s : List ℕ) → length s ≡ 2 * k + 1 → hex_pairs s ≡ none
+pub hex-odd : (k : ℕ) (s : List ℕ) → length s ≡ 2 * k + 1 → hex_pairs s ≡ None
 unfolding hex_pairs
 hex-odd k [] e = absurd (omega arith)
 hex-odd k (a ∷ []) e = refl
 hex-odd k (a ∷ (b ∷ bs)) e = go (pair a b) (hex-odd (k - 1) bs (omega arith))
   where
-    go : (o : Option ℕ) → hex_pairs bs ≡ none → (o >>= λ x. joined (x ∷ []) (hex_pairs bs)) ≡ none
-    go none f = refl
-    go (some x) f = rw f refl
+    go : (o : Option ℕ) → hex_pairs bs ≡ None → (o >>= λ x. joined (x ∷ []) (hex_pairs bs)) ≡ None
+    go None f = refl
+    go (Some x) f = rw f refl
 
-pub hex-empty : (s : List ℕ) → length s ≡ 0 → hex_bytes s ≡ none
+pub hex-empty : (s : List ℕ) → length s ≡ 0 → hex_bytes s ≡ None
 hex-empty [] e = refl
 hex-empty (b ∷ bs) e = absurd (omega arith)
 

@@ -2,7 +2,7 @@
 use mathlib.Core.Path.{◌≡◌, refl, sym, ap}
 use mathlib.Core.Bool.{Bool, true, false, cond, ◌&&◌}
 use mathlib.Core.List.{List, [], ◌∷◌, ◌++◌, append_assoc}
-use mathlib.Core.Option.{Option, none, some}
+use Rattle.std.specs.Prelude.{Option, None, Some}
 use Prim.Native.Nat.{ℕ, zero, suc, ◌+◌, ◌≤◌, ◌<◌}
 use native.Mathlib.Numerals.{add-one}
 use native.Mathlib.Omega.{arith}
@@ -74,9 +74,9 @@ same-longer (x ∷ xs) (y ∷ ys) n = last (eqb x y) (same-longer xs ys (λ e. n
 
 -- ---- one list behind another
 pub joined-nil : (o : Option (List ℕ)) → joined [] o ≡ o
-joined-nil none = refl
-joined-nil (some l) = refl
+joined-nil None = refl
+joined-nil (Some l) = refl
 
 pub joined-joined : (a b : List ℕ) (o : Option (List ℕ)) → joined a (joined b o) ≡ joined (a ++ b) o
-joined-joined a b none = refl
-joined-joined a b (some l) = ap {B = Option (List ℕ)} some (sym (append_assoc a b l))
+joined-joined a b None = refl
+joined-joined a b (Some l) = ap {B = Option (List ℕ)} Some (sym (append_assoc a b l))

@@ -1,5 +1,4 @@
--- Any two results that satisfy the contract of a public function are equal. A reader's contract speaks of what its answer
--- stands for, and no two answers stand for the same. Assumes nothing.
+-- Any two results that satisfy the contract of a public function are equal. Assumes nothing.
 use mathlib.Core.Path.{◌≡◌, refl, sym, ap, ◌∙◌}
 use mathlib.Core.Bool.{Bool, true, false, cond}
 use mathlib.Core.List.{List, [], ◌∷◌, ◌++◌}
@@ -9,40 +8,11 @@ use lib.Dec.{eqb}
 use borrow.Author.Tests.{eqb-true}
 use lib.ListN.{length, drop, length-drop}
 use Rattle.number_floats.proofs.Unique.{one}
-use Rattle.unpatch_form.specs.declared.decimal.Number.{Number}
-use Rattle.unpatch_form.specs.declared.decimal.Number.TheVariants as N
-use Rattle.unpatch_form.specs.declared.lines.Pair.{Pair}
-use Rattle.unpatch_form.specs.declared.lines.Pair.TheVariants as P
-use Rattle.unpatch_form.specs.declared.lines.Triple.{Triple}
-use Rattle.unpatch_form.specs.declared.lines.Triple.TheVariants as R
+use Rattle.std.specs.Prelude.{Option, Some, None}
 use Rattle.unpatch_form.specs.Words.{onto, pieces, behind}
 use Rattle.unpatch_form.specs.Decimal.{limited}
 use Rattle.unpatch_form.specs.Form.{fields, read_vision, read_picture}
-use Rattle.unpatch_form.specs.inner.Steps.{until, found, value_of, fields_from, found_pair, found_triple}
-
-found-same : (r q : Number) → found r ≡ found q → r ≡ q
-found-same (N.Value n) (N.Value m) e = cc
-found-same (N.Value n) N.Bad e = absurd (let z : ◌≡◌ {A = ℕ} 0 1 = cc in omega arith)
-found-same N.Bad (N.Value m) e = absurd (let z : ◌≡◌ {A = ℕ} 0 1 = cc in omega arith)
-found-same N.Bad N.Bad e = refl
-
-pair_same : (r q : Pair) → found_pair r ≡ found_pair q → r ≡ q
-pair_same (P.Of a b) (P.Of c d) e =
-    let p : ◌≡◌ {A = ℕ × ℕ} (a, b) (c, d) = cc in let x = ap (λ (z : ℕ × ℕ). z.0) p in let y = ap (λ (z : ℕ × ℕ). z.1) p in cc (x, y)
-pair_same (P.Of a b) P.Bad e = absurd (let z : ◌≡◌ {A = ℕ} 0 1 = cc in omega arith)
-pair_same P.Bad (P.Of c d) e = absurd (let z : ◌≡◌ {A = ℕ} 0 1 = cc in omega arith)
-pair_same P.Bad P.Bad e = refl
-
-triple-same : (r q : Triple) → found_triple r ≡ found_triple q → r ≡ q
-triple-same (R.Of a b c) (R.Of d e f) g =
-    let p : ◌≡◌ {A = ℕ × ℕ × ℕ} (a, b, c) (d, e, f) = cc in
-    let x = ap (λ (z : ℕ × ℕ × ℕ). z.0) p in
-    let y = ap (λ (z : ℕ × ℕ × ℕ). z.1) p in
-    let w = ap (λ (z : ℕ × ℕ × ℕ). z.2) p in
-    cc (x, y, w)
-triple-same (R.Of a b c) R.Bad g = absurd (let z : ◌≡◌ {A = ℕ} 0 1 = cc in omega arith)
-triple-same R.Bad (R.Of d e f) g = absurd (let z : ◌≡◌ {A = ℕ} 0 1 = cc in omega arith)
-triple-same R.Bad R.Bad g = refl
+use Rattle.unpatch_form.specs.inner.Steps.{until, value_of, fields_from}
 
 -- ---- equal pieces are of equal texts: glued together again they are the text
 abbrev glued : ℕ → List (List ℕ) → List ℕ
@@ -83,25 +53,25 @@ place_same l a b h k e =
     let n : length l - a ≡ length l - b = sym (length-drop a l) ∙ ap length d ∙ length-drop b l in
     omega arith
 
-fields-same : (l : List ℕ) (r q : Number) → value_of r ≤ length l → value_of q ≤ length l → fields_from r l ≡ fields_from q l → r ≡ q
-fields-same l (N.Value a) (N.Value b) h k e = let d : fields (drop a l) ≡ fields (drop b l) = cc in ap N.Value (place_same l a b h k d)
-fields-same l (N.Value a) N.Bad h k e = absurd (let z : ◌≡◌ {A = ℕ} 0 1 = cc in omega arith)
-fields-same l N.Bad (N.Value b) h k e = absurd (let z : ◌≡◌ {A = ℕ} 0 1 = cc in omega arith)
-fields-same l N.Bad N.Bad h k e = refl
+fields-same : (l : List ℕ) (r q : Option ℕ) → value_of r ≤ length l → value_of q ≤ length l → fields_from r l ≡ fields_from q l → r ≡ q
+fields-same l (Some a) (Some b) h k e = let d : fields (drop a l) ≡ fields (drop b l) = cc in ap {B = Option ℕ} Some (place_same l a b h k d)
+fields-same l (Some a) None h k e = absurd (let z : ◌≡◌ {A = ℕ} 0 1 = cc in omega arith)
+fields-same l None (Some b) h k e = absurd (let z : ◌≡◌ {A = ℕ} 0 1 = cc in omega arith)
+fields-same l None None h k e = refl
 
 -- ---- the functions
 pub find-unique : (s : List ℕ) (b r q : ℕ) → (r ≡ until b s) × (r ≤ length s) → (q ≡ until b s) × (q ≤ length s) → r ≡ q
 find-unique s b r q x y = one _ x.0 y.0
 
-pub decimal-unique : (s : List ℕ) (most : ℕ) (r q : Number) → found r ≡ limited most s → found q ≡ limited most s → r ≡ q
-decimal-unique s most r q a b = found-same r q (one _ a b)
+pub decimal-unique : (s : List ℕ) (most : ℕ) (r q : Option ℕ) → r ≡ limited most s → q ≡ limited most s → r ≡ q
+decimal-unique s most r q a b = one _ a b
 
-pub behind-unique : (line w : List ℕ) (r q : Number)
+pub behind-unique : (line w : List ℕ) (r q : Option ℕ)
     → (fields_from r line ≡ behind w (fields line)) × (value_of r ≤ length line) → (fields_from q line ≡ behind w (fields line)) × (value_of q ≤ length line) → r ≡ q
 behind-unique line w r q a b = fields-same line r q a.1 b.1 (one _ a.0 b.0)
 
-pub vision-unique : (line : List ℕ) (r q : Triple) → found_triple r ≡ read_vision line → found_triple q ≡ read_vision line → r ≡ q
-vision-unique line r q a b = triple-same r q (one _ a b)
+pub vision-unique : (line : List ℕ) (r q : Option (ℕ × ℕ × ℕ)) → r ≡ read_vision line → q ≡ read_vision line → r ≡ q
+vision-unique line r q a b = one _ a b
 
-pub picture-unique : (line : List ℕ) (r q : Pair) → found_pair r ≡ read_picture line → found_pair q ≡ read_picture line → r ≡ q
-picture-unique line r q a b = pair_same r q (one _ a b)
+pub picture-unique : (line : List ℕ) (r q : Option (ℕ × ℕ)) → r ≡ read_picture line → q ≡ read_picture line → r ≡ q
+picture-unique line r q a b = one _ a b

@@ -1,6 +1,6 @@
 -- Decimals without leading zeros, read. Assumes nothing.
 use Rattle.std.specs.Prelude.{Bool, cond, ◌&&◌, List, [], ◌∷◌, ℕ, ◌+◌, ◌-◌, ◌*◌, eqb, leb}
-use Rattle.std.proofs.Math.Option.{Option, none, some}
+use Rattle.std.specs.Prelude.{Option, None, Some}
 use Rattle.unpatch_form.specs.Words.{◌>>=◌}
 
 -- `0` to `9`
@@ -9,18 +9,18 @@ is_digit b = leb 48 b && leb b 57
 
 -- the number of digits that follow ones for n
 unfoldable pub digits_from : ℕ → List ℕ → Option ℕ
-digits_from n [] = some n
-digits_from n (b ∷ bs) = cond (is_digit b) (digits_from (n * 10 + (b - 48)) bs) none
+digits_from n [] = Some n
+digits_from n (b ∷ bs) = cond (is_digit b) (digits_from (n * 10 + (b - 48)) bs) None
 
 -- one or more digits, and the first of several is not 0
 unfoldable pub decimal : List ℕ → Option ℕ
-decimal [] = none
+decimal [] = None
 decimal (b ∷ []) = digits_from 0 (b ∷ [])
-decimal (b ∷ (d ∷ bs)) = cond (eqb b 48) none (digits_from 0 (b ∷ (d ∷ bs)))
+decimal (b ∷ (d ∷ bs)) = cond (eqb b 48) None (digits_from 0 (b ∷ (d ∷ bs)))
 
 -- where it is at most `most`
 abbrev pub up_to : ℕ → ℕ → Option ℕ
-up_to most n = cond (leb n most) (some n) none
+up_to most n = cond (leb n most) (Some n) None
 
 -- a decimal of at most `most`
 abbrev pub limited : ℕ → List ℕ → Option ℕ

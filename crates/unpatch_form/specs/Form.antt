@@ -1,6 +1,6 @@
 -- The form of the input: its lines, their fields, and the limits. `none` is what is outside it. Assumes nothing.
 use Rattle.std.specs.Prelude.{cond, List, [], ◌∷◌, ℕ, suc, ◌*◌, eqb, leb, length}
-use Rattle.std.proofs.Math.Option.{Option, none, some}
+use Rattle.std.specs.Prelude.{Option, None, Some}
 use Rattle.unpatch_form.specs.Words.{word, pieces, ◌>>=◌, one_piece, end, joined, behind}
 use Rattle.unpatch_form.specs.Decimal.{decimal, limited}
 use Rattle.unpatch_form.specs.Hex.{hex_bytes}
@@ -26,10 +26,10 @@ abbrev pub small : List ℕ → Option ℕ
 small f = limited 64 f
 
 abbrev pub as_pair : ℕ → ℕ → Option (ℕ × ℕ)
-as_pair a b = some (a, b)
+as_pair a b = Some (a, b)
 
 abbrev pub with_two : ℕ → ℕ × ℕ → Option (ℕ × ℕ × ℕ)
-with_two a r = some (a, r.0, r.1)
+with_two a r = Some (a, r.0, r.1)
 
 -- exactly two numbers
 abbrev pub two : List (List ℕ) → Option (ℕ × ℕ)
@@ -41,7 +41,7 @@ three = one_piece small λ a fs. two fs >>= with_two a
 
 -- `vision`, patch, merge, image size; patch × merge is at most 64 too
 unfoldable pub read_vision : List ℕ → Option (ℕ × ℕ × ℕ)
-read_vision l = behind (word "vision") (fields l) >>= three >>= λ r. cond (leb (r.0 * r.1) 64) (some r) none
+read_vision l = behind (word "vision") (fields l) >>= three >>= λ r. cond (leb (r.0 * r.1) 64) (Some r) None
 
 -- `picture`, height, width
 unfoldable pub read_picture : List ℕ → Option (ℕ × ℕ)
@@ -49,7 +49,7 @@ read_picture l = behind (word "picture") (fields l) >>= two
 
 -- a row's index i and its bytes
 abbrev pub row_fields : ℕ → List (List ℕ) → Option (List ℕ)
-row_fields i = one_piece decimal λ k. one_piece hex_bytes λ bs. end (cond (eqb k i) (some bs) none)
+row_fields i = one_piece decimal λ k. one_piece hex_bytes λ bs. end (cond (eqb k i) (Some bs) None)
 
 -- `row`, index, bytes
 unfoldable pub read_row : ℕ → List ℕ → Option (List ℕ)
@@ -57,13 +57,13 @@ read_row i l = behind (word "row") (fields l) >>= row_fields i
 
 -- the rows from index i on, their bytes joined; behind the last newline is nothing
 unfoldable pub read_rows : ℕ → List (List ℕ) → Option (List ℕ)
-read_rows i [] = none
-read_rows i ([] ∷ []) = some []
-read_rows i ((b ∷ bs) ∷ []) = none
+read_rows i [] = None
+read_rows i ([] ∷ []) = Some []
+read_rows i ((b ∷ bs) ∷ []) = None
 read_rows i (l ∷ (m ∷ ms)) = read_row i l >>= λ bs. joined bs (read_rows (suc i) (m ∷ ms))
 
 abbrev pub request_of : ℕ × ℕ × ℕ → ℕ × ℕ → List ℕ → Option Request
-request_of s p bs = some (record { patch = s.0; merge = s.1; image = s.2; height = p.0; width = p.1; rgb = bs })
+request_of s p bs = Some (record { patch = s.0; merge = s.1; image = s.2; height = p.0; width = p.1; rgb = bs })
 
 -- the lines behind the first, which has the settings s
 abbrev pub pictured : ℕ × ℕ × ℕ → List (List ℕ) → Option Request
@@ -74,4 +74,4 @@ request = one_piece read_vision λ s. pictured s
 
 -- at most 48 KiB, which are 49,152 bytes
 unfoldable pub form : List ℕ → Option Request
-form t = cond (leb (length t) 49152) (request (lines t)) none
+form t = cond (leb (length t) 49152) (request (lines t)) None

@@ -1,6 +1,6 @@
 -- Words as bytes, a text cut at a separator, and how its pieces are read one after another. Assumes nothing.
 use Rattle.std.specs.Prelude.{Bool, true, false, cond, ◌&&◌, List, [], ◌∷◌, ◌++◌, ℕ, eqb}
-use Rattle.std.proofs.Math.Option.{Option, none, some}
+use Rattle.std.specs.Prelude.{Option, None, Some}
 use Prim.Native.Char.{code}
 use Prim.Native.String.{String, [] as []ˢ, ◌∷◌ as ◌∷ˢ◌}
 
@@ -32,27 +32,27 @@ module _ {A B : Type 0} where
   infixl 10 ◌>>=◌
   -- g reads on with what was found
   abbrev pub ◌>>=◌ : Option A → (A → Option B) → Option B
-  none >>= g = none
-  some a >>= g = g a
+  None >>= g = None
+  Some a >>= g = g a
 
   -- f reads the first piece, and g the others
   abbrev pub one_piece : (List ℕ → Option A) → (A → List (List ℕ) → Option B) → List (List ℕ) → Option B
-  one_piece f g [] = none
+  one_piece f g [] = None
   one_piece f g (p ∷ ps) = f p >>= λ a. g a ps
 
 module _ {A : Type 0} where
   -- no piece is left
   abbrev pub end : Option A → List (List ℕ) → Option A
   end a [] = a
-  end a (p ∷ ps) = none
+  end a (p ∷ ps) = None
 
 -- l, and what is read behind it
 abbrev pub joined : List ℕ → Option (List ℕ) → Option (List ℕ)
-joined l none = none
-joined l (some m) = some (l ++ m)
+joined l None = None
+joined l (Some m) = Some (l ++ m)
 
 -- the pieces behind the word w, which is the first of several
 abbrev pub behind : List ℕ → List (List ℕ) → Option (List (List ℕ))
-behind w [] = none
-behind w (p ∷ []) = none
-behind w (p ∷ (q ∷ qs)) = cond (same p w) (some (q ∷ qs)) none
+behind w [] = None
+behind w (p ∷ []) = None
+behind w (p ∷ (q ∷ qs)) = cond (same p w) (Some (q ∷ qs)) None

@@ -1,10 +1,9 @@
 -- Laws of what an answer stands for. Assumes nothing.
 use mathlib.Core.Path.{◌≡◌, refl, sym, ap, ◌∙◌}
 use mathlib.Core.List.{List, append-nil}
-use mathlib.Core.Option.{Option, none, some}
+use Rattle.std.specs.Prelude.{Option, None, Some}
 use Prim.Native.Nat.{ℕ, ◌+◌, ◌-◌, ◌≤◌, ◌<◌}
 use native.Mathlib.Omega.{arith}
-use borrow.Author.Tests.{lt-ltb, le-ltb}
 use lib.ListN.{length, take, set, drop_of_length-le, length-append}
 use lib.Seq.{length-take-le, take-append_seam}
 use Rattle.buffers.specs.Rows.{tab}
@@ -13,52 +12,53 @@ use Rattle.buffers.proofs.Lists.{length-tab, tab-step}
 use Rattle.buffers.proofs.Regions.{put-split}
 use Rattle.unpatch_form.specs.Form.{Request, form}
 use Rattle.unpatch_read.specs.Read.{reading, rows_of, filled}
-use Rattle.unpatch_read.specs.inner.Steps.{below, Written, asked, bytes_read}
-use Rattle.unpatch_form.specs.declared.decimal.Number.{Number}
+use Rattle.unpatch_read.specs.inner.Steps.{Written, asked, bytes_read}
 use Rattle.unpatch_read.specs.declared.read.Reading.{Reading}
-use Rattle.unpatch_read.specs.declared.read.Reading.TheVariants as R
-
-pub below-some : (n x : ℕ) → x < n → below n x ≡ some x
-below-some n x h = simp (lt-ltb _ _ h)
-
-pub below_none : (n x : ℕ) → n ≤ x → below n x ≡ none
-below_none n x h = simp (le-ltb _ _ h)
 
 -- what was wanted of a part is wanted of the whole
-pub written_of : {r : Number} {at : ℕ} {old new : List ℕ} {len len' : ℕ} {want want' : Option (List ℕ)} → want ≡ want' → len ≤ len' → Written r at old new len want → Written r at old new len' want'
+pub written_of : {r : Option ℕ} {at : ℕ} {old new : List ℕ} {len len' : ℕ} {want want' : Option (List ℕ)} → want ≡ want' → len ≤ len' → Written r at old new len want → Written r at old new len' want'
 written_of e h w = record { answer = w.answer ∙ e; front = w.front; few = omega (arith, w.few) }
+
+-- nothing was read, as was wanted
+pub nothing_of : (r : Option ℕ) {at : ℕ} {old new : List ℕ} {len : ℕ} {want : Option (List ℕ)} → r ≡ None → want ≡ None → take at new ≡ take at old → Written r at old new len want
+nothing_of None e f g = record { answer = sym f; front = g; few = omega arith }
+nothing_of (Some n) e f g = absurd (let z : ◌≡◌ {A = ℕ} 0 1 = cc in omega arith)
+
+pub outside_of : (r : Option Reading) (l : List ℕ) {want : Option Request} → r ≡ None → want ≡ None → (asked r l ≡ want) × (bytes_read r ≤ length l)
+outside_of None l e f = (sym f, omega arith)
+outside_of (Some n) l e f = absurd (let z : ◌≡◌ {A = ℕ} 0 1 = cc in omega arith)
 
 -- ---- the whole text
 -- an answer and the bytes say what was asked, and the other way round
-pub reading-asked : (r : Reading) (l : List ℕ) → bytes_read r ≤ length l → r ≡ reading (asked r l)
-reading-asked (R.Request p m n h w k) l e = ap (λ (j : ℕ). R.Request p m n h w j) (sym (length-take-le k l e))
-reading-asked R.Outside l e = refl
+pub reading-asked : (r : Option Reading) (l : List ℕ) → bytes_read r ≤ length l → r ≡ reading (asked r l)
+reading-asked (Some r) l e = ap (λ (j : ℕ). Some (record { patch = r.patch; merge = r.merge; image = r.image; height = r.height; width = r.width; bytes = j })) (sym (length-take-le r.bytes l e))
+reading-asked None l e = refl
 
-pub rows-asked : (r : Reading) (l : List ℕ) → take (bytes_read r) l ≡ rows_of (asked r l)
-rows-asked (R.Request p m n h w k) l = refl
-rows-asked R.Outside l = refl
+pub rows-asked : (r : Option Reading) (l : List ℕ) → take (bytes_read r) l ≡ rows_of (asked r l)
+rows-asked (Some r) l = refl
+rows-asked None l = refl
 
-pub asked-reading : (o : Option Request) {r : Reading} {l : List ℕ} → r ≡ reading o → l ≡ filled (rows_of o) → asked r l ≡ o
+pub asked-reading : (o : Option Request) {r : Option Reading} {l : List ℕ} → r ≡ reading o → l ≡ filled (rows_of o) → asked r l ≡ o
 unfolding filled
 asked-reading o e f = rw (e, f) (back o)
   where
     back : (o : Option Request) → asked (reading o) (filled (rows_of o)) ≡ o
-    back none = refl
-    back (some q) = rw (take-append_seam q.rgb (tab (24576 - length q.rgb) (λ _. 0))) refl
+    back None = refl
+    back (Some q) = rw (take-append_seam q.rgb (tab (24576 - length q.rgb) (λ _. 0))) refl
 
-pub bytes_inside : (o : Option Request) {r : Reading} {l : List ℕ} → r ≡ reading o → l ≡ filled (rows_of o) → bytes_read r ≤ length l
+pub bytes_inside : (o : Option Request) {r : Option Reading} {l : List ℕ} → r ≡ reading o → l ≡ filled (rows_of o) → bytes_read r ≤ length l
 unfolding filled
 bytes_inside o e f = rw (e, f) (inside o)
   where
     inside : (o : Option Request) → bytes_read (reading o) ≤ length (filled (rows_of o))
-    inside none = omega arith
-    inside (some q) = omega (arith, length-append q.rgb (tab (24576 - length q.rgb) (λ _. 0)))
+    inside None = omega arith
+    inside (Some q) = omega (arith, length-append q.rgb (tab (24576 - length q.rgb) (λ _. 0)))
 
 -- the contract of `read`, as a type of an answer and of the bytes at exit: any two that satisfy it are equal
-abbrev pub Reads : List ℕ → Reading → List ℕ → Type 0
+abbrev pub Reads : List ℕ → Option Reading → List ℕ → Type 0
 Reads t r l = (r ≡ reading (form t)) × (l ≡ filled (rows_of (form t)))
 
-pub read-unique : (t : List ℕ) (r q : Reading) (x y : List ℕ) → Reads t r x → Reads t q y → (r ≡ q) × (x ≡ y)
+pub read-unique : (t : List ℕ) (r q : Option Reading) (x y : List ℕ) → Reads t r x → Reads t q y → (r ≡ q) × (x ≡ y)
 read-unique t r q x y a b = (a.0 ∙ sym b.0, a.1 ∙ sym b.1)
 
 -- one zero more behind the first n

@@ -1,7 +1,7 @@
 -- Laws of the rows that are read, line by line. Assumes nothing.
 use mathlib.Core.Path.{◌≡◌, refl, sym, ap, ◌∙◌}
 use mathlib.Core.List.{List, [], ◌∷◌}
-use mathlib.Core.Option.{Option, none, some}
+use Rattle.std.specs.Prelude.{Option, None, Some}
 use Prim.Native.Nat.{ℕ, suc, ◌+◌, ◌<◌}
 use native.Mathlib.Numerals.{add-one}
 use native.Mathlib.Omega.{arith}
@@ -15,7 +15,7 @@ use Rattle.unpatch_form.proofs.Pieces.{pieces-cut, pieces-one, joined-joined}
 use Rattle.unpatch_form.proofs.Fields.{some-piece}
 
 -- a line without its newline
-pub rows-open : (i : ℕ) (l : List ℕ) → 0 < length l → until 10 l ≡ length l → read_rows i (lines l) ≡ none
+pub rows-open : (i : ℕ) (l : List ℕ) → 0 < length l → until 10 l ≡ length l → read_rows i (lines l) ≡ None
 unfolding read_rows
 rows-open i [] h e = absurd (omega arith)
 rows-open i (b ∷ bs) h e = rw (pieces-one 10 (b ∷ bs) e) refl
@@ -28,11 +28,11 @@ rows_cut i l h =
     rw (pieces-cut 10 l h, r.2) refl
 
 -- no line, and none but the empty end
-pub rows_none : (i : ℕ) → read_rows i [] ≡ none
+pub rows_none : (i : ℕ) → read_rows i [] ≡ None
 unfolding read_rows
 rows_none i = refl
 
-pub rows_end : (i : ℕ) → read_rows i (lines []) ≡ some []
+pub rows_end : (i : ℕ) → read_rows i (lines []) ≡ Some []
 unfolding read_rows pieces
 rows_end i = refl
 
@@ -41,11 +41,11 @@ pub joined-more : (old new : List ℕ) (n k : ℕ) (o : Option (List ℕ)) → t
 joined-more old new n k o e = rw (← e, joined-joined, ← take-add) refl
 
 -- the row of u bytes from `from` on is no row
-pub rows-bad : (text : List ℕ) (from i u : ℕ) → u ≡ until 10 (drop from text) → u < length (drop from text) → read_row i (take u (drop from text)) ≡ none → read_rows i (lines (drop from text)) ≡ none
+pub rows-bad : (text : List ℕ) (from i u : ℕ) → u ≡ until 10 (drop from text) → u < length (drop from text) → read_row i (take u (drop from text)) ≡ None → read_rows i (lines (drop from text)) ≡ None
 rows-bad text from i u f h e = rows_cut i (drop from text) (rw f at h) ∙ rw (← f, e) refl
 
 -- it has the k bytes that stand behind the n of the rows before it
-pub rows-turn : (text old new : List ℕ) (from i n u k : ℕ) → u ≡ until 10 (drop from text) → u < length (drop from text) → read_row i (take u (drop from text)) ≡ some (region new n k) → take n new ≡ take n old
+pub rows-turn : (text old new : List ℕ) (from i n u k : ℕ) → u ≡ until 10 (drop from text) → u < length (drop from text) → read_row i (take u (drop from text)) ≡ Some (region new n k) → take n new ≡ take n old
     → joined (take n old) (read_rows i (lines (drop from text))) ≡ joined (take (n + k) new) (read_rows (i + 1) (lines (drop (from + u + 1) text)))
 rows-turn text old new from i n u k f h e t =
     let d : from + suc u ≡ from + u + 1 = omega arith in

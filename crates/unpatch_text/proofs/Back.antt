@@ -2,7 +2,7 @@
 use mathlib.Core.Path.{◌≡◌, refl, sym, ap, ◌∙◌}
 use mathlib.Core.Bool.{Bool, true, false, cond}
 use mathlib.Core.List.{List, [], ◌∷◌, ◌++◌, append_assoc, append-nil}
-use mathlib.Core.Option.{Option, none, some}
+use Rattle.std.specs.Prelude.{Option, None, Some}
 use Prim.Native.Nat.{ℕ, zero, suc, ◌+◌, ◌-◌, ◌*◌, ◌/◌, ◌%◌, ◌≤◌, ◌<◌}
 use native.Mathlib.Nat.{suc-mul, zero-mul}
 use native.Mathlib.Omega.{arith}
@@ -70,26 +70,26 @@ digits_append n [] ys = refl
 digits_append n (x ∷ xs) ys = go (is_digit x) (digits_append (n * 10 + (x - 48)) xs ys)
   where
     go : (t : Bool) → digits_from (n * 10 + (x - 48)) (xs ++ ys) ≡ (digits_from (n * 10 + (x - 48)) xs >>= λ m. digits_from m ys)
-        → cond t (digits_from (n * 10 + (x - 48)) (xs ++ ys)) none ≡ (cond t (digits_from (n * 10 + (x - 48)) xs) none >>= λ m. digits_from m ys)
+        → cond t (digits_from (n * 10 + (x - 48)) (xs ++ ys)) None ≡ (cond t (digits_from (n * 10 + (x - 48)) xs) None >>= λ m. digits_from m ys)
     go true e = e
     go false e = refl
 
-one-digit : (n d : ℕ) → d < 10 → digits_from n ((48 + d) ∷ []) ≡ some (n * 10 + d)
+one-digit : (n d : ℕ) → d < 10 → digits_from n ((48 + d) ∷ []) ≡ Some (n * 10 + d)
 unfolding digits_from
 one-digit n d h =
     let e : 48 + d - 48 ≡ d = omega arith in
     rw (le-leb 48 (48 + d) (omega arith), le-leb (48 + d) 57 (omega arith), e) refl
 
-digits-back : (k n : ℕ) → n < k → digits_from 0 (last_digits k n) ≡ some n
+digits-back : (k n : ℕ) → n < k → digits_from 0 (last_digits k n) ≡ Some n
 unfolding last_digits
 digits-back zero n h = absurd (omega arith)
 digits-back (suc k) n h = go (ltb n 10) refl (λ l. digits-back k (n / 10) (omega arith))
   where
-    go : (t : Bool) → ltb n 10 ≡ t → (10 ≤ n → digits_from 0 (last_digits k (n / 10)) ≡ some (n / 10)) → digits_from 0 (cond t ((48 + n) ∷ []) (last_digits k (n / 10) ++ ((48 + n % 10) ∷ []))) ≡ some n
-    go true e r = let z : 0 * 10 + n ≡ n = omega arith in one-digit 0 n (ltb-true n 10 e) ∙ ap {B = Option ℕ} some z
+    go : (t : Bool) → ltb n 10 ≡ t → (10 ≤ n → digits_from 0 (last_digits k (n / 10)) ≡ Some (n / 10)) → digits_from 0 (cond t ((48 + n) ∷ []) (last_digits k (n / 10) ++ ((48 + n % 10) ∷ []))) ≡ Some n
+    go true e r = let z : 0 * 10 + n ≡ n = omega arith in one-digit 0 n (ltb-true n 10 e) ∙ ap {B = Option ℕ} Some z
     go false e r =
         let z : n / 10 * 10 + n % 10 ≡ n = omega arith in
-        digits_append 0 (last_digits k (n / 10)) ((48 + n % 10) ∷ []) ∙ rw (r (ltb-false n 10 e)) (one-digit (n / 10) (n % 10) (omega arith) ∙ ap {B = Option ℕ} some z)
+        digits_append 0 (last_digits k (n / 10)) ((48 + n % 10) ∷ []) ∙ rw (r (ltb-false n 10 e)) (one-digit (n / 10) (n % 10) (omega arith) ∙ ap {B = Option ℕ} Some z)
 
 -- the first of several digits is not 0
 leads : (k n : ℕ) → n < k → 1 ≤ n → (get_or (last_digits k n) 0 0 ≡ 48 → ⊥) × (1 ≤ length (last_digits k n))
@@ -106,10 +106,10 @@ leads (suc k) n h l = go (ltb n 10) refl (λ a b. leads k (n / 10) a b)
     go true e r = ((λ z. omega arith), omega arith)
     go false e r = let f = ltb-false n 10 e in front (last_digits k (n / 10)) (48 + n % 10) (r (omega arith) (omega arith))
 
-pub decimal-back : (n : ℕ) → decimal (decimal_text n) ≡ some n
+pub decimal-back : (n : ℕ) → decimal (decimal_text n) ≡ Some n
 decimal-back n = go (dec_lt n 10)
   where
-    go : Dec (n < 10) → decimal (decimal_text n) ≡ some n
+    go : Dec (n < 10) → decimal (decimal_text n) ≡ Some n
     go (yes h) = decimal-one (decimal_text n) (ap length (digits-one n h)) ∙ digits-back (suc n) n (omega arith)
     go (no h) =
         let d = digits_more n (omega arith) in
@@ -117,11 +117,11 @@ decimal-back n = go (dec_lt n 10)
         decimal-more (decimal_text n) (omega (arith, ap length d, length-append (decimal_text (n / 10)) ((48 + n % 10) ∷ []), a.1)) (leads (suc n) n (omega arith) (omega arith)).0 ∙ digits-back (suc n) n (omega arith)
 
 -- ---- hex digits
-nibble-back : (d : ℕ) → d < 16 → nibble (glyph d) ≡ some d
+nibble-back : (d : ℕ) → d < 16 → nibble (glyph d) ≡ Some d
 unfolding nibble
 nibble-back d h = go (dec_lt d 10)
   where
-    go : Dec (d < 10) → nibble (glyph d) ≡ some d
+    go : Dec (d < 10) → nibble (glyph d) ≡ Some d
     go (yes l) =
         let e : 48 + d - 48 ≡ d = omega arith in
         rw (lt-ltb d 10 l, le-ltb (48 + d) 48 (omega arith), le-leb (48 + d) 57 (omega arith), e) refl
@@ -129,7 +129,7 @@ nibble-back d h = go (dec_lt d 10)
         let e : 87 + d - 87 ≡ d = omega arith in
         rw (le-ltb d 10 (omega arith), le-ltb (87 + d) 48 (omega arith), lt-leb (87 + d) 57 (omega arith), le-ltb (87 + d) 97 (omega arith), le-leb (87 + d) 102 (omega arith), e) refl
 
-pub hex-back : (bs : List ℕ) → Bytes bs → hex_pairs (hex_text bs) ≡ some bs
+pub hex-back : (bs : List ℕ) → Bytes bs → hex_pairs (hex_text bs) ≡ Some bs
 unfolding hex_pairs hex_text pair
 hex-back [] h = refl
 hex-back (b ∷ bs) h =
@@ -169,7 +169,7 @@ body-fields y bs =
     piece_cut 9 (word "row") (decimal_text y ++ (9 ∷ hex_text bs)) (free-word 9 (omega arith))
     ∙ ap (λ (ps : List (List ℕ)). word "row" ∷ ps) (piece_cut 9 (decimal_text y) (hex_text bs) (free-digits 9 (suc y) y (omega arith)) ∙ ap (λ (ps : List (List ℕ)). decimal_text y ∷ ps) (piece-last 9 (hex_text bs) (free-hex 9 bs (omega arith))))
 
-row_back : (y : ℕ) (bs : List ℕ) → Bytes bs → 1 ≤ length bs → read_row y (body y bs) ≡ some bs
+row_back : (y : ℕ) (bs : List ℕ) → Bytes bs → 1 ≤ length bs → read_row y (body y bs) ≡ Some bs
 unfolding read_row same
 row_back y bs h l =
     let some-hex : length (hex_text bs) ≡ 0 → ⊥ = λ e. omega (arith, e, length-hex bs) in
@@ -216,11 +216,11 @@ bytes_drop (suc n) [] h k = omega arith
 bytes_drop (suc n) (x ∷ xs) h k = bytes_drop n xs (λ i. h (suc i)) k
 
 -- the rows of a picture are read back as its bytes, joined
-pub rows_back : (h n : ℕ) (bs : List ℕ) → Bytes bs → 1 ≤ n → length bs ≡ h * n → read_rows 0 (lines (row_lines h n bs)) ≡ some bs
+pub rows_back : (h n : ℕ) (bs : List ℕ) → Bytes bs → 1 ≤ n → length bs ≡ h * n → read_rows 0 (lines (row_lines h n bs)) ≡ Some bs
 unfolding read_rows pieces
 rows_back h n bs b l e =
     let g : ℕ → List ℕ = λ y. region bs (y * n) n in
     let f : B.rows h (λ y. row_line y (g y)) ++ [] ≡ row_lines h n bs = append-nil (row_lines h n bs) in
     let j : B.rows h g ≡ bs = regions-joined bs n h ∙ take_all (h * n) bs (omega (arith, e)) in
     let k = rows_next g h [] (λ y hy. (bytes_take n (drop (y * n) bs) (bytes_drop (y * n) bs b), omega (arith, length-take-le n (drop (y * n) bs) (omega (arith, length-drop (y * n) bs, fit n hy, e))))) in
-    ap (λ (t : List ℕ). read_rows 0 (lines t)) (sym f) ∙ k ∙ ap (λ (l : List ℕ). some (l ++ [])) j ∙ ap {B = Option (List ℕ)} some (append-nil bs)
+    ap (λ (t : List ℕ). read_rows 0 (lines t)) (sym f) ∙ k ∙ ap (λ (l : List ℕ). Some (l ++ [])) j ∙ ap {B = Option (List ℕ)} Some (append-nil bs)

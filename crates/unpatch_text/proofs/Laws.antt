@@ -3,7 +3,7 @@
 use mathlib.Core.Path.{◌≡◌, refl, ap, ◌∙◌, subst}
 use mathlib.Core.Bool.{Bool, true, false, cond}
 use mathlib.Core.List.{List, [], ◌∷◌, ◌++◌}
-use mathlib.Core.Option.{Option, none, some, some-injective, none-ne-some}
+use Rattle.std.specs.Prelude.{Option, None, Some}
 use Prim.Native.Nat.{ℕ, suc, ◌+◌, ◌-◌, ◌*◌, ◌/◌, ◌%◌, ◌≤◌, ◌<◌, max}
 use native.Mathlib.Nat.{le_refl}
 use native.Mathlib.Omega.{arith}
@@ -39,7 +39,7 @@ use Rattle.unpatch_form.specs.Hex.{nibble, pair, hex_pairs, hex_bytes}
 use Rattle.unpatch_form.specs.Form.{Request, fields, lines, row_fields, read_row, read_rows, read_vision, read_picture, request_of, pictured, form}
 use Rattle.unpatch_text.specs.Print.{last_digits, refused_line, outside_line, grid_line, row_lines}
 use Rattle.unpatch_text.specs.Answer.{settings, restored_text, preprocessed_text, ran, answered, answer, length_left, text_left}
-use Rattle.unpatch_form.proofs.Limits.{read-on, read_first, read-end}
+use Rattle.unpatch_form.proofs.Limits.{some-injective, none-ne-some, read-on, read_first, read-end, nibble-small}
 use Rattle.unpatch_text.proofs.Back.{rows_back}
 
 -- ---- any two results that satisfy the contract are equal
@@ -100,44 +100,32 @@ ran-differs s rgb h w = go (preprocessed s (length rgb) h w (floats_of s h w))
     go (P.Patches gh gw n) = restored-differs s gh gw _ (restored s (patches_of s rgb h w) gh gw (gh * s.patch_size * (gw * s.patch_size) * 3))
     go (P.Refused r) = refused-differs r
 
-pub outside-then : (t : List ℕ) → form t ≡ none → answer t ≡ outside_line
+pub outside-then : (t : List ℕ) → form t ≡ None → answer t ≡ outside_line
 unfolding answer
 outside-then t e = ap answered e
 
-pub outside-only : (t : List ℕ) → answer t ≡ outside_line → form t ≡ none
+pub outside-only : (t : List ℕ) → answer t ≡ outside_line → form t ≡ None
 unfolding answer
 outside-only t e = go (form t) e
   where
-    go : (o : Option Request) → answered o ≡ outside_line → o ≡ none
-    go none f = refl
-    go (some q) f = absurd (ran-differs (settings q) q.rgb q.height q.width f)
+    go : (o : Option Request) → answered o ≡ outside_line → o ≡ None
+    go None f = refl
+    go (Some q) f = absurd (ran-differs (settings q) q.rgb q.height q.width f)
 
 -- ---- what is read are bytes
-nibble-small : (a x : ℕ) → nibble a ≡ some x → x < 16
-unfolding nibble
-nibble-small a x = go (ltb a 48) refl (leb a 57) refl (ltb a 97) refl (leb a 102) refl
-  where
-    go : (p : Bool) → ltb a 48 ≡ p → (q : Bool) → leb a 57 ≡ q → (r : Bool) → ltb a 97 ≡ r → (s : Bool) → leb a 102 ≡ s
-        → cond p none (cond q (some (a - 48)) (cond r none (cond s (some (a - 87)) none))) ≡ some x → x < 16
-    go true i q j r k s l e = absurd (none-ne-some x e)
-    go false i true j r k s l e = omega (arith, some-injective (a - 48) x e, ltb-false a 48 i, leb-true a 57 j)
-    go false i false j true k s l e = absurd (none-ne-some x e)
-    go false i false j false k true l e = omega (arith, some-injective (a - 87) x e, ltb-false a 97 k, leb-true a 102 l)
-    go false i false j false k false l e = absurd (none-ne-some x e)
-
-pair_small : (a b x : ℕ) → pair a b ≡ some x → x < 256
+pair_small : (a b x : ℕ) → pair a b ≡ Some x → x < 256
 unfolding pair
 pair_small a b x e =
-    let r = read-on (nibble a) (λ y. nibble b >>= λ z. some (y * 16 + z)) x e in
-    let q = read-on (nibble b) (λ z. some (r.0 * 16 + z)) x r.2 in
+    let r = read-on (nibble a) (λ y. nibble b >>= λ z. Some (y * 16 + z)) x e in
+    let q = read-on (nibble b) (λ z. Some (r.0 * 16 + z)) x r.2 in
     omega (arith, some-injective (r.0 * 16 + q.0) x q.2, nibble-small a r.0 r.1, nibble-small b q.0 q.1)
 
 -- what is read behind a piece
-read-joined : (l : List ℕ) (o : Option (List ℕ)) (bs : List ℕ) → joined l o ≡ some bs → (m : List ℕ) × (o ≡ some m) × (l ++ m ≡ bs)
-read-joined l none bs e = absurd (none-ne-some bs e)
-read-joined l (some m) bs e = (m, refl, some-injective (l ++ m) bs e)
+read-joined : (l : List ℕ) (o : Option (List ℕ)) (bs : List ℕ) → joined l o ≡ Some bs → (m : List ℕ) × (o ≡ Some m) × (l ++ m ≡ bs)
+read-joined l None bs e = absurd (none-ne-some bs e)
+read-joined l (Some m) bs e = (m, refl, some-injective (l ++ m) bs e)
 
-pairs-bytes : (l bs : List ℕ) → hex_pairs l ≡ some bs → Bytes bs
+pairs-bytes : (l bs : List ℕ) → hex_pairs l ≡ Some bs → Bytes bs
 unfolding hex_pairs
 pairs-bytes [] bs e = subst Bytes (some-injective [] bs e) no_bytes
 pairs-bytes (a ∷ []) bs e = absurd (none-ne-some bs e)
@@ -146,23 +134,23 @@ pairs-bytes (a ∷ (b ∷ l)) bs e =
     let q = read-joined (r.0 ∷ []) (hex_pairs l) bs r.2 in
     subst Bytes q.2 (bytes-append (r.0 ∷ []) q.0 (one_byte r.0 (pair_small a b r.0 r.1)) (pairs-bytes l q.0 q.1))
 
-hex-bytes : (l bs : List ℕ) → hex_bytes l ≡ some bs → Bytes bs
+hex-bytes : (l bs : List ℕ) → hex_bytes l ≡ Some bs → Bytes bs
 hex-bytes [] bs e = absurd (none-ne-some bs e)
 hex-bytes (a ∷ l) bs e = pairs-bytes (a ∷ l) bs e
 
-row-bytes : (i : ℕ) (l bs : List ℕ) → read_row i l ≡ some bs → Bytes bs
+row-bytes : (i : ℕ) (l bs : List ℕ) → read_row i l ≡ Some bs → Bytes bs
 unfolding read_row
 row-bytes i l bs e =
     let x = read-on (behind (word "row") (fields l)) (row_fields i) bs e in
-    let y = read_first decimal (λ k. one_piece hex_bytes λ b. end (cond (eqb k i) (some b) none)) x.0 bs x.2 in
-    let z = read_first hex_bytes (λ b. end (cond (eqb y.2 i) (some b) none)) y.1 bs y.4 in
-    go (eqb y.2 i) z.0 z.2 z.3 (read-end (cond (eqb y.2 i) (some z.2) none) z.1 bs z.4)
+    let y = read_first decimal (λ k. one_piece hex_bytes λ b. end (cond (eqb k i) (Some b) None)) x.0 bs x.2 in
+    let z = read_first hex_bytes (λ b. end (cond (eqb y.2 i) (Some b) None)) y.1 bs y.4 in
+    go (eqb y.2 i) z.0 z.2 z.3 (read-end (cond (eqb y.2 i) (Some z.2) None) z.1 bs z.4)
   where
-    go : (t : Bool) (p b : List ℕ) → hex_bytes p ≡ some b → cond t (some b) none ≡ some bs → Bytes bs
+    go : (t : Bool) (p b : List ℕ) → hex_bytes p ≡ Some b → cond t (Some b) None ≡ Some bs → Bytes bs
     go true p b f g = subst Bytes (some-injective b bs g) (hex-bytes p b f)
     go false p b f g = absurd (none-ne-some bs g)
 
-rows-bytes : (i : ℕ) (ls : List (List ℕ)) (bs : List ℕ) → read_rows i ls ≡ some bs → Bytes bs
+rows-bytes : (i : ℕ) (ls : List (List ℕ)) (bs : List ℕ) → read_rows i ls ≡ Some bs → Bytes bs
 unfolding read_rows
 rows-bytes i [] bs e = absurd (none-ne-some bs e)
 rows-bytes i ([] ∷ []) bs e = subst Bytes (some-injective [] bs e) no_bytes
@@ -172,11 +160,11 @@ rows-bytes i (l ∷ (m ∷ ms)) bs e =
     let q = read-joined r.0 (read_rows (suc i) (m ∷ ms)) bs r.2 in
     subst Bytes q.2 (bytes-append r.0 q.0 (row-bytes i l r.0 r.1) (rows-bytes (suc i) (m ∷ ms) q.0 q.1))
 
-pub form-bytes : (t : List ℕ) (q : Request) → form t ≡ some q → Bytes q.rgb
+pub form-bytes : (t : List ℕ) (q : Request) → form t ≡ Some q → Bytes q.rgb
 unfolding form
 form-bytes t q e = go (leb (length t) 49152) e
   where
-    go : (b : Bool) → cond b (one_piece read_vision (λ s. pictured s) (lines t)) none ≡ some q → Bytes q.rgb
+    go : (b : Bool) → cond b (one_piece read_vision (λ s. pictured s) (lines t)) None ≡ Some q → Bytes q.rgb
     go false f = absurd (none-ne-some q f)
     go true f =
         let x = read_first read_vision (λ s. pictured s) (lines t) q f in
@@ -189,9 +177,9 @@ form-bytes t q e = go (leb (length t) 49152) e
 -- the answer is a grid and the rows of a picture; and these, read as the form reads rows, are the picture's bytes, joined
 pub record Printed (t : List ℕ) (gh gw m h w : ℕ) (bs : List ℕ) : Type 0 where
   pub text : answer t ≡ grid_line gh gw (gh * gw / (m * m)) ++ row_lines h (w * 3) bs
-  pub read : read_rows 0 (lines (row_lines h (w * 3) bs)) ≡ some bs
+  pub read : read_rows 0 (lines (row_lines h (w * 3) bs)) ≡ Some bs
 
-module _ (t : List ℕ) (q : Request) (gh gw n : ℕ) (inside : form t ≡ some q)
+module _ (t : List ℕ) (q : Request) (gh gw n : ℕ) (inside : form t ≡ Some q)
     (call : preprocessed (settings q) (length q.rgb) q.height q.width (floats_of (settings q) q.height q.width) ≡ P.Patches gh gw n) where
   -- an accepted picture: the resized one
   pub printed : Printed t gh gw q.merge (th_of (settings q) q.height q.width) (tw_of (settings q) q.height q.width) (resized_bytes (settings q) q.rgb q.height q.width)

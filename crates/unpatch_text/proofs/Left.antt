@@ -2,7 +2,7 @@
 use mathlib.Core.Path.{◌≡◌, refl, ◌∙◌}
 use mathlib.Core.Bool.{Bool, true, false, cond}
 use mathlib.Core.List.{List}
-use mathlib.Core.Option.{Option, none, some}
+use Rattle.std.specs.Prelude.{Option, None, Some}
 use Prim.Native.Nat.{ℕ, ◌≤◌, ◌<◌}
 use native.Mathlib.Nat.{zero-add}
 use native.Mathlib.Omega.{arith}
@@ -22,8 +22,8 @@ unfolding answer
 answer-short t = go (form t) refl
   where
     go : (o : Option Request) → form t ≡ o → length (answered o) ≤ room
-    go none e = omega arith
-    go (some q) e = ran-short (settings q) q.rgb q.height q.width (form-limits t q e).image
+    go None e = omega arith
+    go (Some q) e = ran-short (settings q) q.rgb q.height q.width (form-limits t q e).image
 
 -- where the room is there, the text over the front
 pub wrote-left : (old new text : List ℕ) (r : ℕ) → room ≤ length old → length text ≤ room → Wrote old new 0 text r → (r ≡ length_left text old) × (new ≡ text_left text old)

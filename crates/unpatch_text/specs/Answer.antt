@@ -1,6 +1,6 @@
 -- The output text as a function of the input text. Assumes nothing.
 use Rattle.std.specs.Prelude.{cond, List, ◌++◌, ℕ, ◌*◌, ◌/◌, leb, length}
-use Rattle.std.proofs.Math.Option.{Option, none, some}
+use Rattle.std.specs.Prelude.{Option, None, Some}
 use Rattle.buffers.specs.Region.{over}
 use Rattle.picture_limits.specs.declared.PictureSettings.{PictureSettings}
 use Rattle.picture.specs.declared.Preprocessed.{Preprocessed}
@@ -34,8 +34,8 @@ unfoldable pub ran : PictureSettings → List ℕ → ℕ → ℕ → List ℕ
 ran s rgb h w = preprocessed_text s rgb h w (preprocessed s (length rgb) h w (floats_of s h w))
 
 abbrev pub answered : Option Request → List ℕ
-answered none = outside_line
-answered (some q) = ran (settings q) q.rgb q.height q.width
+answered None = outside_line
+answered (Some q) = ran (settings q) q.rgb q.height q.width
 
 unfoldable pub answer : List ℕ → List ℕ
 answer t = answered (form t)

@@ -11,7 +11,7 @@ use crate::print::put_bytes;
 use crate::run::run;
 use picture_limits::PictureSettings;
 use picture_samples::{DEVIATION, MEAN};
-use unpatch_read::read::{Reading, read};
+use unpatch_read::read::read;
 
 // No answer is longer than this: the grid's line and 64 rows of 64 pixels.
 pub const ROOM: usize = 25094;
@@ -25,26 +25,16 @@ pub fn unpatch(input: &[u8], out: &mut [u8]) -> usize
         return 0;
     }
     let mut rgb = [0u8; 24576];
-    let found = read(input, &mut rgb);
-    match found {
-        Reading::Outside => put_bytes(b"refused\ttext\n", 0, out),
-        Reading::Request {
-            patch,
-            merge,
-            image,
-            height,
-            width,
-            bytes,
-        } => {
-            let s = PictureSettings {
-                patch_size: patch,
-                spatial_merge_size: merge,
-                image_size: image,
-                resize_rule: 1,
-                mean: MEAN,
-                deviation: DEVIATION,
-            };
-            run(s, &rgb[..bytes], height, width, out)
-        }
-    }
+    let Some(q) = read(input, &mut rgb) else {
+        return put_bytes(b"refused\ttext\n", 0, out);
+    };
+    let s = PictureSettings {
+        patch_size: q.patch,
+        spatial_merge_size: q.merge,
+        image_size: q.image,
+        resize_rule: 1,
+        mean: MEAN,
+        deviation: DEVIATION,
+    };
+    run(s, &rgb[..q.bytes], q.height, q.width, out)
 }

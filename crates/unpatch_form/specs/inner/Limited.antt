@@ -1,6 +1,6 @@
 -- A decimal held to its limit digit by digit. Assumes nothing.
 use Rattle.std.specs.Prelude.{List, ℕ}
-use Rattle.std.proofs.Math.Option.{Option}
+use Rattle.std.specs.Prelude.{Option}
 use Rattle.unpatch_form.specs.Words.{◌>>=◌}
 use Rattle.unpatch_form.specs.Decimal.{digits_from, up_to}
 

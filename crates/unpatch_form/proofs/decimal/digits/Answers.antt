@@ -1,8 +1,8 @@
--- `decimal::digits` meets its contract: the digits that are left from i on follow ones for n. Assumes nothing.
+-- `decimal::digits` meets its contract: the digits that are left from there on follow ones for n. Assumes nothing.
 use Prim.Native.Nat.{ℕ, ◌+◌, ◌*◌, ◌-◌, ◌/◌, ◌≤◌, ◌<◌}
 use native.Mathlib.Omega.{arith}
 use borrow.Author.Tests.{le-leb}
-use mathlib.Core.Path.{refl, sym, ◌∙◌}
+use mathlib.Core.Path.{◌≡◌, refl, sym, ◌∙◌}
 use lib.ListN.{length, get_or, drop_of_length-le}
 use Rattle.unpatch_form.specs.Decimal.{digits_from}
 use Rattle.unpatch_form.proofs.Decimals.{digit-next, digit_low, digit-high, past}
@@ -12,56 +12,59 @@ use Rattle.unpatch_form.proofs.decimal.digits.Goals as goal
 larger : (n d : ℕ) {most : ℕ} → most < d → most < n * 10 + d
 larger n d h = omega arith
 
-beyond : (n d : ℕ) {most : ℕ} → d ≤ most → (most - d) / 10 < n → most < n * 10 + d
-beyond n d h k = omega arith
+pub loop-b-init : goal.loop-b-init
+loop-b-init c = (omega arith, refl)
 
-within : (n d : ℕ) {most : ℕ} → d ≤ most → n ≤ (most - d) / 10 → n * 10 + d ≤ most
-within n d h k = omega arith
-
-pub loop-i-init : goal.loop-i-init
-loop-i-init c = (omega arith, omega arith, refl)
-
-pub returns-then-b-lt48 : goal.returns-then-b-lt48
-returns-then-b-lt48 c =
+pub returns-in_err-digit : goal.returns-in_err-digit
+returns-in_err-digit c =
     let s = c.args.s.now in
-    let h : c.loop-i.i < length s = omega arith in
-    rw (c.loop-i.invariant.2, digit_low s c.loop-i.n c.loop-i.i h c.if-b-lt48.true) refl
+    let h : c.loop-b.b-index < length s = omega arith in
+    let l : get_or s c.loop-b.b-index 0 < 48 = omega (arith, c.in_err-digit.ensures) in
+    rw (c.loop-b.invariant.1, digit_low s c.loop-b.n c.loop-b.b-index h l) c.from_residual.ensures
 
-pub returns-then-b-gt57 : goal.returns-then-b-gt57
-returns-then-b-gt57 c =
+pub returns-then-digit-gt9 : goal.returns-then-digit-gt9
+returns-then-digit-gt9 c =
     let s = c.args.s.now in
-    let h : c.loop-i.i < length s = omega arith in
-    rw (c.loop-i.invariant.2, digit-high s c.loop-i.n c.loop-i.i h c.if-b-lt48.false c.if-b-gt57.true) refl
+    let h : c.loop-b.b-index < length s = omega arith in
+    let e = c.in_ok-digit.ensures in
+    let k : 57 < get_or s c.loop-b.b-index 0 = omega (arith, e.1, c.if-digit-gt9.true) in
+    rw (c.loop-b.invariant.1, digit-high s c.loop-b.n c.loop-b.b-index h e.0 k) refl
 
-pub overflow_cast-d : goal.overflow_cast-d
-overflow_cast-d c = omega (arith, c.shared_slice_known-1.given c.loop-i.i)
-
-pub returns-then-most-d : goal.returns-then-most-d
-returns-then-most-d c =
+pub returns-in_err-room : goal.returns-in_err-room
+returns-in_err-room c =
     let s = c.args.s.now in
-    let h : c.loop-i.i < length s = omega arith in
-    rw (c.loop-i.invariant.2, digit-next s c.loop-i.n c.loop-i.i h c.if-b-lt48.false c.if-b-gt57.false) (sym (past _ _ _ (larger c.loop-i.n (get_or s c.loop-i.i 0 - 48) c.if-most-d.true)))
+    let h : c.loop-b.b-index < length s = omega arith in
+    let e = c.in_ok-digit.ensures in
+    let k : get_or s c.loop-b.b-index 0 ≤ 57 = omega (arith, e.1, c.if-digit-gt9.false) in
+    let m : c.args.most < get_or s c.loop-b.b-index 0 - 48 = omega (arith, c.in_err-room.ensures, c.from-d.ensures, e.1) in
+    rw (c.loop-b.invariant.1, digit-next s c.loop-b.n c.loop-b.b-index h e.0 k) (c.from_residual-in_err-room.ensures ∙ sym (past _ _ _ (larger c.loop-b.n (get_or s c.loop-b.b-index 0 - 48) m)))
 
-pub returns-then-most-d-2 : goal.returns-then-most-d-2
-returns-then-most-d-2 c =
+pub returns-then-room-n : goal.returns-then-room-n
+returns-then-room-n c =
     let s = c.args.s.now in
-    let h : c.loop-i.i < length s = omega arith in
-    rw (c.loop-i.invariant.2, digit-next s c.loop-i.n c.loop-i.i h c.if-b-lt48.false c.if-b-gt57.false) (sym (past _ _ _ (beyond c.loop-i.n (get_or s c.loop-i.i 0 - 48) c.if-most-d.false c.if-most-d-2.true)))
+    let h : c.loop-b.b-index < length s = omega arith in
+    let e = c.in_ok-digit.ensures in
+    let k : get_or s c.loop-b.b-index 0 ≤ 57 = omega (arith, e.1, c.if-digit-gt9.false) in
+    let m : c.args.most < c.loop-b.n * 10 + (get_or s c.loop-b.b-index 0 - 48) = omega (arith, c.in_ok-room.ensures, c.from-d.ensures, e.1, c.if-room-n.true) in
+    rw (c.loop-b.invariant.1, digit-next s c.loop-b.n c.loop-b.b-index h e.0 k) (sym (past _ _ _ m))
 
 pub overflow_mul-n : goal.overflow_mul-n
-overflow_mul-n c = omega arith
+overflow_mul-n c = omega (arith, c.in_ok-room.ensures, c.if-room-n.false)
 
 pub overflow_add-n : goal.overflow_add-n
-overflow_add-n c = omega arith
+overflow_add-n c = omega (arith, c.in_ok-room.ensures, c.if-room-n.false)
 
-pub loop-i-preserved : goal.loop-i-preserved
-loop-i-preserved c =
+pub loop-b-preserved : goal.loop-b-preserved
+loop-b-preserved c =
     let s = c.args.s.now in
-    let h : c.loop-i.i < length s = omega arith in
-    (omega arith, within c.loop-i.n (get_or s c.loop-i.i 0 - 48) c.if-most-d.false c.if-most-d-2.false, c.loop-i.invariant.2 ∙ digit-next s c.loop-i.n c.loop-i.i h c.if-b-lt48.false c.if-b-gt57.false)
+    let h : c.loop-b.b-index < length s = omega arith in
+    let e = c.in_ok-digit.ensures in
+    let k : get_or s c.loop-b.b-index 0 ≤ 57 = omega (arith, e.1, c.if-digit-gt9.false) in
+    let d : c.from-d.result ≡ get_or s c.loop-b.b-index 0 - 48 = omega (arith, c.from-d.ensures, e.1) in
+    (omega (arith, c.in_ok-room.ensures, c.if-room-n.false), rw d (c.loop-b.invariant.1 ∙ digit-next s c.loop-b.n c.loop-b.b-index h e.0 k))
 
 pub returns : goal.returns
 unfolding digits_from
 returns c =
     let s = c.args.s.now in
-    rw (c.loop-i.invariant.2, drop_of_length-le s {i = c.loop-i.i} (omega arith)) (simp (le-leb _ _ c.loop-i.invariant.1))
+    rw (c.loop-b.invariant.1, drop_of_length-le s {i = c.loop-b.b-index} (omega arith)) (simp (le-leb _ _ c.loop-b.invariant.0))

@@ -2,12 +2,11 @@
 use Prim.Native.Nat.{◌+◌, ◌<◌}
 use native.Mathlib.Omega.{arith}
 use mathlib.Core.Path.{◌≡◌, refl, sym, ap, ◌∙◌}
-use mathlib.Core.Option.{none, some}
+use Rattle.std.specs.Prelude.{None, Some}
 use lib.ListN.{length, take, drop}
 use lib.Seq.{length-take-le}
 use Rattle.unpatch_form.specs.Form as Form
 use Rattle.unpatch_form.specs.Form.{fields, small}
-use Rattle.unpatch_form.specs.inner.Steps.{found, found_pair}
 use Rattle.unpatch_form.proofs.Fields.{rest, three-alone, three-cut}
 use Rattle.unpatch_form.proofs.lines.three.Goals as goal
 
@@ -17,25 +16,25 @@ returns-then-e-s c = sym (three-alone c.args.s.now _ c.find-e.ensures.0 c.if-e-s
 pub slice_bounds-decimal-end : goal.slice_bounds-decimal-end
 slice_bounds-decimal-end c = sym (length-take-le _ _ c.find-e.ensures.1)
 
-pub returns-in_default : goal.returns-in_default
-returns-in_default c =
+pub returns-in_err-a : goal.returns-in_err-a
+returns-in_err-a c =
     let s = c.args.s.now in
     let h : c.find-e.result < length s = omega arith in
-    let a : small (take c.find-e.result s) ≡ none = sym c.decimal.ensures ∙ ap found c.in_default.is in
-    sym (three-cut s _ c.find-e.ensures.0 h ∙ rw a refl)
+    let a : small (take c.find-e.result s) ≡ None = sym c.decimal.ensures ∙ c.in_err-a.was in
+    c.from_residual.ensures ∙ sym (three-cut s _ c.find-e.ensures.0 h ∙ rw a refl)
 
-pub returns-in_default-two : goal.returns-in_default-two
-returns-in_default-two c =
+pub returns-in_err-b : goal.returns-in_err-b
+returns-in_err-b c =
     let s = c.args.s.now in
     let h : c.find-e.result < length s = omega arith in
-    let a : small (take c.find-e.result s) ≡ some _ = sym c.decimal.ensures ∙ ap found c.in-Value.is in
-    let b : Form.two (fields (drop (c.find-e.result + 1) s)) ≡ none = rw rest at (sym c.two.ensures ∙ ap found_pair c.in_default-two.is) in
-    sym (three-cut s _ c.find-e.ensures.0 h ∙ rw (a, b) refl)
+    let a : small (take c.find-e.result s) ≡ Some _ = sym c.decimal.ensures ∙ c.in_ok-a.was in
+    let b : Form.two (fields (drop (c.find-e.result + 1) s)) ≡ None = rw rest at (sym c.two.ensures ∙ c.in_err-b.was) in
+    c.from_residual-in_err-b.ensures ∙ sym (three-cut s _ c.find-e.ensures.0 h ∙ rw (a, b) refl)
 
 pub returns : goal.returns
 returns c =
     let s = c.args.s.now in
     let h : c.find-e.result < length s = omega arith in
-    let a : small (take c.find-e.result s) ≡ some _ = sym c.decimal.ensures ∙ ap found c.in-Value.is in
-    let b : Form.two (fields (drop (c.find-e.result + 1) s)) ≡ some _ = rw rest at (sym c.two.ensures ∙ ap found_pair c.in-Of.is) in
+    let a : small (take c.find-e.result s) ≡ Some _ = sym c.decimal.ensures ∙ c.in_ok-a.was in
+    let b : Form.two (fields (drop (c.find-e.result + 1) s)) ≡ Some _ = rw rest at (sym c.two.ensures ∙ c.in_ok-b.was) in
     sym (three-cut s _ c.find-e.ensures.0 h ∙ rw (a, b) refl)

@@ -2,11 +2,10 @@
 use Prim.Native.Nat.{◌+◌, ◌<◌}
 use native.Mathlib.Omega.{arith}
 use mathlib.Core.Path.{◌≡◌, refl, sym, ap, ◌∙◌}
-use mathlib.Core.Option.{none, some}
+use Rattle.std.specs.Prelude.{None, Some}
 use lib.ListN.{length, take, drop}
 use lib.Seq.{length-take-le}
 use Rattle.unpatch_form.specs.Form.{small}
-use Rattle.unpatch_form.specs.inner.Steps.{found}
 use Rattle.unpatch_form.proofs.Fields.{rest, two-alone, two-cut}
 use Rattle.unpatch_form.proofs.lines.two.Goals as goal
 
@@ -16,25 +15,25 @@ returns-then-e-s c = sym (two-alone c.args.s.now _ c.find-e.ensures.0 c.if-e-s.t
 pub slice_bounds-decimal-end : goal.slice_bounds-decimal-end
 slice_bounds-decimal-end c = sym (length-take-le _ _ c.find-e.ensures.1)
 
-pub returns-in_default : goal.returns-in_default
-returns-in_default c =
+pub returns-in_err-a : goal.returns-in_err-a
+returns-in_err-a c =
     let s = c.args.s.now in
     let h : c.find-e.result < length s = omega arith in
-    let a : small (take c.find-e.result s) ≡ none = sym c.decimal.ensures ∙ ap found c.in_default.is in
-    sym (two-cut s _ c.find-e.ensures.0 h ∙ rw a refl)
+    let a : small (take c.find-e.result s) ≡ None = sym c.decimal.ensures ∙ c.in_err-a.was in
+    c.from_residual.ensures ∙ sym (two-cut s _ c.find-e.ensures.0 h ∙ rw a refl)
 
-pub returns-in_default-decimal : goal.returns-in_default-decimal
-returns-in_default-decimal c =
+pub returns-in_err-b : goal.returns-in_err-b
+returns-in_err-b c =
     let s = c.args.s.now in
     let h : c.find-e.result < length s = omega arith in
-    let a : small (take c.find-e.result s) ≡ some _ = sym c.decimal.ensures ∙ ap found c.in-Value.is in
-    let b : small (drop (c.find-e.result + 1) s) ≡ none = rw rest at (sym c.decimal-2.ensures ∙ ap found c.in_default-decimal.is) in
-    sym (two-cut s _ c.find-e.ensures.0 h ∙ rw (a, b) refl)
+    let a : small (take c.find-e.result s) ≡ Some _ = sym c.decimal.ensures ∙ c.in_ok-a.was in
+    let b : small (drop (c.find-e.result + 1) s) ≡ None = rw rest at (sym c.decimal-2.ensures ∙ c.in_err-b.was) in
+    c.from_residual-in_err-b.ensures ∙ sym (two-cut s _ c.find-e.ensures.0 h ∙ rw (a, b) refl)
 
 pub returns : goal.returns
 returns c =
     let s = c.args.s.now in
     let h : c.find-e.result < length s = omega arith in
-    let a : small (take c.find-e.result s) ≡ some _ = sym c.decimal.ensures ∙ ap found c.in-Value.is in
-    let b : small (drop (c.find-e.result + 1) s) ≡ some _ = rw rest at (sym c.decimal-2.ensures ∙ ap found c.in-Value-decimal.is) in
+    let a : small (take c.find-e.result s) ≡ Some _ = sym c.decimal.ensures ∙ c.in_ok-a.was in
+    let b : small (drop (c.find-e.result + 1) s) ≡ Some _ = rw rest at (sym c.decimal-2.ensures ∙ c.in_ok-b.was) in
     sym (two-cut s _ c.find-e.ensures.0 h ∙ rw (a, b) refl)
