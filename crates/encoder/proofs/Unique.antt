@@ -8,7 +8,8 @@ use lib.ListN.{length}
 use lib.Ieee.{Float}
 use Rattle.number_floats.proofs.Unique.{one}
 use Rattle.encoder_settings.specs.declared.EncoderSettings.{EncoderSettings}
-use Rattle.encoder_settings.specs.declared.Form.{Form}
+use Rattle.encoder_settings.specs.declared.Attention.{Attention}
+use Rattle.encoder_settings.specs.declared.Attention.TheVariants.{RowWise, Plain}
 use Rattle.std.specs.Prelude.{Ok, Err}
 use Rattle.encoder_settings.specs.Settings.{Checked, accepted, merge_area, full_tables, axis_tables, checked_of, checked_plain, checked_by}
 use Rattle.encoder_steps.specs.Run.{Run, stopped, went}
@@ -20,7 +21,7 @@ use Rattle.encoder.specs.Axes.{axes_run, encoded_axes, out_axes, scratch_axes}
 use Rattle.encoder_settings.proofs.Accepted.{accepted-says}
 
 -- a call that is accepted has o token vectors
-count_of : (f : Form) (s : EncoderSettings) (gh gw patches weights : ℕ) (tables : Bool) (out scratch : ℕ) (r : Run) (n : ℕ)
+count_of : (f : Attention) (s : EncoderSettings) (gh gw patches weights : ℕ) (tables : Bool) (out scratch : ℕ) (r : Run) (n : ℕ)
     → encoded_by (checked_by f s gh gw patches weights tables out scratch) r ≡ Ok n → n ≡ gh * gw / merge_area s.picture
 count_of f s gh gw patches weights tables out scratch r n e = go (checked_by f s gh gw patches weights tables out scratch) refl r e
   where
@@ -42,7 +43,7 @@ module _ (s : EncoderSettings) (gh gw : ℕ) (w cos sin x : List Float) where
 
   pub count-is : (out scratch n : ℕ) → encoded_of s gh gw w cos sin x out scratch ≡ Ok n → n ≡ gh * gw / merge_area s.picture
   unfolding encoded_of checked_of checked_by
-  count-is out scratch n e = count_of (record { axes = false; plain = false }) s gh gw (length x) (length w) (full_tables s (length cos) (length sin)) out scratch (forward_run s gh gw w cos sin x) n e
+  count-is out scratch n e = count_of RowWise s gh gw (length x) (length w) (full_tables s (length cos) (length sin)) out scratch (forward_run s gh gw w cos sin x) n e
 
 -- the same of the call by tables of rows and of columns
 module _ (s : EncoderSettings) (gh gw : ℕ) (w row_cos row_sin column_cos column_sin x : List Float) where
@@ -59,7 +60,7 @@ module _ (s : EncoderSettings) (gh gw : ℕ) (w row_cos row_sin column_cos colum
   pub axes-count-is : (out scratch n : ℕ) → encoded_axes s gh gw w row_cos row_sin column_cos column_sin x out scratch ≡ Ok n → n ≡ gh * gw / merge_area s.picture
   unfolding encoded_axes checked_of checked_by
   axes-count-is out scratch n e =
-      count_of (record { axes = true; plain = false }) s gh gw (length x) (length w) (axis_tables s (length row_cos) (length row_sin) (length column_cos) (length column_sin)) out scratch (axes_run s gh gw w row_cos row_sin column_cos column_sin x) n e
+      count_of RowWise s gh gw (length x) (length w) (axis_tables s (length row_cos) (length row_sin) (length column_cos) (length column_sin)) out scratch (axes_run s gh gw w row_cos row_sin column_cos column_sin x) n e
 
 -- and of the call with plain attention
 module _ (s : EncoderSettings) (gh gw : ℕ) (w cos sin x : List Float) where
@@ -74,4 +75,4 @@ module _ (s : EncoderSettings) (gh gw : ℕ) (w cos sin x : List Float) where
 
   pub plain-count-is : (out scratch n : ℕ) → encoded_plain s gh gw w cos sin x out scratch ≡ Ok n → n ≡ gh * gw / merge_area s.picture
   unfolding encoded_plain checked_plain checked_by
-  plain-count-is out scratch n e = count_of (record { axes = false; plain = true }) s gh gw (length x) (length w) (full_tables s (length cos) (length sin)) out scratch (forward_run s gh gw w cos sin x) n e
+  plain-count-is out scratch n e = count_of Plain s gh gw (length x) (length w) (full_tables s (length cos) (length sin)) out scratch (forward_run s gh gw w cos sin x) n e

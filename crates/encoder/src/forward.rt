@@ -6,7 +6,7 @@ ghost use Rattle.encoder.specs.Axes.{encoded_axes, out_axes, scratch_axes, axes_
 ghost use Rattle.encoder.specs.Plain.{encoded_plain, out_plain, scratch_plain, plain_number};
 
 use encoder_run::form::forward_by;
-use encoder_settings::{EncoderSettings, Form};
+use encoder_settings::{Attention, EncoderSettings, Tables};
 use picture_limits::Refusal;
 
 // The token vectors of patches: the count of them, or a refusal.
@@ -26,13 +26,13 @@ pub fn forward(
     ensures work { scratch.new ≡ scratch_of s grid_h grid_w weights.now rope_cos.now rope_sin.now patches.now (length out.old) scratch.old }
     ensures numbers { Numbered (forward_number s grid_h grid_w weights.now rope_cos.now rope_sin.now patches.now (length out.old) (length scratch.old)) (grid_h * grid_w / merge_area s.picture) result }
 {
-    let full = Form {
-        axes: false,
-        plain: false,
+    let tables = Tables::Full {
+        cos: rope_cos,
+        sin: rope_sin,
     };
+    let attention = Attention::RowWise;
     forward_by(
-        s, patches, grid_h, grid_w, weights, rope_cos, rope_sin, scratch, out, rope_cos, rope_sin,
-        full,
+        s, patches, grid_h, grid_w, weights, tables, scratch, out, attention,
     )
 }
 
@@ -55,13 +55,15 @@ pub fn forward_axes(
     ensures work { scratch.new ≡ scratch_axes s grid_h grid_w weights.now row_cos.now row_sin.now column_cos.now column_sin.now patches.now (length out.old) scratch.old }
     ensures numbers { Numbered (axes_number s grid_h grid_w weights.now row_cos.now row_sin.now column_cos.now column_sin.now patches.now (length out.old) (length scratch.old)) (grid_h * grid_w / merge_area s.picture) result }
 {
-    let axes = Form {
-        axes: true,
-        plain: false,
+    let axes = Tables::Axes {
+        row_cos,
+        row_sin,
+        column_cos,
+        column_sin,
     };
+    let attention = Attention::RowWise;
     forward_by(
-        s, patches, grid_h, grid_w, weights, row_cos, row_sin, scratch, out, column_cos,
-        column_sin, axes,
+        s, patches, grid_h, grid_w, weights, axes, scratch, out, attention,
     )
 }
 
@@ -82,12 +84,12 @@ pub fn forward_plain(
     ensures work { scratch.new ≡ scratch_plain s grid_h grid_w weights.now rope_cos.now rope_sin.now patches.now (length out.old) scratch.old }
     ensures numbers { Numbered (plain_number s grid_h grid_w weights.now rope_cos.now rope_sin.now patches.now (length out.old) (length scratch.old)) (grid_h * grid_w / merge_area s.picture) result }
 {
-    let plain = Form {
-        axes: false,
-        plain: true,
+    let tables = Tables::Full {
+        cos: rope_cos,
+        sin: rope_sin,
     };
+    let attention = Attention::Plain;
     forward_by(
-        s, patches, grid_h, grid_w, weights, rope_cos, rope_sin, scratch, out, rope_cos, rope_sin,
-        plain,
+        s, patches, grid_h, grid_w, weights, tables, scratch, out, attention,
     )
 }

@@ -17,7 +17,10 @@ use Rattle.buffers.specs.inner.Apart.{before, after}
 use Rattle.buffers.proofs.Regions.{length-put, length-region, region-put, region-put-same}
 use Rattle.buffers.proofs.Rooms.{and_parts}
 use Rattle.buffers.proofs.Steps.{blank-region}
-use Rattle.encoder_settings.specs.declared.Form.{Form}
+use Rattle.encoder_settings.specs.declared.Tables.{Tables}
+use Rattle.encoder_settings.specs.declared.Tables.TheVariants.{Full, Axes}
+use Rattle.encoder_settings.specs.declared.Attention.{Attention}
+use Rattle.encoder_settings.specs.declared.Attention.TheVariants.{RowWise, Plain}
 use Rattle.encoder_settings.specs.Weights.{part}
 use Rattle.encoder_settings.proofs.Weights.{place_in, floats_in, stands}
 use Rattle.encoder_linear.proofs.Sums.{length-linear}
@@ -45,7 +48,7 @@ use Rattle.encoder_steps.specs.inner.Step.{LinearAt, Wrote}
 use Rattle.encoder_steps.proofs.Writes.{LinearTried, NormTried, RotateTried, AxesTried, AddTried, GateTried, RoundTried, got, long, left, linear-wrote, norm-wrote, rotate-wrote, axes-wrote, add-wrote, gate-wrote, round-wrote}
 use Rattle.encoder_blocks.specs.declared.Sizes.{Sizes}
 use Rattle.encoder_blocks.specs.Block.{n_of, m_of, parts_of, normed, square_of, inner_of, outer_of, rotated, mixed, scored, attn_run, feed_run}
-use Rattle.encoder_blocks.specs.Tables.{table_by}
+use Rattle.encoder_blocks.specs.Tables.{cos_by, sin_by}
 use Rattle.encoder_blocks.specs.inner.Live.{h_at}
 use Rattle.encoder_blocks.specs.inner.Fits.{AttendAt, BlockFits, RotationFits, ScoreRow, Attended}
 
@@ -111,8 +114,8 @@ module _ (z : Sizes) (w : List Float) {s t : List Float} {ok r : Bool} where
 
 -- ---- the rotation
 
-module _ (f : Form) (z : Sizes) where
-  places-at : {len lenc lenn lend lenm : ℕ} (x : ℕ) → RotationFits f z len lenc lenn lend lenm → x + n_of z ≤ len
+module _ (z : Sizes) where
+  places-at : {len : ℕ} {lent : Tables} (x : ℕ) → RotationFits z len lent → x + n_of z ≤ len
       → PlacesFit len x z.tokens z.heads (z.head_dim / 2) z.grid_w z.side
   places-at x k x_in =
       let half = z.head_dim / 2 in
@@ -129,14 +132,13 @@ module _ (f : Form) (z : Sizes) where
       }
 
   -- by full tables
-  rotate-at : {len lenc lenn lend lenm : ℕ} (x : ℕ) → f.axes ≡ false → RotationFits f z len lenc lenn lend lenm → x + n_of z ≤ len
+  rotate-at : {len lenc lenn : ℕ} (x : ℕ) {lent : Tables} → (let full = z.side * z.side * z.head_dim in eqb lenc full && eqb lenn full ≡ true) → RotationFits z len lent → x + n_of z ≤ len
       → RotateFits len lenc lenn x z.tokens z.heads (z.head_dim / 2) z.grid_w z.side
-  rotate-at {lenc = lenc} {lenn = lenn} x e k x_in =
+  rotate-at {lenc = lenc} {lenn = lenn} x l k x_in =
       let half = z.head_dim / 2 in
       let h : half + half ≡ z.head_dim = omega (arith, k.fourth) in
       let full = z.side * z.side * z.head_dim in
       let t : full ≡ z.side * z.side * (half + half) = ap (λ (k : ℕ). z.side * z.side * k) (sym h) in
-      let l : eqb lenc full && eqb lenn full ≡ true = rw e at k.lengths in
       let b = and_parts (eqb lenc full) (eqb lenn full) l in
       record { places = places-at x k x_in; cin = eqb-true lenc full b.0 ∙ t; sin' = eqb-true lenn full b.1 ∙ t }
 
@@ -144,12 +146,12 @@ module _ (f : Form) (z : Sizes) where
   quarter : z.head_dim / 2 / 2 ≡ z.head_dim / 4
   quarter = omega arith
 
-  axes-at : {len lenc lenn lend lenm : ℕ} (x : ℕ) → f.axes ≡ true → RotationFits f z len lenc lenn lend lenm → x + n_of z ≤ len
+  axes-at : {len lenc lenn lend lenm : ℕ} (x : ℕ) {lent : Tables}
+      → (let n = z.side * (z.head_dim / 4) in (eqb lenc n && eqb lenn n) && (eqb lend n && eqb lenm n) ≡ true) → RotationFits z len lent → x + n_of z ≤ len
       → AxesFits len lenc lenn lend lenm x z.tokens z.heads (z.head_dim / 2) z.grid_w z.side
-  axes-at {lenc = lenc} {lenn = lenn} {lend = lend} {lenm = lenm} x e k x_in =
+  axes-at {lenc = lenc} {lenn = lenn} {lend = lend} {lenm = lenm} x l k x_in =
       let n = z.side * (z.head_dim / 4) in
       let t : n ≡ z.side * (z.head_dim / 2 / 2) = ap (λ (k : ℕ). z.side * k) (sym quarter) in
-      let l : (eqb lenc n && eqb lenn n) && (eqb lend n && eqb lenm n) ≡ true = rw e at k.lengths in
       let b = and_parts (eqb lenc n && eqb lenn n) (eqb lend n && eqb lenm n) l in
       let r = and_parts (eqb lenc n) (eqb lenn n) b.0 in
       let c = and_parts (eqb lend n) (eqb lenm n) b.1 in
@@ -162,24 +164,19 @@ module _ (f : Form) (z : Sizes) where
         columns-sin = eqb-true lenm n c.1 ∙ t;
       }
 
-  module _ (cos sin column_cos column_sin : List Float) where
-    abbrev Rotated : List Float → List Float → ℕ → Bool → Bool → Type 0
-    Rotated s t x ok r = Wrote s t x (rotated z (table_by f z cos column_cos) (table_by f z sin column_sin) (region s x (n_of z))) ok r
+  -- what is said of the call by either
+  abbrev pub Turned : Tables → ℕ → List Float → List Float → Bool → Bool → Type 0
+  Turned (Full cos sin) x s t ok r = RotateTried cos.now sin.now x z.tokens z.heads (z.head_dim / 2) z.grid_w z.side s t ok r
+  Turned (Axes row_cos row_sin column_cos column_sin) x s t ok r =
+      AxesTried row_cos.now row_sin.now column_cos.now column_sin.now x z.tokens z.heads (z.head_dim / 2) z.grid_w z.side s t ok r
 
-    abbrev Fit : List Float → Type 0
-    Fit s = RotationFits f z (length s) (length cos) (length sin) (length column_cos) (length column_sin)
-
-    pub full-rotated : {s t : List Float} {ok r : Bool} (x : ℕ) → Fit s → x + n_of z ≤ length s → f.axes ≡ false
-        → RotateTried cos sin x z.tokens z.heads (z.head_dim / 2) z.grid_w z.side s t ok r → Rotated s t x ok r
-    unfolding rotated
-    full-rotated x k x_in e T =
-        rw e (rw (halves-whole z k.whole k.fourth) at (rotate-wrote cos sin x z.tokens z.heads (z.head_dim / 2) z.grid_w z.side (rotate-at x e k x_in) T))
-
-    pub axes-rotated : {s t : List Float} {ok r : Bool} (x : ℕ) → Fit s → x + n_of z ≤ length s → f.axes ≡ true
-        → AxesTried cos sin column_cos column_sin x z.tokens z.heads (z.head_dim / 2) z.grid_w z.side s t ok r → Rotated s t x ok r
-    unfolding rotated
-    axes-rotated x k x_in e T =
-        rw (e, ← quarter) (rw (halves-whole z k.whole k.fourth) at (axes-wrote cos sin column_cos column_sin x z.tokens z.heads (z.head_dim / 2) z.grid_w z.side (axes-at x e k x_in) T))
+  pub turned : (lent : Tables) {s t : List Float} {ok r : Bool} (x : ℕ) → RotationFits z (length s) lent → x + n_of z ≤ length s → Turned lent x s t ok r
+      → Wrote s t x (rotated z (cos_by z lent) (sin_by z lent) (region s x (n_of z))) ok r
+  unfolding rotated
+  turned (Full cos sin) x k x_in T =
+      rw (halves-whole z k.whole k.fourth) at (rotate-wrote cos.now sin.now x z.tokens z.heads (z.head_dim / 2) z.grid_w z.side (rotate-at x k.lengths k x_in) T)
+  turned (Axes row_cos row_sin column_cos column_sin) x k x_in T =
+      rw (← quarter) (rw (halves-whole z k.whole k.fourth) at (axes-wrote row_cos.now row_sin.now column_cos.now column_sin.now x z.tokens z.heads (z.head_dim / 2) z.grid_w z.side (axes-at x k.lengths k x_in) T))
 
 -- ---- the attention
 
@@ -221,13 +218,13 @@ attend-at z f b i =
     }
 
 -- row-wise
-pub row-wise : (f : Form) (z : Sizes) (s : List Float) (row : ℕ) {t : List Float} {r : Bool} → f.plain ≡ false → AttendAt z (length s) → ScoreRow f z (length s) row → Attend z row s t r → Attended z s t r
+pub row-wise : (z : Sizes) (s : List Float) (row : ℕ) {t : List Float} {r : Bool} → AttendAt z (length s) → ScoreRow RowWise z (length s) row → Attend z row s t r → Attended z s t r
 unfolding scored mixed
-row-wise form z s row {t} p f sc T =
+row-wise z s row {t} f sc T =
     let n = n_of z in
     let g = f.scratch in
     let behind = sc.behind in
-    let i : row + z.tokens ≤ length s = rw p at sc.inside in
+    let i : row + z.tokens ≤ length s = sc.inside in
     let fits = attend-fits (attend-at z f behind i) in
     let q = region s (2 * n) n in
     let k = region s (3 * n) n in
@@ -248,8 +245,8 @@ row-wise form z s row {t} p f sc T =
     }
 
 -- and plain: what is said of the call, and that it leaves the same
-abbrev Plain : Sizes → ℕ → List Float → List Float → Bool → Type 0
-Plain z row s t r =
+abbrev PlainSaid : Sizes → ℕ → List Float → List Float → Bool → Type 0
+PlainSaid z row s t r =
     let n = n_of z in
     let N = floats z.tokens z.heads z.head_dim in
     let fits = plain_fits (length s) (2 * n) (3 * n) (4 * n) row (5 * n) z.tokens z.heads z.head_dim in
@@ -284,13 +281,13 @@ plain_at z f b i =
       kout = before (omega arith);
     }
 
-pub plain-wise : (f : Form) (z : Sizes) (s : List Float) (row : ℕ) {t : List Float} {r : Bool} → f.plain ≡ true → AttendAt z (length s) → ScoreRow f z (length s) row → Plain z row s t r → Attended z s t r
+pub plain-wise : (z : Sizes) (s : List Float) (row : ℕ) {t : List Float} {r : Bool} → AttendAt z (length s) → ScoreRow Plain z (length s) row → PlainSaid z row s t r → Attended z s t r
 unfolding scored mixed
-plain-wise form z s row {t} p f sc T =
+plain-wise z s row {t} f sc T =
     let n = n_of z in
     let g = f.scratch in
     let behind = sc.behind in
-    let i : row + z.tokens * z.tokens ≤ length s = rw p at sc.inside in
+    let i : row + z.tokens * z.tokens ≤ length s = sc.inside in
     let fits = plain_fits_lem (plain_at z f behind i) in
     let w : floats z.tokens z.heads z.head_dim ≡ n = ap (λ (k : ℕ). z.tokens * k) f.whole in
     let q = region s (2 * n) n in

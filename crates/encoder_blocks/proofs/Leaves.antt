@@ -13,10 +13,11 @@ use Rattle.encoder_steps.specs.Run.{Run, stopped, went, stages_finite, answer, r
 use Rattle.encoder_steps.proofs.Writes.{answer-went, then-went}
 use Rattle.encoder_steps.proofs.Fronts.{front-is}
 use Rattle.encoder_blocks.specs.declared.Sizes.{Sizes}
-use Rattle.encoder_settings.specs.declared.Form.{Form}
+use Rattle.encoder_settings.specs.declared.Tables.{Tables}
+use Rattle.encoder_settings.specs.declared.Attention.{Attention}
 use Rattle.encoder_settings.specs.Weights.{nth_layer}
 use Rattle.encoder_blocks.specs.Block.{n_of, m_of, normed, inner_of, outer_of, attn_run, feed_run, block_run, layers_run}
-use Rattle.encoder_blocks.specs.Tables.{table_by}
+use Rattle.encoder_blocks.specs.Tables.{cos_by, sin_by}
 use Rattle.encoder_blocks.specs.inner.Live.{h_at}
 use Rattle.encoder_blocks.specs.inner.Room.{layers_fit}
 use Rattle.encoder_blocks.specs.inner.Fits.{LayersFits}
@@ -42,17 +43,17 @@ layers-long z w cos sin (suc n) h l k e =
     block-long z v cos sin g.0 l g.1
 
 -- where all fits, the run is what the call says and leaves at the front
-pub layers-done : (f : Form) (z : Sizes) (s t w cos sin column_cos column_sin : List Float) (row count : ℕ) (r : Bool)
-    → LayersFits f z (length s) (length w) (length cos) (length sin) (length column_cos) (length column_sin) row count
-    → (let C = table_by f z cos column_cos in
-    let S = table_by f z sin column_sin in
+pub layers-done : (f : Attention) (z : Sizes) (s t w : List Float) (lent : Tables) (row count : ℕ) (r : Bool)
+    → LayersFits f z (length s) (length w) lent row count
+    → (let C = cos_by z lent in
+    let S = sin_by z lent in
     let R = layers_run z w C S count (h_at z s) in
-    let fits = layers_fit f z (length s) (length w) (length cos) (length sin) (length column_cos) (length column_sin) row count in
+    let fits = layers_fit f z (length s) (length w) lent row count in
     r ≡ (fits && ran R) → t ≡ cond fits (handed R s) s → answer r (h_at z t) ≡ R)
-layers-done f z s t w cos sin column_cos column_sin row count r k e g =
+layers-done f z s t w lent row count r k e g =
     let b = layers-fit z f k in
-    let C = table_by f z cos column_cos in
-    let S = table_by f z sin column_sin in
+    let C = cos_by z lent in
+    let S = sin_by z lent in
     let R = layers_run z w C S count (h_at z s) in
     let l : n_of z ≤ length s = omega (arith, k.rotation.scratch) in
     let e' : r ≡ ran R = e ∙ ap (λ c. c && ran R) b in

@@ -10,7 +10,8 @@ use lib.Dec.{leb, ltb, eqb}
 use Rattle.buffers.specs.inner.Room.{inside}
 use Rattle.buffers.proofs.Rooms.{and_parts, two}
 use Rattle.encoder_blocks.specs.declared.Sizes.{Sizes}
-use Rattle.encoder_settings.specs.declared.Form.{Form}
+use Rattle.encoder_settings.specs.declared.Tables.{Tables}
+use Rattle.encoder_settings.specs.declared.Attention.{Attention}
 use Rattle.encoder_settings.specs.Weights.{floats}
 use Rattle.encoder_blocks.specs.Block.{n_of, m_of, parts_of}
 use Rattle.encoder_blocks.specs.inner.Room.{sizes_fit, tables_fit, score_floats, lengths_fit, layers_fit}
@@ -76,11 +77,11 @@ module _ (z : Sizes) where
       (two (two (two (eq-eqb (z.head_dim % 4) 0 f.fourth) (eq-eqb (z.heads * z.head_dim) z.hidden f.whole)) (le-leb z.tokens (z.side * z.grid_w) f.high))
       (two (le-leb z.inter 8192 f.inner) (lt-ltb 0 z.grid_w f.some))))))
 
-  module _ (f : Form) {lens lenw lenc lenn lend lenm row count : ℕ} where
-    pub layers-say : layers_fit f z lens lenw lenc lenn lend lenm row count ≡ true → LayersFits f z lens lenw lenc lenn lend lenm row count
+  module _ (f : Attention) {lens lenw : ℕ} {lent : Tables} {row count : ℕ} where
+    pub layers-say : layers_fit f z lens lenw lent row count ≡ true → LayersFits f z lens lenw lent row count
     unfolding layers_fit lengths_fit
     layers-say h =
-        let tables = tables_fit f z lenc lenn lend lenm in
+        let tables = tables_fit z lent in
         let held = leb (7 * n_of z + 2 * m_of z) row && inside lens row (score_floats f z) in
         let p = and_parts (sizes_fit z) ((tables && (held && leb z.hidden lens)) && inside lenw 0 (count * floats (parts_of z))) h in
         let a = and_parts (tables && (held && leb z.hidden lens)) (inside lenw 0 (count * floats (parts_of z))) p.1 in
@@ -110,13 +111,13 @@ module _ (z : Sizes) where
           scores = record { behind = behind; inside = within };
         }
 
-    sizes-of : LayersFits f z lens lenw lenc lenn lend lenm row count → SizesFit z
+    sizes-of : LayersFits f z lens lenw lent row count → SizesFit z
     sizes-of k = let t = k.rotation in record { whole = t.whole; fourth = t.fourth; narrow = t.narrow; small = t.small; tables = t.tables; some = t.some; wide = t.wide; high = t.high; inner = k.inner }
 
-    pub layers-products : LayersFits f z lens lenw lenc lenn lend lenm row count → Products z
+    pub layers-products : LayersFits f z lens lenw lent row count → Products z
     layers-products k = products z (sizes-of k)
 
-    pub layers-fit : LayersFits f z lens lenw lenc lenn lend lenm row count → layers_fit f z lens lenw lenc lenn lend lenm row count ≡ true
+    pub layers-fit : LayersFits f z lens lenw lent row count → layers_fit f z lens lenw lent row count ≡ true
     unfolding layers_fit lengths_fit
     layers-fit k =
         let t = k.rotation in

@@ -6,7 +6,7 @@ use Prim.Native.Nat.{ℕ, ◌+◌}
 use native.Mathlib.Numerals.{add-one}
 use lib.Ieee.{Float}
 use Rattle.encoder_blocks.specs.declared.Sizes.{Sizes}
-use Rattle.encoder_settings.specs.declared.Form.{Form}
+use Rattle.encoder_settings.specs.declared.Tables.{Tables}
 use Rattle.encoder_settings.specs.Weights.{floats, nth_layer}
 use Rattle.encoder_blocks.specs.Block.{parts_of, block_run, layers_run}
 use Rattle.encoder_steps.specs.Run.{answer}
@@ -22,5 +22,5 @@ layers-turn z w cos sin h p hs hs' l ok r d e f =
     rw add-one (answer-then ok r hs hs' (block_run z p cos sin) (sym f) ∙ rw (e, d))
 
 -- what the block asks, at a layer's part of the weights
-pub block_at : (f : Form) (z : Sizes) {lens lenw : ℕ} (lenc lenn lend lenm : ℕ) → lenw ≡ floats (parts_of z) → RotationFits f z lens lenc lenn lend lenm → BlockFits z lens lenw
-block_at f z lenc lenn lend lenm l k = record { scratch = k.scratch; weights = l; whole = k.whole; small = k.small; dim_in = k.dim_in }
+pub block_at : (z : Sizes) {lens lenw : ℕ} (lent : Tables) → lenw ≡ floats (parts_of z) → RotationFits z lens lent → BlockFits z lens lenw
+block_at z lent l k = record { scratch = k.scratch; weights = l; whole = k.whole; small = k.small; dim_in = k.dim_in }

@@ -7,18 +7,19 @@ use lib.ListN.{length}
 use lib.Ieee.{Float}
 use Rattle.encoder_steps.specs.Run.{ran, handed}
 use Rattle.encoder_blocks.specs.Block.{layers_run}
-use Rattle.encoder_settings.specs.declared.Form.{Form}
-use Rattle.encoder_blocks.specs.Tables.{table_by}
+use Rattle.encoder_settings.specs.declared.Tables.{Tables}
+use Rattle.encoder_settings.specs.declared.Attention.{Attention}
+use Rattle.encoder_blocks.specs.Tables.{cos_by, sin_by}
 use Rattle.encoder_blocks.specs.inner.Live.{h_at}
 use Rattle.encoder_blocks.specs.inner.Room.{layers_fit}
 use Rattle.encoder_blocks.specs.declared.Sizes.{Sizes}
 use Rattle.number_floats.proofs.Unique.{one}
 
-module _ (f : Form) (s : List Float) (z : Sizes) (row : ℕ) (w : List Float) (count : ℕ) (cos sin column_cos column_sin : List Float) where
+module _ (f : Attention) (s : List Float) (z : Sizes) (row : ℕ) (w : List Float) (count : ℕ) (lent : Tables) where
   abbrev pub Layers : Bool → List Float → Type 0
   Layers r s' =
-      let R = layers_run z w (table_by f z cos column_cos) (table_by f z sin column_sin) count (h_at z s) in
-      let fits = layers_fit f z (length s) (length w) (length cos) (length sin) (length column_cos) (length column_sin) row count in
+      let R = layers_run z w (cos_by z lent) (sin_by z lent) count (h_at z s) in
+      let fits = layers_fit f z (length s) (length w) lent row count in
       (r ≡ (fits && ran R)) × (s' ≡ cond fits (handed R s) s)
 
   pub layers-unique : (r r' : Bool) (s' s'' : List Float) → Layers r s' → Layers r' s'' → (r ≡ r') × (s' ≡ s'')

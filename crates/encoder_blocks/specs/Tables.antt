@@ -1,10 +1,15 @@
--- The full tables that the rotation goes by: those that are lent, or, where the form says axes, those for which the lent tables of
--- rows and of columns stand. Assumes nothing.
+-- The full tables that the rotation goes by: those that are lent, or those for which the lent tables of rows and of columns stand.
+-- Assumes nothing.
 use Rattle.std.specs.Prelude.{List, ◌/◌, Float}
-use Rattle.encoder_settings.specs.declared.Form.{Form}
-use Rattle.encoder_rotation.specs.Axes.{table_of}
+use Rattle.encoder_settings.specs.declared.Tables.{Tables}
+use Rattle.encoder_settings.specs.declared.Tables.TheVariants.{Full, Axes}
+use Rattle.encoder_rotation.specs.Axes.{expand}
 use Rattle.encoder_blocks.specs.declared.Sizes.{Sizes}
 
--- of a, a full table or one of rows, and b, with axes one of columns
-abbrev pub table_by : Form → Sizes → List Float → List Float → List Float
-table_by f z a b = table_of f.axes z.side (z.head_dim / 4) a b
+abbrev pub cos_by : Sizes → Tables → List Float
+cos_by z (Full cos sin) = cos.now
+cos_by z (Axes row_cos row_sin column_cos column_sin) = expand z.side (z.head_dim / 4) row_cos.now column_cos.now
+
+abbrev pub sin_by : Sizes → Tables → List Float
+sin_by z (Full cos sin) = sin.now
+sin_by z (Axes row_cos row_sin column_cos column_sin) = expand z.side (z.head_dim / 4) row_sin.now column_sin.now

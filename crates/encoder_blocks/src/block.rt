@@ -5,7 +5,7 @@ ghost use Rattle.buffers.specs.Region.{region};
 ghost use Rattle.encoder_steps.specs.Run.{answer};
 ghost use Rattle.encoder_steps.specs.inner.Step.{Wrote};
 ghost use Rattle.encoder_blocks.specs.Block.{n_of, rotated, attn_run, feed_run, block_run};
-ghost use Rattle.encoder_blocks.specs.Tables.{table_by};
+ghost use Rattle.encoder_blocks.specs.Tables.{cos_by, sin_by};
 ghost use Rattle.encoder_blocks.specs.inner.Live.{h_at};
 ghost use Rattle.encoder_blocks.specs.inner.Fits.{AttendAt, BlockFits, RotationFits, ScoreRow, Attended};
 
@@ -14,49 +14,59 @@ use buffers::part;
 use encoder_attention::attention::attend;
 use encoder_kernels::finite::finite;
 use encoder_plain::plain::attend_plain;
-use encoder_settings::Form;
+use encoder_settings::{Attention, Tables};
 use encoder_steps::{
     add_finite, gate_finite, linear_finite, norm_finite, rotate_axes_finite, rotate_finite,
     round_finite,
 };
 
 // The rotation of the tokens at x, by full tables or by those of rows and of columns.
-pub(crate) fn rotate_by(
-    s: &mut [f32],
-    x: usize,
-    z: Sizes,
-    cos: &[f32],
-    sin: &[f32],
-    column_cos: &[f32],
-    column_sin: &[f32],
-    f: Form,
-    ok: bool,
-) -> bool
-    requires rotation_fits { RotationFits f z (length s.old) (length cos.now) (length sin.now) (length column_cos.now) (length column_sin.now) }
+pub(crate) fn rotate_by(s: &mut [f32], x: usize, z: Sizes, tables: Tables, ok: bool) -> bool
+    requires rotation_fits { RotationFits z (length s.old) tables }
     requires z_in_bounds { x + n_of z ≤ length s.old }
-    ensures { Wrote s.old s.new x (rotated z (table_by f z cos.now column_cos.now) (table_by f z sin.now column_sin.now) (region s.old x (n_of z))) ok result }
+    ensures { Wrote s.old s.new x (rotated z (cos_by z tables.entry) (sin_by z tables.entry) (region s.old x (n_of z))) ok result }
 {
     let t = z.tokens;
     let half = z.head_dim / 2;
-    if f.axes {
-        return rotate_axes_finite(
-            s, x, t, z.heads, half, z.grid_w, z.side, cos, sin, column_cos, column_sin, ok,
-        );
+    match tables {
+        Tables::Full { cos, sin } => {
+            rotate_finite(s, x, t, z.heads, half, z.grid_w, z.side, cos, sin, ok)
+        }
+        Tables::Axes {
+            row_cos,
+            row_sin,
+            column_cos,
+            column_sin,
+        } => rotate_axes_finite(
+            s, x, t, z.heads, half, z.grid_w, z.side, row_cos, row_sin, column_cos, column_sin, ok,
+        ),
     }
-    rotate_finite(s, x, t, z.heads, half, z.grid_w, z.side, cos, sin, ok)
 }
 
 // The attention of queries, keys and values at 2n, 3n and 4n, its sums at 5n: row-wise, with the keys turned where the norm
 // stood, or plain, with the matrix of scores at row.
-pub(crate) fn attend_by(s: &mut [f32], z: Sizes, row: usize, f: Form) -> bool
+pub(crate) fn attend_by(s: &mut [f32], z: Sizes, row: usize, f: Attention) -> bool
     requires attend_at { AttendAt z (length s.old) }
     requires score_row { ScoreRow f z (length s.old) row }
     ensures { Attended z s.old s.new result }
 {
     let t = z.tokens;
     let n = t * z.hidden;
-    if f.plain {
-        return attend_plain(
+    match f {
+        Attention::RowWise => attend(
+            s,
+            2 * n,
+            3 * n,
+            4 * n,
+            n,
+            row,
+            5 * n,
+            t,
+            z.heads,
+            z.head_dim,
+            z.scaling,
+        ),
+        Attention::Plain => attend_plain(
             s,
             2 * n,
             3 * n,
@@ -67,21 +77,8 @@ pub(crate) fn attend_by(s: &mut [f32], z: Sizes, row: usize, f: Form) -> bool
             z.heads,
             z.head_dim,
             z.scaling,
-        );
+        ),
     }
-    attend(
-        s,
-        2 * n,
-        3 * n,
-        4 * n,
-        n,
-        row,
-        5 * n,
-        t,
-        z.heads,
-        z.head_dim,
-        z.scaling,
-    )
 }
 
 // The first half: norm, q, k, v, rotation, attention, o, residual. The attention may write where the norm stood, which
@@ -91,16 +88,13 @@ pub(crate) fn attn(
     z: Sizes,
     row: usize,
     w: &[f32],
-    cos: &[f32],
-    sin: &[f32],
-    column_cos: &[f32],
-    column_sin: &[f32],
-    f: Form,
+    tables: Tables,
+    f: Attention,
 ) -> bool
     requires block_fits { BlockFits z (length s.old) (length w.now) }
-    requires rotation_fits { RotationFits f z (length s.old) (length cos.now) (length sin.now) (length column_cos.now) (length column_sin.now) }
+    requires rotation_fits { RotationFits z (length s.old) tables }
     requires score_row { ScoreRow f z (length s.old) row }
-    ensures { answer result (h_at z s.new) ≡ attn_run z w.now (table_by f z cos.now column_cos.now) (table_by f z sin.now column_sin.now) (h_at z s.old) }
+    ensures { answer result (h_at z s.new) ≡ attn_run z w.now (cos_by z tables.entry) (sin_by z tables.entry) (h_at z s.old) }
 {
     let t = z.tokens;
     let dim = z.hidden;
@@ -118,8 +112,8 @@ pub(crate) fn attn(
     let ok = linear_finite(s, n, qs, t, dim, dim, w, q, ok);
     let ok = linear_finite(s, n, ks, t, dim, dim, w, k, ok);
     let ok = linear_finite(s, n, vs, t, dim, dim, w, v, ok);
-    let ok = rotate_by(s, qs, z, cos, sin, column_cos, column_sin, f, ok);
-    let ok = rotate_by(s, ks, z, cos, sin, column_cos, column_sin, f, ok);
+    let ok = rotate_by(s, qs, z, tables, ok);
+    let ok = rotate_by(s, ks, z, tables, ok);
     let scored = attend_by(s, z, row, f);
     let summed = finite(part(s, sums, n));
     let ok = linear_finite(s, sums, os, t, dim, dim, w, o, (ok & scored) & summed);
@@ -158,18 +152,15 @@ pub(crate) fn pixtral_block_forward(
     z: Sizes,
     row: usize,
     w: &[f32],
-    cos: &[f32],
-    sin: &[f32],
-    column_cos: &[f32],
-    column_sin: &[f32],
-    f: Form,
+    tables: Tables,
+    f: Attention,
 ) -> bool
     requires block_fits { BlockFits z (length s.old) (length w.now) }
-    requires rotation_fits { RotationFits f z (length s.old) (length cos.now) (length sin.now) (length column_cos.now) (length column_sin.now) }
+    requires rotation_fits { RotationFits z (length s.old) tables }
     requires score_row { ScoreRow f z (length s.old) row }
-    ensures { answer result (h_at z s.new) ≡ block_run z w.now (table_by f z cos.now column_cos.now) (table_by f z sin.now column_sin.now) (h_at z s.old) }
+    ensures { answer result (h_at z s.new) ≡ block_run z w.now (cos_by z tables.entry) (sin_by z tables.entry) (h_at z s.old) }
 {
-    let a = attn(s, z, row, w, cos, sin, column_cos, column_sin, f);
+    let a = attn(s, z, row, w, tables, f);
     let b = feed(s, z, w);
     a & b
 }

@@ -2,7 +2,7 @@
 ghost use Rattle.std.specs.Prelude.{◌≡◌, ◌&&◌, cond, length};
 ghost use Rattle.encoder_steps.specs.Run.{answer, ran, handed};
 ghost use Rattle.encoder_blocks.specs.Block.{layers_run};
-ghost use Rattle.encoder_blocks.specs.Tables.{table_by};
+ghost use Rattle.encoder_blocks.specs.Tables.{cos_by, sin_by};
 ghost use Rattle.encoder_blocks.specs.inner.Live.{h_at};
 ghost use Rattle.encoder_blocks.specs.inner.Room.{layers_fit};
 ghost use Rattle.encoder_blocks.specs.inner.Fits.{LayersFits};
@@ -11,7 +11,7 @@ use crate::Sizes;
 use crate::block::pixtral_block_forward;
 use crate::room::{layer_floats, layers_fit};
 use buffers::{clear, clear_at, part};
-use encoder_settings::Form;
+use encoder_settings::{Attention, Tables};
 
 // The layers, whose weights are w.
 pub(crate) fn each_layer(
@@ -20,29 +20,16 @@ pub(crate) fn each_layer(
     row: usize,
     w: &[f32],
     count: usize,
-    cos: &[f32],
-    sin: &[f32],
-    column_cos: &[f32],
-    column_sin: &[f32],
-    f: Form,
+    tables: Tables,
+    f: Attention,
 ) -> bool
-    requires { LayersFits f z (length s.old) (length w.now) (length cos.now) (length sin.now) (length column_cos.now) (length column_sin.now) row count }
-    ensures { answer result (h_at z s.new) ≡ layers_run z w.now (table_by f z cos.now column_cos.now) (table_by f z sin.now column_sin.now) count (h_at z s.old) }
+    requires { LayersFits f z (length s.old) (length w.now) tables row count }
+    ensures { answer result (h_at z s.new) ≡ layers_run z w.now (cos_by z tables.entry) (sin_by z tables.entry) count (h_at z s.old) }
 {
     let size = layer_floats(z);
     let mut ok = true;
     for l in 0..count {
-        let r = pixtral_block_forward(
-            s,
-            z,
-            row,
-            part(w, l * size, size),
-            cos,
-            sin,
-            column_cos,
-            column_sin,
-            f,
-        );
+        let r = pixtral_block_forward(s, z, row, part(w, l * size, size), tables, f);
         ok = ok & r;
     }
     ok
@@ -56,30 +43,16 @@ pub fn layers(
     row: usize,
     w: &[f32],
     count: usize,
-    cos: &[f32],
-    sin: &[f32],
-    column_cos: &[f32],
-    column_sin: &[f32],
-    f: Form,
+    tables: Tables,
+    f: Attention,
 ) -> bool
-    ensures value { result ≡ (layers_fit f z (length s.old) (length w.now) (length cos.now) (length sin.now) (length column_cos.now) (length column_sin.now) row count
-        && ran (layers_run z w.now (table_by f z cos.now column_cos.now) (table_by f z sin.now column_sin.now) count (h_at z s.old))) }
-    ensures s_after { s.new ≡ cond (layers_fit f z (length s.old) (length w.now) (length cos.now) (length sin.now) (length column_cos.now) (length column_sin.now) row count)
-        (handed (layers_run z w.now (table_by f z cos.now column_cos.now) (table_by f z sin.now column_sin.now) count (h_at z s.old)) s.old) s.old }
+    ensures value { result ≡ (layers_fit f z (length s.old) (length w.now) tables.entry row count
+        && ran (layers_run z w.now (cos_by z tables.entry) (sin_by z tables.entry) count (h_at z s.old))) }
+    ensures s_after { s.new ≡ cond (layers_fit f z (length s.old) (length w.now) tables.entry row count)
+        (handed (layers_run z w.now (cos_by z tables.entry) (sin_by z tables.entry) count (h_at z s.old)) s.old) s.old }
 {
-    if layers_fit(
-        z,
-        s.len(),
-        w.len(),
-        cos.len(),
-        sin.len(),
-        column_cos.len(),
-        column_sin.len(),
-        row,
-        count,
-        f,
-    ) {
-        let ok = each_layer(s, z, row, w, count, cos, sin, column_cos, column_sin, f);
+    if layers_fit(z, s.len(), w.len(), tables, row, count, f) {
+        let ok = each_layer(s, z, row, w, count, tables, f);
         if ok {
             let n = z.tokens * z.hidden;
             clear_at(s, n, s.len() - n);

@@ -7,7 +7,7 @@ ghost use Rattle.encoder_blocks.specs.inner.Fits.{Products};
 
 use crate::Sizes;
 use buffers::room::{inside, rows_inside};
-use encoder_settings::Form;
+use encoder_settings::{Attention, Tables};
 
 // No product of the sizes is large, and the heads make up the hidden size, in widths of four quarters.
 pub(crate) fn sizes_fit(z: Sizes) -> bool
@@ -40,36 +40,39 @@ pub(crate) fn layer_floats(z: Sizes) -> usize
     2 * h + 4 * (h * h) + 2 * (i * h) + h * i
 }
 
-// Cosines and sines have the lengths of full tables, or, with axes, those of rows and those of columns.
-pub(crate) fn tables_fit(
-    z: Sizes,
-    lenc: usize,
-    lenn: usize,
-    lend: usize,
-    lenm: usize,
-    f: Form,
-) -> bool
+// Cosines and sines have the lengths of full tables, or those of rows and those of columns have theirs.
+pub(crate) fn tables_fit(z: Sizes, tables: Tables) -> bool
     requires { Products z }
-    ensures { result ≡ tables_fit f z lenc lenn lend lenm }
+    ensures { result ≡ tables_fit z tables.entry }
 {
-    if f.axes {
-        let n = z.side * (z.head_dim / 4);
-        return ((lenc == n) & (lenn == n)) & ((lend == n) & (lenm == n));
+    match tables {
+        Tables::Full { cos, sin } => {
+            let n = z.side * z.side * z.head_dim;
+            (cos.len() == n) & (sin.len() == n)
+        }
+        Tables::Axes {
+            row_cos,
+            row_sin,
+            column_cos,
+            column_sin,
+        } => {
+            let n = z.side * (z.head_dim / 4);
+            ((row_cos.len() == n) & (row_sin.len() == n))
+                & ((column_cos.len() == n) & (column_sin.len() == n))
+        }
     }
-    let n = z.side * z.side * z.head_dim;
-    (lenc == n) & (lenn == n)
 }
 
 // How many floats the scores take.
-pub(crate) fn score_floats(z: Sizes, f: Form) -> usize
+pub(crate) fn score_floats(z: Sizes, f: Attention) -> usize
     requires { Products z }
     ensures { result ≡ score_floats f z }
 {
     let t = z.tokens;
-    if f.plain {
-        return t * t;
+    match f {
+        Attention::RowWise => t,
+        Attention::Plain => t * t,
     }
-    t
 }
 
 // Tables, scratch and weights are long enough.
@@ -77,43 +80,37 @@ pub(crate) fn lengths_fit(
     z: Sizes,
     lens: usize,
     lenw: usize,
-    lenc: usize,
-    lenn: usize,
-    lend: usize,
-    lenm: usize,
+    tables: Tables,
     row: usize,
     count: usize,
-    f: Form,
+    f: Attention,
 ) -> bool
     requires { Products z }
-    ensures { result ≡ lengths_fit f z lens lenw lenc lenn lend lenm row count }
+    ensures { result ≡ lengths_fit f z lens lenw tables.entry row count }
 {
     let t = z.tokens;
     let inter = z.inter;
     let dim = z.hidden;
     let used = 7 * (t * dim) + 2 * (t * inter);
     let size = layer_floats(z);
-    let tables = tables_fit(z, lenc, lenn, lend, lenm, f);
+    let fit = tables_fit(z, tables);
     let places = ((used <= row) & inside(lens, row, score_floats(z, f))) & (dim <= lens);
-    (tables & places) & rows_inside(lenw, 0, count, size)
+    (fit & places) & rows_inside(lenw, 0, count, size)
 }
 
 pub(crate) fn layers_fit(
     z: Sizes,
     lens: usize,
     lenw: usize,
-    lenc: usize,
-    lenn: usize,
-    lend: usize,
-    lenm: usize,
+    tables: Tables,
     row: usize,
     count: usize,
-    f: Form,
+    f: Attention,
 ) -> bool
-    ensures { result ≡ layers_fit f z lens lenw lenc lenn lend lenm row count }
+    ensures { result ≡ layers_fit f z lens lenw tables.entry row count }
 {
     if sizes_fit(z) {
-        return lengths_fit(z, lens, lenw, lenc, lenn, lend, lenm, row, count, f);
+        return lengths_fit(z, lens, lenw, tables, row, count, f);
     }
     false
 }

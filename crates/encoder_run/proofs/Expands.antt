@@ -14,14 +14,11 @@ use Rattle.buffers.specs.Rows.{rows, all}
 use Rattle.buffers.specs.Region.{region}
 use Rattle.buffers.proofs.Lists.{equal-rows, all-ext}
 use Rattle.buffers.proofs.Rooms.{and_parts}
-use Rattle.encoder_settings.specs.declared.Form.{Form}
 use Rattle.encoder_kernels.specs.Kernels.{all_finite}
 use Rattle.encoder_kernels.proofs.Finites.{all-finite-append, all-finite-rows}
 use Rattle.encoder_steps.specs.Run.{stages_finite}
 use Rattle.encoder_rotation.specs.Axes.{twice, axis_row, expand}
 use Rattle.encoder_blocks.specs.declared.Sizes.{Sizes}
-use Rattle.encoder_blocks.specs.Tables.{table_by}
-use Rattle.encoder_blocks.specs.inner.Room.{tables_fit}
 
 both : (a b : Bool) → (a && b) && (a && b) ≡ (a && b)
 both true true = refl
@@ -83,26 +80,18 @@ expand-finite side q r c d e =
 
 -- ---- the inputs are examined by the tables that are lent
 
-module _ (f : Form) (z : Sizes) (x w cos sin column_cos column_sin : List Float) where
-  abbrev stages : Bool
-  stages = stages_finite true (x ∷ w ∷ table_by f z cos column_cos ∷ table_by f z sin column_sin ∷ [])
-
-  pub inputs-full : f.axes ≡ false → ((all_finite x && all_finite w) && all_finite cos) && all_finite sin ≡ stages
-  unfolding stages_finite
-  inputs-full e = rw e refl
-
-  pub inputs-axes : f.axes ≡ true → tables_fit f z (length cos) (length sin) (length column_cos) (length column_sin) ≡ true
-      → ((all_finite x && all_finite w) && (all_finite cos && all_finite column_cos)) && (all_finite sin && all_finite column_sin) ≡ stages
-  unfolding stages_finite
-  inputs-axes e h =
-      let n = z.side * (z.head_dim / 4) in
-      let l : (eqb (length cos) n && eqb (length sin) n) && (eqb (length column_cos) n && eqb (length column_sin) n) ≡ true = rw e at h in
-      let b = and_parts (eqb (length cos) n && eqb (length sin) n) (eqb (length column_cos) n && eqb (length column_sin) n) l in
-      let r = and_parts (eqb (length cos) n) (eqb (length sin) n) b.0 in
-      let c = and_parts (eqb (length column_cos) n) (eqb (length column_sin) n) b.1 in
-      rw (
-        e,
-        expand-finite z.side (z.head_dim / 4) cos column_cos (eqb-true (length cos) n r.0) (eqb-true (length column_cos) n c.0),
-        expand-finite z.side (z.head_dim / 4) sin column_sin (eqb-true (length sin) n r.1) (eqb-true (length column_sin) n c.1),
-      )
-      refl
+pub inputs-axes : (z : Sizes) (x w row_cos row_sin column_cos column_sin : List Float)
+    → (let n = z.side * (z.head_dim / 4) in (eqb (length row_cos) n && eqb (length row_sin) n) && (eqb (length column_cos) n && eqb (length column_sin) n) ≡ true)
+    → ((all_finite x && all_finite w) && (all_finite row_cos && all_finite column_cos)) && (all_finite row_sin && all_finite column_sin)
+    ≡ stages_finite true (x ∷ w ∷ expand z.side (z.head_dim / 4) row_cos column_cos ∷ expand z.side (z.head_dim / 4) row_sin column_sin ∷ [])
+unfolding stages_finite
+inputs-axes z x w row_cos row_sin column_cos column_sin l =
+    let n = z.side * (z.head_dim / 4) in
+    let b = and_parts (eqb (length row_cos) n && eqb (length row_sin) n) (eqb (length column_cos) n && eqb (length column_sin) n) l in
+    let r = and_parts (eqb (length row_cos) n) (eqb (length row_sin) n) b.0 in
+    let c = and_parts (eqb (length column_cos) n) (eqb (length column_sin) n) b.1 in
+    rw (
+      expand-finite z.side (z.head_dim / 4) row_cos column_cos (eqb-true (length row_cos) n r.0) (eqb-true (length column_cos) n c.0),
+      expand-finite z.side (z.head_dim / 4) row_sin column_sin (eqb-true (length row_sin) n r.1) (eqb-true (length column_sin) n c.1),
+    )
+    refl

@@ -10,7 +10,10 @@ use Rattle.buffers.specs.inner.Apart.{before}
 use Rattle.picture_limits.specs.Places.{patch_floats}
 use Rattle.picture_limits.specs.Shape.{most}
 use Rattle.encoder_settings.specs.declared.EncoderSettings.{EncoderSettings}
-use Rattle.encoder_settings.specs.declared.Form.{Form}
+use Rattle.encoder_settings.specs.declared.Attention.{Attention}
+use Rattle.encoder_settings.specs.declared.Attention.TheVariants.{RowWise, Plain}
+use Rattle.encoder_settings.specs.declared.Tables.{Tables}
+use Rattle.encoder_settings.specs.declared.Tables.TheVariants.{Full, Axes}
 use Rattle.encoder_settings.specs.Settings.{merge_area, tables_fit, scratch_floats, plain_floats}
 use Rattle.encoder_settings.specs.Weights.{floats}
 use Rattle.encoder_settings.proofs.Weights.{layer-long}
@@ -19,6 +22,7 @@ use Rattle.encoder_blocks.specs.declared.Sizes.{Sizes}
 use Rattle.encoder_blocks.specs.Block.{parts_of}
 use Rattle.encoder_run.specs.inner.Live.{regions_of, counts_of}
 use Rattle.encoder_run.specs.Stages.{sizes_of, run_of, forward_run}
+use Rattle.encoder_blocks.specs.inner.Room as Room
 use Rattle.encoder_blocks.specs.inner.Room.{score_floats}
 use Rattle.encoder_blocks.specs.inner.Fits.{RotationFits, LayersFits}
 use Rattle.encoder_run.specs.inner.Fits.{CountsFit, RegionsFit, EmbedFits, SourceFits, MergeFits, ProjFits, RunFits}
@@ -34,8 +38,8 @@ square_le : (t : ℕ) → t ≤ t * t
 square_le zero = omega arith
 square_le (suc t) = omega (arith, suc-mul t (suc t))
 
-module _ (f : Form) (s : EncoderSettings) (gh gw lenx lenw lenc lenn lend lenm out lens t o : ℕ) (r : Ready s gh gw lenx t o)
-    (l : Lengths f s t o lenw (tables_fit f s lenc lenn lend lenm) out lens) where
+module _ (f : Attention) (s : EncoderSettings) (gh gw lenx lenw : ℕ) (tables : Tables) (out lens t o : ℕ) (r : Ready s gh gw lenx t o)
+    (l : Lengths f s t o lenw (tables_fit s tables) out lens) where
   abbrev z : Sizes
   z = sizes_of s t gw
 
@@ -76,12 +80,12 @@ module _ (f : Form) (s : EncoderSettings) (gh gw lenx lenw lenc lenn lend lenm o
   merged = mul_left_comm o H (m * m) ∙ ap (λ (k : ℕ). H * k) whole ∙ mul_comm H t
 
   -- the scratch has room for forward's, and for the scores of the form behind it
-  both : (b : Bool) → f.plain ≡ b → (scratch_floats s t o ≤ lens) × ((regions_of z (o * s.text_hidden_size)).row + score_floats f z ≤ lens)
-  both true e = let h : plain_floats s t o ≤ lens = rw e at l.scratch-holds in rw e (omega (arith, h, square_le t), omega (arith, h, square_le t))
-  both false e = let h : scratch_floats s t o ≤ lens = rw e at l.scratch-holds in rw e (h, omega (arith, h))
+  both : (k : Attention) → f ≡ k → (scratch_floats s t o ≤ lens) × ((regions_of z (o * s.text_hidden_size)).row + score_floats f z ≤ lens)
+  both Plain e = let h : plain_floats s t o ≤ lens = rw e at l.scratch-holds in rw e (omega (arith, h, square_le t), omega (arith, h, square_le t))
+  both RowWise e = let h : scratch_floats s t o ≤ lens = rw e at l.scratch-holds in rw e (h, omega (arith, h))
 
   held : scratch_floats s t o ≤ lens
-  held = (both f.plain refl).0
+  held = (both f refl).0
 
   counts-fit : CountsFit s z
   counts-fit =
@@ -119,7 +123,12 @@ module _ (f : Form) (s : EncoderSettings) (gh gw lenx lenw lenc lenn lend lenm o
   side-holds : (g : ℕ) → g * s.picture.patch_size ≤ s.picture.image_size → g ≤ most s.picture
   side-holds g h = (le-div_iff_mul-le r.bounds.patch-low).1 h
 
-  rotation-fits : RotationFits f z lens lenc lenn lend lenm
+  -- the tables that the settings ask for are those that the layers ask for
+  same-fit : (b : Tables) → tables_fit s b ≡ true → Room.tables_fit z b ≡ true
+  same-fit (Full cos sin) e = e
+  same-fit (Axes row_cos row_sin column_cos column_sin) e = e
+
+  rotation-fits : RotationFits z lens tables
   rotation-fits =
       record {
         scratch = omega (arith, held);
@@ -132,16 +141,16 @@ module _ (f : Form) (s : EncoderSettings) (gh gw lenx lenw lenc lenn lend lenm o
         some = r.grid.wide.low;
         wide = side-holds gw r.grid.wide.high;
         high = omega (arith, r.tokens-are, mul-le-mul_right gw (side-holds gh r.grid.tall.high));
-        lengths = l.tables-are;
+        lengths = same-fit tables l.tables-are;
       }
 
-  layers-fit : LayersFits f z lens (counts_of s z).layers lenc lenn lend lenm (regions_of z (o * s.text_hidden_size)).row s.num_layers
+  layers-fit : LayersFits f z lens (counts_of s z).layers tables (regions_of z (o * s.text_hidden_size)).row s.num_layers
   layers-fit =
       record {
         weights = let e : (counts_of s z).layers ≡ s.num_layers * floats (parts_of z) = ap (λ (n : ℕ). s.num_layers * n) (layer-long z.hidden z.inter) in omega arith;
         inner = r.settings.ranges.inner.1;
         rotation = rotation-fits;
-        scores = record { behind = omega arith; inside = (both f.plain refl).1 };
+        scores = record { behind = omega arith; inside = (both f refl).1 };
       }
 
   total : o * (z.hidden * (m * m)) ≡ gh / m * (gw / m) * (z.hidden * (m * m))
@@ -206,7 +215,7 @@ module _ (f : Form) (s : EncoderSettings) (gh gw lenx lenw lenc lenn lend lenm o
         merges = merge-fits;
       }
 
-  pub run_fits : RunFits f s gh gw t o lenx lenw lenc lenn lend lenm lens
+  pub run_fits : RunFits f s gh gw t o lenx lenw tables lens
   run_fits =
       record {
         counts = counts-fit;

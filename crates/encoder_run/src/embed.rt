@@ -1,7 +1,7 @@
 // The embedding: inputs examined, patch projection, ln_pre.
 ghost use Rattle.std.specs.Prelude.{◌≡◌, true, [], ◌∷◌, length};
 ghost use Rattle.encoder_steps.specs.Run.{stages_finite, answer};
-ghost use Rattle.encoder_blocks.specs.Tables.{table_by};
+ghost use Rattle.encoder_blocks.specs.Tables.{cos_by, sin_by};
 ghost use Rattle.encoder_blocks.specs.inner.Live.{h_at};
 ghost use Rattle.encoder_blocks.specs.inner.Room.{tables_fit};
 ghost use Rattle.encoder_run.specs.Stages.{embed_run};
@@ -10,33 +10,35 @@ ghost use Rattle.encoder_run.specs.inner.Fits.{EmbedFits};
 use buffers::part;
 use encoder_blocks::Sizes;
 use encoder_kernels::finite::finite;
-use encoder_settings::Form;
+use encoder_settings::Tables;
 use encoder_steps::{linear_from_finite, norm_finite, round_finite};
 
 // Whether patches, weights and tables are finite: full ones, or those of rows and of columns, all of them.
-pub(crate) fn inputs_finite(
-    x: &[f32],
-    w: &[f32],
-    cos: &[f32],
-    sin: &[f32],
-    column_cos: &[f32],
-    column_sin: &[f32],
-    z: Sizes,
-    f: Form,
-) -> bool
-    requires { tables_fit f z (length cos.now) (length sin.now) (length column_cos.now) (length column_sin.now) ≡ true }
-    ensures { result ≡ stages_finite true (x.now ∷ w.now ∷ table_by f z cos.now column_cos.now ∷ table_by f z sin.now column_sin.now ∷ []) }
+pub(crate) fn inputs_finite(x: &[f32], w: &[f32], tables: Tables, z: Sizes) -> bool
+    requires { tables_fit z tables ≡ true }
+    ensures { result ≡ stages_finite true (x.now ∷ w.now ∷ cos_by z tables.entry ∷ sin_by z tables.entry ∷ []) }
 {
     let a = finite(x);
     let b = finite(w);
-    let c = finite(cos);
-    let d = finite(sin);
-    if f.axes {
-        let g = finite(column_cos);
-        let h = finite(column_sin);
-        return ((a & b) & (c & g)) & (d & h);
+    match tables {
+        Tables::Full { cos, sin } => {
+            let c = finite(cos);
+            let d = finite(sin);
+            ((a & b) & c) & d
+        }
+        Tables::Axes {
+            row_cos,
+            row_sin,
+            column_cos,
+            column_sin,
+        } => {
+            let c = finite(row_cos);
+            let d = finite(row_sin);
+            let g = finite(column_cos);
+            let h = finite(column_sin);
+            ((a & b) & (c & g)) & (d & h)
+        }
     }
-    ((a & b) & c) & d
 }
 
 // Patch projection and ln_pre, each rounded to bf16: h, where every stage is finite. w is the embedding's part of the weights.

@@ -16,7 +16,7 @@ use Rattle.picture_limits.proofs.Refusals.{passed}
 use Rattle.picture_limits.proofs.Shapes as Shapes
 use Rattle.picture_limits.proofs.Shapes.{shaped-says}
 use Rattle.encoder_settings.specs.declared.EncoderSettings.{EncoderSettings}
-use Rattle.encoder_settings.specs.declared.Form.{Form}
+use Rattle.encoder_settings.specs.declared.Attention.{Attention}
 use Rattle.encoder_settings.specs.Settings.{Checked, accepted, tokens, tokens_left, merge_area, allowed, weight_floats, scratch_by, few_tokens, onward, lengths, checked_by}
 use Rattle.encoder_settings.specs.inner.Bounds.{Bounded, Counted}
 use Rattle.encoder_settings.proofs.Bounds.{Allowed, allowed-says, bounded, counted}
@@ -28,7 +28,7 @@ moved : (h : Result ℕ Refusal) (f : ℕ → Checked) (t o : ℕ) → onward h 
 moved (Ok u) f t o e = (u, refl, e)
 moved (Err r) f t o e = let z : ◌≡◌ {A = ℕ} 0 1 = cc in (0, cc, cc)
 
-pub record Lengths (f : Form) (s : EncoderSettings) (t o weights : ℕ) (tables : Bool) (out scratch : ℕ) : Type 0 where
+pub record Lengths (f : Attention) (s : EncoderSettings) (t o weights : ℕ) (tables : Bool) (out scratch : ℕ) : Type 0 where
   pub weights-are : weights ≡ weight_floats s
   pub tables-are : tables ≡ true
   pub out-holds : o * s.text_hidden_size ≤ out
@@ -44,7 +44,7 @@ pub record Ready (s : EncoderSettings) (gh gw patches t o : ℕ) : Type 0 where
   pub count-is : o ≡ gh * gw / merge_area s.picture
   pub counts : Counted s t o
 
-module _ (f : Form) (s : EncoderSettings) (weights : ℕ) (tables : Bool) (out scratch : ℕ) where
+module _ (f : Attention) (s : EncoderSettings) (weights : ℕ) (tables : Bool) (out scratch : ℕ) where
   lengths-say : (t o u v : ℕ) → few_tokens f t ≡ true → lengths s t o weights tables out (scratch_by f s t o) scratch ≡ accepted u v
       → (Lengths f s t o weights tables out scratch) × (u ≡ t) × (v ≡ o)
   unfolding lengths

@@ -1,5 +1,5 @@
 -- Allowed settings, how long each buffer has to be, and the answer of the refusals 1, 6, 7, 9, 10, 5, 11. Assumes nothing.
-use Rattle.std.specs.Prelude.{Bool, true, false, ◌&&◌, cond, ℕ, ◌+◌, ◌*◌, ◌-◌, ◌/◌, ◌%◌, leb, eqb, Result, Ok, Err}
+use Rattle.std.specs.Prelude.{Bool, true, false, ◌&&◌, ℕ, ◌+◌, ◌*◌, ◌-◌, ◌/◌, ◌%◌, leb, eqb, length, Result, Ok, Err}
 use Rattle.std.specs.Float.Ieee.{lt}
 use Rattle.std.specs.Float.{inf}
 use Rattle.number_floats.specs.Constants.{zero32}
@@ -12,7 +12,10 @@ use Rattle.picture_limits.specs.Settings as P
 use Rattle.picture_limits.specs.Settings.{within}
 use Rattle.picture_limits.specs.Shape.{most, shaped}
 use Rattle.encoder_settings.specs.declared.EncoderSettings.{EncoderSettings}
-use Rattle.encoder_settings.specs.declared.Form.{Form}
+use Rattle.encoder_settings.specs.declared.Tables.{Tables}
+use Rattle.encoder_settings.specs.declared.Tables.TheVariants.{Full, Axes}
+use Rattle.encoder_settings.specs.declared.Attention.{Attention}
+use Rattle.encoder_settings.specs.declared.Attention.TheVariants.{RowWise, Plain}
 use Rattle.encoder_settings.specs.declared.settings.Accepted.{Accepted}
 use Rattle.encoder_settings.specs.Weights.{floats, weights}
 
@@ -51,9 +54,11 @@ abbrev pub axis_tables : EncoderSettings → ℕ → ℕ → ℕ → ℕ → Boo
 axis_tables s row_cos row_sin column_cos column_sin =
     (eqb row_cos (axis_floats s) && eqb row_sin (axis_floats s)) && (eqb column_cos (axis_floats s) && eqb column_sin (axis_floats s))
 
--- by the form of a call; full tables are the first two
-abbrev pub tables_fit : Form → EncoderSettings → ℕ → ℕ → ℕ → ℕ → Bool
-tables_fit f s a b c d = cond f.axes (axis_tables s a b c d) (full_tables s a b)
+-- by the tables of a call
+abbrev pub tables_fit : EncoderSettings → Tables → Bool
+tables_fit s (Full cos sin) = full_tables s (length cos.now) (length sin.now)
+tables_fit s (Axes row_cos row_sin column_cos column_sin) =
+    axis_tables s (length row_cos.now) (length row_sin.now) (length column_cos.now) (length column_sin.now)
 
 abbrev pub scratch_floats : EncoderSettings → ℕ → ℕ → ℕ
 scratch_floats s t o =
@@ -63,12 +68,14 @@ scratch_floats s t o =
 abbrev pub plain_floats : EncoderSettings → ℕ → ℕ → ℕ
 plain_floats s t o = scratch_floats s t o + (t * t - t)
 
--- by the form of a call
-abbrev pub scratch_by : Form → EncoderSettings → ℕ → ℕ → ℕ
-scratch_by f s t o = cond f.plain (plain_floats s t o) (scratch_floats s t o)
+-- by the attention of a call
+abbrev pub scratch_by : Attention → EncoderSettings → ℕ → ℕ → ℕ
+scratch_by RowWise s t o = scratch_floats s t o
+scratch_by Plain s t o = plain_floats s t o
 
-abbrev pub few_tokens : Form → ℕ → Bool
-few_tokens f t = cond f.plain (leb t 64) true
+abbrev pub few_tokens : Attention → ℕ → Bool
+few_tokens RowWise t = true
+few_tokens Plain t = leb t 64
 
 -- what settings and lengths say: t tokens, of which o are left, or a refusal
 abbrev pub Checked : Type 0
@@ -115,8 +122,8 @@ checked_plain s gh gw patches weights tables out scratch =
     (onward (shaped s.picture gh gw patches) (λ t. let o = t / merge_area s.picture in
     unless (leb t 64) (Err Tokens) (lengths s t o weights tables out (plain_floats s t o) scratch)))
 
--- either, by the form
-unfoldable pub checked_by : Form → EncoderSettings → ℕ → ℕ → ℕ → ℕ → Bool → ℕ → ℕ → Checked
+-- either, by the attention
+unfoldable pub checked_by : Attention → EncoderSettings → ℕ → ℕ → ℕ → ℕ → Bool → ℕ → ℕ → Checked
 checked_by f s gh gw patches weights tables out scratch =
     unless (allowed s) (Err Setting)
     (onward (shaped s.picture gh gw patches) (λ t. let o = t / merge_area s.picture in

@@ -19,10 +19,24 @@ pub struct EncoderSettings {
     pub scaling: f32,
 }
 
-// Which tables a forward call is lent: full ones, or with axes those of rows and of columns; and whether its attention is plain,
-// with the full matrix of scores.
+// The rotary tables that a forward call is lent: full ones, or those of rows and of columns.
 #[derive(Clone, Copy)]
-pub struct Form {
-    pub axes: bool,
-    pub plain: bool,
+pub enum Tables<'a> {
+    Full {
+        cos: &'a [f32],
+        sin: &'a [f32],
+    },
+    Axes {
+        row_cos: &'a [f32],
+        row_sin: &'a [f32],
+        column_cos: &'a [f32],
+        column_sin: &'a [f32],
+    },
+}
+
+// Its attention: a row of scores at a time, or plain, with the full matrix of scores.
+#[derive(Clone, Copy, PartialEq, Eq, Debug)]
+pub enum Attention {
+    RowWise,
+    Plain,
 }

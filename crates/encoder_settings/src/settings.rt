@@ -4,7 +4,7 @@ ghost use Rattle.encoder_settings.specs.Settings as S;
 ghost use Rattle.encoder_settings.specs.Settings.{ranged, scaling_allowed, allowed, weight_floats, table_floats, axis_floats, scratch_floats, tables_fit, few_tokens, scratch_by, checked_by};
 ghost use Rattle.encoder_settings.specs.inner.Bounds.{Bounded, Counted};
 
-use crate::{EncoderSettings, Form};
+use crate::{Attention, EncoderSettings, Tables};
 use picture_limits::Refusal;
 use picture_limits::settings::shape;
 
@@ -85,33 +85,36 @@ pub(crate) fn axes_needed(s: EncoderSettings) -> usize
 }
 
 // The plain attention takes at most 64 tokens.
-pub(crate) fn few_tokens(t: usize, f: Form) -> bool
+pub(crate) fn few_tokens(t: usize, f: Attention) -> bool
     ensures { result ≡ few_tokens f t }
 {
-    if f.plain {
-        return t <= 64;
+    match f {
+        Attention::RowWise => true,
+        Attention::Plain => t <= 64,
     }
-    true
 }
 
-// The tables of the form have the lengths that they need.
-pub(crate) fn tables_fit(
-    s: EncoderSettings,
-    cos: usize,
-    sin: usize,
-    column_cos: usize,
-    column_sin: usize,
-    f: Form,
-) -> bool
+// The tables have the lengths that they need.
+pub(crate) fn tables_fit(s: EncoderSettings, tables: Tables) -> bool
     requires { Bounded s }
-    ensures { result ≡ tables_fit f s cos sin column_cos column_sin }
+    ensures { result ≡ tables_fit s tables.entry }
 {
-    if f.axes {
-        let n = axes_needed(s);
-        return ((cos == n) & (sin == n)) & ((column_cos == n) & (column_sin == n));
+    match tables {
+        Tables::Full { cos, sin } => {
+            let n = tables_needed(s);
+            (cos.len() == n) & (sin.len() == n)
+        }
+        Tables::Axes {
+            row_cos,
+            row_sin,
+            column_cos,
+            column_sin,
+        } => {
+            let n = axes_needed(s);
+            ((row_cos.len() == n) & (row_sin.len() == n))
+                & ((column_cos.len() == n) & (column_sin.len() == n))
+        }
     }
-    let n = tables_needed(s);
-    (cos == n) & (sin == n)
 }
 
 pub(crate) fn scratch_needed(s: EncoderSettings, t: usize, o: usize) -> usize
@@ -121,17 +124,17 @@ pub(crate) fn scratch_needed(s: EncoderSettings, t: usize, o: usize) -> usize
     7 * (t * s.hidden_size) + 2 * (t * s.intermediate_size) + t + 2 * (o * s.text_hidden_size)
 }
 
-// The same by the form: plain attention has a matrix of scores where the other has a row.
-pub(crate) fn scratch_by(s: EncoderSettings, t: usize, o: usize, f: Form) -> usize
+// The same by the attention: the plain one has a matrix of scores where the other has a row.
+pub(crate) fn scratch_by(s: EncoderSettings, t: usize, o: usize, f: Attention) -> usize
     requires counted { Counted s t o }
     requires t_value { few_tokens f t ≡ true }
     ensures { result ≡ scratch_by f s t o }
 {
     let n = scratch_needed(s, t, o);
-    if f.plain {
-        return n + (t * t - t);
+    match f {
+        Attention::RowWise => n,
+        Attention::Plain => n + (t * t - t),
     }
-    n
 }
 
 pub(crate) fn lengths(
@@ -171,15 +174,12 @@ pub fn checked(
     grid_w: usize,
     patches: usize,
     weights: usize,
-    cos: usize,
-    sin: usize,
-    column_cos: usize,
-    column_sin: usize,
+    tables: Tables,
     out: usize,
     scratch: usize,
-    f: Form,
+    f: Attention,
 ) -> Result<Accepted, Refusal>
-    ensures { result ≡ checked_by f s grid_h grid_w patches weights (tables_fit f s cos sin column_cos column_sin) out scratch }
+    ensures { result ≡ checked_by f s grid_h grid_w patches weights (tables_fit s tables.entry) out scratch }
 {
     if !settings_allowed(s) {
         return Err(Refusal::Setting);
@@ -191,7 +191,7 @@ pub fn checked(
     }
     let m = q.spatial_merge_size;
     let o = tokens / (m * m);
-    let tables = tables_fit(s, cos, sin, column_cos, column_sin, f);
+    let fit = tables_fit(s, tables);
     let needed = scratch_by(s, tokens, o, f);
-    lengths(s, tokens, o, weights, tables, out, needed, scratch)
+    lengths(s, tokens, o, weights, fit, out, needed, scratch)
 }

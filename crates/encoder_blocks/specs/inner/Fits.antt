@@ -1,7 +1,8 @@
 -- What the inner functions ask of the places and lengths that they are handed. Assumes nothing.
 use Rattle.std.specs.Prelude.{Bool, true, List, ◌≡◌, ℕ, ◌+◌, ◌*◌, ◌/◌, ◌%◌, ◌≤◌, ◌<◌, length, Float}
 use Rattle.encoder_blocks.specs.declared.Sizes.{Sizes}
-use Rattle.encoder_settings.specs.declared.Form.{Form}
+use Rattle.encoder_settings.specs.declared.Tables.{Tables}
+use Rattle.encoder_settings.specs.declared.Attention.{Attention}
 use Rattle.encoder_settings.specs.Weights.{floats}
 use Rattle.encoder_blocks.specs.inner.Room.{tables_fit, score_floats}
 use Rattle.buffers.specs.Region.{region}
@@ -24,12 +25,12 @@ pub record AttendAt (z : Sizes) (lens : ℕ) : Type 0 where
   pub dim_in : z.hidden ≤ lens
 
 -- the score row, or the matrix of scores, lies behind the block's regions
-pub record ScoreRow (f : Form) (z : Sizes) (lens row : ℕ) : Type 0 where
+pub record ScoreRow (f : Attention) (z : Sizes) (lens row : ℕ) : Type 0 where
   pub behind : 7 * n_of z + 2 * m_of z ≤ row
   pub inside : row + score_floats f z ≤ lens
 
 -- what the rotation asks of the tables
-pub record RotationFits (f : Form) (z : Sizes) (lens lenc lenn lend lenm : ℕ) : Type 0 where
+pub record RotationFits (z : Sizes) (lens : ℕ) (lent : Tables) : Type 0 where
   pub scratch : 7 * n_of z + 2 * m_of z ≤ lens
   pub whole : z.heads * z.head_dim ≡ z.hidden
   pub fourth : z.head_dim % 4 ≡ 0
@@ -40,13 +41,13 @@ pub record RotationFits (f : Form) (z : Sizes) (lens lenc lenn lend lenm : ℕ) 
   pub some : 0 < z.grid_w
   pub wide : z.grid_w ≤ z.side
   pub high : z.tokens ≤ z.side * z.grid_w
-  pub lengths : tables_fit f z lenc lenn lend lenm ≡ true
+  pub lengths : tables_fit z lent ≡ true
 
 -- count layers
-pub record LayersFits (f : Form) (z : Sizes) (lens lenw lenc lenn lend lenm row count : ℕ) : Type 0 where
+pub record LayersFits (f : Attention) (z : Sizes) (lens lenw : ℕ) (lent : Tables) (row count : ℕ) : Type 0 where
   pub weights : count * floats (parts_of z) ≤ lenw
   pub inner : z.inter ≤ 8192
-  pub rotation : RotationFits f z lens lenc lenn lend lenm
+  pub rotation : RotationFits z lens lent
   pub scores : ScoreRow f z lens row
 
 -- what the first of the tests of `Room.antt` says

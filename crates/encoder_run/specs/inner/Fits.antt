@@ -5,7 +5,8 @@ use Rattle.encoder_blocks.specs.declared.Sizes.{Sizes}
 use Rattle.encoder_blocks.specs.Block.{n_of, m_of}
 use Rattle.encoder_blocks.specs.inner.Fits.{LayersFits}
 use Rattle.encoder_settings.specs.declared.EncoderSettings.{EncoderSettings}
-use Rattle.encoder_settings.specs.declared.Form.{Form}
+use Rattle.encoder_settings.specs.declared.Attention.{Attention}
+use Rattle.encoder_settings.specs.declared.Tables.{Tables}
 use Rattle.picture_limits.specs.Places.{patch_floats}
 use Rattle.encoder_settings.specs.Weights.{floats, embedding, layer}
 use Rattle.encoder_settings.specs.Settings.{merge_area, weight_floats}
@@ -79,14 +80,14 @@ pub record RegionsFit (z : Sizes) (e : ℕ) : Type 0 where
   pub texts : e ≤ 34359738368
 
 -- a whole run: t tokens of a grid gh by gw, of which o are left
-pub record RunFits (f : Form) (s : EncoderSettings) (gh gw t o lenx lenw lenc lenn lend lenm lens : ℕ) : Type 0 where
+pub record RunFits (f : Attention) (s : EncoderSettings) (gh gw t o lenx lenw : ℕ) (tables : Tables) (lens : ℕ) : Type 0 where
   pub counts : CountsFit s (sizes_of s t gw)
   pub regions : RegionsFit (sizes_of s t gw) (o * s.text_hidden_size)
   pub embedding-is : (counts_of s (sizes_of s t gw)).embedding ≡ floats (embedding s.hidden_size (patch_floats s.picture.patch_size))
   pub layers-is : (counts_of s (sizes_of s t gw)).layers ≡ s.num_layers * floats (layer s.hidden_size s.intermediate_size)
   pub weights-is : lenw ≡ weight_floats s
   pub embeds : EmbedFits (sizes_of s t gw) lenx lens (counts_of s (sizes_of s t gw)).embedding (counts_of s (sizes_of s t gw)).patch
-  pub layers : LayersFits f (sizes_of s t gw) lens (counts_of s (sizes_of s t gw)).layers lenc lenn lend lenm (regions_of (sizes_of s t gw) (o * s.text_hidden_size)).row s.num_layers
+  pub layers : LayersFits f (sizes_of s t gw) lens (counts_of s (sizes_of s t gw)).layers tables (regions_of (sizes_of s t gw) (o * s.text_hidden_size)).row s.num_layers
   pub projects : ProjFits t s.hidden_size o (counts_of s (sizes_of s t gw)).merged s.text_hidden_size s.projector_bias lens
       (lenw - ((counts_of s (sizes_of s t gw)).embedding + (counts_of s (sizes_of s t gw)).layers))
       s.picture.spatial_merge_size gh gw (regions_of (sizes_of s t gw) (o * s.text_hidden_size)).linear

@@ -2,7 +2,7 @@
 use mathlib.Core.Path.{ap, ◌∙◌}
 use native.Mathlib.Omega.{arith}
 use Rattle.encoder_kernels.specs.Kernels.{all_finite}
-use Rattle.encoder_blocks.specs.Tables.{table_by}
+use Rattle.encoder_blocks.specs.Tables.{cos_by, sin_by}
 use Rattle.encoder_blocks.proofs.Halves.{attn-half}
 use Rattle.encoder_blocks.proofs.block.attn.Goals as goal
 
@@ -34,7 +34,7 @@ shape_of-s c =
 
 pub returns : goal.returns
 returns c =
-    attn-half c.args.z c.args.w.now c.args.s.now c.requires.block_fits (table_by c.args.f c.args.z c.args.cos.now c.args.column_cos.now) (table_by c.args.f c.args.z c.args.sin.now c.args.column_sin.now) c.requires.rotation_fits.fourth
+    attn-half c.args.z c.args.w.now c.args.s.now c.requires.block_fits (cos_by c.args.z c.args.tables) (sin_by c.args.z c.args.tables) c.requires.rotation_fits.fourth
     c.norm_finite-ok.new.s c.linear_finite-ok.new.s c.linear_finite-ok-2.new.s c.linear_finite-ok-3.new.s c.rotate_by-ok.new.s c.rotate_by-ok-2.new.s c.attend_by-scored.new.s c.linear_finite-ok-4.new.s c.add_finite.new.s
     c.norm_finite-ok.result c.linear_finite-ok.result c.linear_finite-ok-2.result c.linear_finite-ok-3.result c.rotate_by-ok.result c.rotate_by-ok-2.result c.attend_by-scored.result c.finite-summed.result c.linear_finite-ok-4.result c.add_finite.result
     (rw c.part.ensures at c.norm_finite-ok.ensures) c.linear_finite-ok.ensures c.linear_finite-ok-2.ensures c.linear_finite-ok-3.ensures c.rotate_by-ok.ensures c.rotate_by-ok-2.ensures c.attend_by-scored.ensures

@@ -10,7 +10,7 @@ use Rattle.encoder_steps.specs.Run.{ran, handed}
 use Rattle.encoder_steps.proofs.Writes.{went-of, stopped-of}
 use Rattle.encoder_steps.proofs.Fronts.{front_kept}
 use Rattle.encoder_blocks.specs.Block.{n_of, layers_run}
-use Rattle.encoder_blocks.specs.Tables.{table_by}
+use Rattle.encoder_blocks.specs.Tables.{cos_by, sin_by}
 use Rattle.encoder_blocks.specs.inner.Live.{h_at}
 use Rattle.encoder_blocks.proofs.Rooms.{layers-say}
 use Rattle.encoder_blocks.proofs.layers.layers.Goals as goal
@@ -32,7 +32,7 @@ returns-then-ok c =
     let t = sym c.layers_fit.ensures ∙ c.if-layers_fit.true in
     let f = layers-say c.args.z c.args.f t in
     let u = c.each_layer-ok.new.s in
-    let R = layers_run c.args.z c.args.w.now (table_by c.args.f c.args.z c.args.cos.now c.args.column_cos.now) (table_by c.args.f c.args.z c.args.sin.now c.args.column_sin.now) c.args.count (h_at c.args.z c.args.s.now) in
+    let R = layers_run c.args.z c.args.w.now (cos_by c.args.z c.args.tables) (sin_by c.args.z c.args.tables) c.args.count (h_at c.args.z c.args.s.now) in
     let k : n_of c.args.z ≤ length u = omega (arith, f.rotation.scratch, c.each_layer-ok.auto.s) in
     let w = went-of c.each_layer-ok.result (h_at c.args.z u) R c.each_layer-ok.ensures c.if-ok.true in
     let v = front_kept u c.clear_at.new.s (n_of c.args.z) k c.clear_at.ensures in record {
@@ -46,7 +46,7 @@ shape_of-s-then-layers_fit c = c.clear.auto.s ∙ c.each_layer-ok.auto.s
 pub returns-then-layers_fit : goal.returns-then-layers_fit
 returns-then-layers_fit c =
     let t = sym c.layers_fit.ensures ∙ c.if-layers_fit.true in
-    let R = layers_run c.args.z c.args.w.now (table_by c.args.f c.args.z c.args.cos.now c.args.column_cos.now) (table_by c.args.f c.args.z c.args.sin.now c.args.column_sin.now) c.args.count (h_at c.args.z c.args.s.now) in
+    let R = layers_run c.args.z c.args.w.now (cos_by c.args.z c.args.tables) (sin_by c.args.z c.args.tables) c.args.count (h_at c.args.z c.args.s.now) in
     let w = stopped-of c.each_layer-ok.result (h_at c.args.z c.each_layer-ok.new.s) R c.each_layer-ok.ensures c.if-ok.false in record {
       value = rw t (ap ran w);
       s_after = rw t (c.clear.ensures ∙ ap (λ i. tab i (λ _. zero32)) c.each_layer-ok.auto.s ∙ ap (λ r. handed r c.args.s.now) w);

@@ -4,4 +4,4 @@ use Rattle.encoder_blocks.proofs.room.lengths_fit.Goals as goal
 
 pub returns : goal.returns
 unfolding lengths_fit
-returns c = rw (c.tables_fit-tables.ensures, c.inside.ensures, c.score_floats.ensures, c.rows_inside.ensures, c.layer_floats-size.ensures)
+returns c = rw (c.tables_fit-fit.ensures, c.inside.ensures, c.score_floats.ensures, c.rows_inside.ensures, c.layer_floats-size.ensures)

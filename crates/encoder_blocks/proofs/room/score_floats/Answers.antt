@@ -1,8 +1,8 @@
 -- `encoder_blocks::room::score_floats` meets its contract. Assumes nothing.
 use Rattle.encoder_blocks.proofs.room.score_floats.Goals as goal
 
-pub returns-then-f : goal.returns-then-f
-returns-then-f c = rw c.if-f.true
+pub returns-in-RowWise : goal.returns-in-RowWise
+returns-in-RowWise c = rw c.in-RowWise.is
 
-pub returns : goal.returns
-returns c = rw c.if-f.false
+pub returns-in-Plain : goal.returns-in-Plain
+returns-in-Plain c = rw c.in-Plain.is

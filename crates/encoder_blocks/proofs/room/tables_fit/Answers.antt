@@ -1,8 +1,8 @@
 -- `encoder_blocks::room::tables_fit` meets its contract. Assumes nothing.
 use Rattle.encoder_blocks.proofs.room.tables_fit.Goals as goal
 
-pub returns-then-f : goal.returns-then-f
-returns-then-f c = rw c.if-f.true
+pub returns-in-Full : goal.returns-in-Full
+returns-in-Full c = rw c.in-Full.is
 
-pub returns : goal.returns
-returns c = rw c.if-f.false
+pub returns-in-Axes : goal.returns-in-Axes
+returns-in-Axes c = rw c.in-Axes.is

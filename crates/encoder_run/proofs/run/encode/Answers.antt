@@ -4,7 +4,7 @@ use Prim.Native.Nat.{◌+◌, ◌-◌, ◌≤◌}
 use native.Mathlib.Omega.{arith}
 use lib.ListN.{length}
 use Rattle.buffers.proofs.Regions.{length-region}
-use Rattle.encoder_blocks.specs.Tables.{table_by}
+use Rattle.encoder_blocks.specs.Tables.{cos_by, sin_by}
 use Rattle.encoder_blocks.proofs.Leaves.{layers-done}
 use Rattle.encoder_run.specs.Stages.{sizes_of}
 use Rattle.encoder_run.specs.inner.Live.{counts_of}
@@ -102,8 +102,8 @@ returns c =
     let e₁ = counts-are in
     let e₂ = c.regions-r.ensures in
     let k : length c.part-v.result.now ≡ c.counts_of-p.result.layers = ap length c.part-v.ensures ∙ length-region c.args.w.now c.counts_of-p.result.embedding c.counts_of-p.result.layers cuts.1 in
-    let done = layers-done c.args.f z c.embed-a.new.s c.layers-b.new.s c.part-v.result.now c.args.cos.now c.args.sin.now c.args.column_cos.now c.args.column_sin.now c.regions-r.result.row c.args.s.num_layers c.layers-b.result (rw (k, c.embed-a.auto.s, e₂, e₁, e₀) c.requires.run_fits.layers) c.layers-b.ensures.value c.layers-b.ensures.s_after in
-    run-of c.args.s c.args.gh c.args.gw c.args.t c.args.o c.args.w.now (table_by c.args.f (sizes_of c.args.s c.args.t c.args.gw) c.args.cos.now c.args.column_cos.now) (table_by c.args.f (sizes_of c.args.s c.args.t c.args.gw) c.args.sin.now c.args.column_sin.now) c.args.patches.now c.part.result.now c.part-v.result.now c.part-u.result.now c.embed-a.new.s c.layers-b.new.s c.projector_forward-c.new.s
+    let done = layers-done c.args.f z c.embed-a.new.s c.layers-b.new.s c.part-v.result.now c.args.tables c.regions-r.result.row c.args.s.num_layers c.layers-b.result (rw (k, c.embed-a.auto.s, e₂, e₁, e₀) c.requires.run_fits.layers) c.layers-b.ensures.value c.layers-b.ensures.s_after in
+    run-of c.args.s c.args.gh c.args.gw c.args.t c.args.o c.args.w.now (cos_by (sizes_of c.args.s c.args.t c.args.gw) c.args.tables) (sin_by (sizes_of c.args.s c.args.t c.args.gw) c.args.tables) c.args.patches.now c.part.result.now c.part-v.result.now c.part-u.result.now c.embed-a.new.s c.layers-b.new.s c.projector_forward-c.new.s
     c.inputs_finite-ok.result c.embed-a.result c.layers-b.result c.projector_forward-c.result c.requires.run_fits.embedding-is c.requires.run_fits.layers-is c.requires.run_fits.weights-is
     (rw e₁ at c.part.ensures) (rw e₁ at c.part-v.ensures) (rw e₁ at c.part-u.ensures) (rw e₀ at c.inputs_finite-ok.ensures)
     (rw (e₁, e₀) at c.embed-a.ensures) (rw e₀ at done) (rw (e₂, e₁, e₀) at c.projector_forward-c.ensures)

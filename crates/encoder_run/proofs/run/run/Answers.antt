@@ -8,7 +8,7 @@ use Rattle.number_floats.specs.Constants.{zero32}
 use Rattle.buffers.specs.Rows.{tab}
 use Rattle.buffers.proofs.Regions.{length-region}
 use Rattle.encoder_settings.specs.Settings.{accepted}
-use Rattle.encoder_blocks.specs.Tables.{table_by}
+use Rattle.encoder_blocks.specs.Tables.{cos_by, sin_by}
 use Rattle.encoder_steps.proofs.Writes.{went-of, stopped-of}
 use Rattle.encoder_run.specs.inner.Live.{regions_of}
 use Rattle.encoder_run.specs.Stages.{sizes_of, run_of}
@@ -49,7 +49,7 @@ returns-then-ok c =
     let u = c.encode-ok.new.scratch in
     let k = c.encode-ok.auto.scratch in
     let at = (regions_of (sizes_of c.args.s c.args.t c.args.gw) e).linear + e in
-    let r = run_of c.args.s c.args.gh c.args.gw c.args.t c.args.o c.args.w.now (table_by c.args.f (sizes_of c.args.s c.args.t c.args.gw) c.args.cos.now c.args.column_cos.now) (table_by c.args.f (sizes_of c.args.s c.args.t c.args.gw) c.args.sin.now c.args.column_sin.now) c.args.patches.now in
+    let r = run_of c.args.s c.args.gh c.args.gw c.args.t c.args.o c.args.w.now (cos_by (sizes_of c.args.s c.args.t c.args.gw) c.args.tables) (sin_by (sizes_of c.args.s c.args.t c.args.gw) c.args.tables) c.args.patches.now in
     let w = went-of c.encode-ok.result (region u at e) r c.encode-ok.ensures c.if-ok.true in
     let l = length-region u at e (omega (arith, c.requires.run_fits.projects.room, k)) in
     let h : length (region u at e) ≤ length c.args.out.now = omega (arith, l, c.requires.text_hidden_size_in_bounds) in record {
@@ -65,7 +65,7 @@ pub returns : goal.returns
 returns c =
     let e = c.args.o * c.args.s.text_hidden_size in
     let k = c.encode-ok.auto.scratch in
-    let r = run_of c.args.s c.args.gh c.args.gw c.args.t c.args.o c.args.w.now (table_by c.args.f (sizes_of c.args.s c.args.t c.args.gw) c.args.cos.now c.args.column_cos.now) (table_by c.args.f (sizes_of c.args.s c.args.t c.args.gw) c.args.sin.now c.args.column_sin.now) c.args.patches.now in
+    let r = run_of c.args.s c.args.gh c.args.gw c.args.t c.args.o c.args.w.now (cos_by (sizes_of c.args.s c.args.t c.args.gw) c.args.tables) (sin_by (sizes_of c.args.s c.args.t c.args.gw) c.args.tables) c.args.patches.now in
     let w = stopped-of c.encode-ok.result (region c.encode-ok.new.scratch ((regions_of (sizes_of c.args.s c.args.t c.args.gw) e).linear + e) e) r c.encode-ok.ensures c.if-ok.false in record {
       value = ap (encoded_by (accepted c.args.t c.args.o)) w;
       out_after = ap (λ v. out_by (accepted c.args.t c.args.o) v c.args.out.now) w;

@@ -35,8 +35,8 @@ nonzero_div-o c =
     let sizes : Bounded c.args.s = bounded _ (allowed-says _ (settings)) in
     let b = sizes in omega (arith, times 1 1 _ _ b.merge_low b.merge_low)
 
-pub tables_fit-tables-requires : goal.tables_fit-tables-requires
-tables_fit-tables-requires c =
+pub tables_fit-fit-requires : goal.tables_fit-fit-requires
+tables_fit-fit-requires c =
     let settings : allowed c.args.s ≡ true = sym c.settings_allowed.ensures ∙ not-false _ c.if-not-settings_allowed.false-raw in
     let sizes : Bounded c.args.s = bounded _ (allowed-says _ (settings)) in
     sizes
@@ -65,7 +65,7 @@ unfolding checked_by
 returns c =
     let settings : allowed c.args.s ≡ true = sym c.settings_allowed.ensures ∙ not-false _ c.if-not-settings_allowed.false-raw in
     let passed : few_tokens c.args.f c.in_ok-tokens.tokens ≡ true = sym c.few_tokens.ensures ∙ not-false _ c.if-not-few_tokens.false-raw in
-    rw (settings, ← c.shape.ensures, c.in_ok-tokens.was, passed, ← c.tables_fit-tables.ensures, ← c.scratch_by-needed.ensures) c.lengths.ensures
+    rw (settings, ← c.shape.ensures, c.in_ok-tokens.was, passed, ← c.tables_fit-fit.ensures, ← c.scratch_by-needed.ensures) c.lengths.ensures
 
 pub returns-in_err-tokens : goal.returns-in_err-tokens
 unfolding checked_by
