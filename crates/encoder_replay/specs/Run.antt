@@ -5,6 +5,8 @@ use Rattle.std.specs.Float.Ieee.{of_bits}
 use Rattle.buffers.specs.Region.{region}
 use Rattle.picture_limits.specs.Refusal as R
 use Rattle.encoder_settings.specs.declared.EncoderSettings.{EncoderSettings}
+use Rattle.encoder_settings.specs.declared.Attention.{Attention}
+use Rattle.encoder_settings.specs.declared.Attention.TheVariants.{RowWise, Plain}
 use Rattle.encoder_run.specs.Answer.{Encoded}
 use Rattle.encoder.specs.Forward.{encoded_of, out_of, scratch_of}
 use Rattle.encoder.specs.Plain.{encoded_plain, out_plain, scratch_plain}
@@ -20,16 +22,20 @@ abbrev pub answer_from : Encoded → ℕ → ℕ → Answer
 answer_from (Ok o) h k = record { number = 0; tokens = o; out = h; scratch = k }
 answer_from (Err r) h k = record { number = R.number r; tokens = 0; out = h; scratch = k }
 
--- forward's, or, where p is 1, those of forward with plain attention
-module _ (p : ℕ) (s : EncoderSettings) (gh gw : ℕ) (w cos sin x : List Float) where
+-- what is said of forward, or of forward with plain attention
+abbrev pub said : {A : Type 0} → Attention → A → A → A
+said RowWise a b = a
+said Plain a b = b
+
+module _ (f : Attention) (s : EncoderSettings) (gh gw : ℕ) (w cos sin x : List Float) where
   unfoldable pub encoded_as : ℕ → ℕ → Encoded
-  encoded_as out scratch = cond (eqb p 1) (encoded_plain s gh gw w cos sin x out scratch) (encoded_of s gh gw w cos sin x out scratch)
+  encoded_as out scratch = said f (encoded_of s gh gw w cos sin x out scratch) (encoded_plain s gh gw w cos sin x out scratch)
 
   unfoldable pub out_as : ℕ → List Float → List Float
-  out_as scratch old = cond (eqb p 1) (out_plain s gh gw w cos sin x scratch old) (out_of s gh gw w cos sin x scratch old)
+  out_as scratch old = said f (out_of s gh gw w cos sin x scratch old) (out_plain s gh gw w cos sin x scratch old)
 
   unfoldable pub scratch_as : ℕ → List Float → List Float
-  scratch_as out old = cond (eqb p 1) (scratch_plain s gh gw w cos sin x out old) (scratch_of s gh gw w cos sin x out old)
+  scratch_as out old = said f (scratch_of s gh gw w cos sin x out old) (scratch_plain s gh gw w cos sin x out old)
 
   unfoldable pub answer_of : List Float → List Float → Answer
   answer_of scratch out =
@@ -78,10 +84,14 @@ out_room = 1024
 unfoldable pub inputs_from : List ℕ → ℕ → List Float
 inputs_from v n = damaged (units (seeded (at v 18)) n) (at v 19) (at v 20)
 
+-- plain where its number for that is 1
+abbrev pub attention_of : ℕ → Attention
+attention_of p = cond (eqb p 1) Plain RowWise
+
 -- patches from 0 on, weights from 1024, cosines from 7168, sines from 7680
 unfoldable pub call_of : List ℕ → List Float → List Float → List Float → Answer
 call_of v cells scratch out =
-    answer_of (at v 27) (settings_of v) (at v 10) (at v 11)
+    answer_of (attention_of (at v 27)) (settings_of v) (at v 10) (at v 11)
     (region cells 1024 (at v 13))
     (region cells 7168 (at v 14))
     (region cells 7680 (at v 15))

@@ -1,9 +1,9 @@
 // A record's call. v holds its 28 numbers, in the order that main.rt lists.
 ghost use Rattle.std.specs.Prelude.{◌≡◌, length};
-ghost use Rattle.encoder_replay.specs.Run.{encoded_as, out_as, scratch_as, answer_of, settings_of, inputs_from, call_of, run_of};
+ghost use Rattle.encoder_replay.specs.Run.{attention_of, encoded_as, out_as, scratch_as, answer_of, settings_of, inputs_from, call_of, run_of};
 ghost use Rattle.encoder_replay.specs.inner.Room.{Small, Room};
 
-use encoder_settings::EncoderSettings;
+use encoder_settings::{Attention, EncoderSettings};
 use picture_limits::{PictureSettings, Refusal};
 use replay::damage::damage;
 use replay::hash::hash_floats;
@@ -25,9 +25,19 @@ pub struct Answer {
     pub scratch: usize,
 }
 
-// Forward, or, where plain is 1, forward with plain attention.
+// A record's attention: plain where its number for that is 1.
+fn attention(plain: usize) -> Attention
+    ensures { result ≡ attention_of plain }
+{
+    if plain == 1 {
+        return Attention::Plain;
+    }
+    Attention::RowWise
+}
+
+// Forward, or forward with plain attention.
 fn forward_as(
-    plain: usize,
+    f: Attention,
     s: EncoderSettings,
     patches: &[f32],
     gh: usize,
@@ -38,18 +48,22 @@ fn forward_as(
     scratch: &mut [f32],
     out: &mut [f32],
 ) -> Result<usize, Refusal>
-    ensures value { result ≡ encoded_as plain s gh gw weights.now cos.now sin.now patches.now (length out.old) (length scratch.old) }
-    ensures out_after { out.new ≡ out_as plain s gh gw weights.now cos.now sin.now patches.now (length scratch.old) out.old }
-    ensures scratch_after { scratch.new ≡ scratch_as plain s gh gw weights.now cos.now sin.now patches.now (length out.old) scratch.old }
+    ensures value { result ≡ encoded_as f s gh gw weights.now cos.now sin.now patches.now (length out.old) (length scratch.old) }
+    ensures out_after { out.new ≡ out_as f s gh gw weights.now cos.now sin.now patches.now (length scratch.old) out.old }
+    ensures scratch_after { scratch.new ≡ scratch_as f s gh gw weights.now cos.now sin.now patches.now (length out.old) scratch.old }
 {
-    if plain == 1 {
-        return encoder::forward::forward_plain(s, patches, gh, gw, weights, cos, sin, scratch, out);
+    match f {
+        Attention::RowWise => {
+            encoder::forward::forward(s, patches, gh, gw, weights, cos, sin, scratch, out)
+        }
+        Attention::Plain => {
+            encoder::forward::forward_plain(s, patches, gh, gw, weights, cos, sin, scratch, out)
+        }
     }
-    encoder::forward::forward(s, patches, gh, gw, weights, cos, sin, scratch, out)
 }
 
 fn encode(
-    plain: usize,
+    f: Attention,
     s: EncoderSettings,
     patches: &[f32],
     gh: usize,
@@ -60,9 +74,9 @@ fn encode(
     scratch: &mut [f32],
     out: &mut [f32],
 ) -> Answer
-    ensures { result ≡ answer_of plain s gh gw weights.now cos.now sin.now patches.now scratch.old out.old }
+    ensures { result ≡ answer_of f s gh gw weights.now cos.now sin.now patches.now scratch.old out.old }
 {
-    let found = forward_as(plain, s, patches, gh, gw, weights, cos, sin, scratch, out);
+    let found = forward_as(f, s, patches, gh, gw, weights, cos, sin, scratch, out);
     let left = hash_floats(out) as usize;
     let work = hash_floats(scratch) as usize;
     match found {
@@ -127,7 +141,7 @@ fn call(v: &[usize; 28], cells: &[f32], scratch: &mut [f32], out: &mut [f32]) ->
     let m = v[16];
     let n = v[17];
     encode(
-        v[27],
+        attention(v[27]),
         settings(v),
         &cells[..p],
         v[10],

@@ -116,6 +116,9 @@ bounded s a =
       table = times (most s.picture * most s.picture) s.head_dim 4194304 256 PP r.width.1;
     }
 
+pub sizes-of : (s : EncoderSettings) → allowed s ≡ true → Bounded s
+sizes-of s e = bounded s (allowed-says s e)
+
 pub counted : (s : EncoderSettings) (t o : ℕ) → Bounded s → t ≤ 4194304 → o ≤ t → Counted s t o
 counted s t o b h k =
     let l : o ≤ 4194304 = omega arith in

@@ -6,6 +6,8 @@ pub mod settings;
 
 use picture_limits::PictureSettings;
 
+// Sizes as a caller has them, allowed or not. projector_bias is a number and no bool: `settings_allowed` answers for one that is
+// neither 0 nor 1.
 #[derive(Clone, Copy)]
 pub struct EncoderSettings {
     pub picture: PictureSettings,

@@ -4,7 +4,7 @@ use mathlib.Core.Bool.{true}
 use Prim.Native.Nat.{◌+◌, ◌*◌, ◌≤◌}
 use native.Mathlib.Nat.{mul-le-mul}
 use native.Mathlib.Omega.{arith}
-use borrow.Author.Tests.{le-leb, lt-leb, leb-true, not-true, not-false}
+use borrow.Author.Tests.{le-leb, lt-leb, leb-true}
 use Rattle.buffers.specs.inner.Room.{inside}
 use Rattle.encoder_blocks.specs.inner.Room.{sizes_fit}
 use Rattle.encoder_blocks.proofs.room.sizes_fit.Goals as goal
@@ -24,12 +24,12 @@ returns-then-z c = simp (le-leb c.args.z.head_dim 256 c.if-z-gt256.false, le-leb
 pub returns-then-not-rows_inside : goal.returns-then-not-rows_inside
 unfolding sizes_fit
 returns-then-not-rows_inside c =
-    let e = sym c.rows_inside.ensures ∙ not-true _ c.if-not-rows_inside.true-raw in
+    let e = sym c.rows_inside.ensures ∙ c.if-not-rows_inside.true in
     rw (le-leb c.args.z.head_dim 256 c.if-z-gt256.false, le-leb c.args.z.side 2048 c.if-z-gt2048.false, le-leb c.args.z.grid_w c.args.z.side c.if-z.false, e)
 
 pub overflow_mul-whole : goal.overflow_mul-whole
 overflow_mul-whole c =
-    let held : let z = c.args.z in inside 2048 0 (c.args.z.heads * c.args.z.head_dim) ≡ true = sym c.rows_inside.ensures ∙ not-false _ c.if-not-rows_inside.false-raw in
+    let held : let z = c.args.z in inside 2048 0 (c.args.z.heads * c.args.z.head_dim) ≡ true = sym c.rows_inside.ensures ∙ c.if-not-rows_inside.false in
     let z = c.args.z in
     let p : 0 + c.args.z.heads * c.args.z.head_dim ≤ 2048 = leb-true (0 + c.args.z.heads * c.args.z.head_dim) 2048 (held) in
     omega (arith, p)
@@ -44,7 +44,7 @@ overflow_mul-few c =
 pub returns : goal.returns
 unfolding sizes_fit
 returns c =
-    let held : let z = c.args.z in inside 2048 0 (c.args.z.heads * c.args.z.head_dim) ≡ true = sym c.rows_inside.ensures ∙ not-false _ c.if-not-rows_inside.false-raw in
+    let held : let z = c.args.z in inside 2048 0 (c.args.z.heads * c.args.z.head_dim) ≡ true = sym c.rows_inside.ensures ∙ c.if-not-rows_inside.false in
     let z = c.args.z in
     rw (
       le-leb c.args.z.head_dim 256 c.if-z-gt256.false,

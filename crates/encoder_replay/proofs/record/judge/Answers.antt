@@ -1,5 +1,5 @@
 -- `record::judge` meets its contract: what was read, whether it is small, and what the call gave. Assumes nothing.
-use borrow.Author.Tests.{leb-true, not-false, not-true}
+use borrow.Author.Tests.{leb-true}
 use Prim.Native.Nat.{ℕ}
 use native.Mathlib.Omega.{arith}
 use mathlib.Core.Bool.{Bool, true, false, ◌&&◌}
@@ -56,25 +56,25 @@ fit v e =
 pub returns-then-not-read_line : goal.returns-then-not-read_line
 returns-then-not-read_line c =
     let e = c.bad.ensures in
-    (e ∙ unread _ _ c.read_line.ensures.whole (not-true _ c.if-not-read_line.true-raw), rw e (omega arith))
+    (e ∙ unread _ _ c.read_line.ensures.whole (c.if-not-read_line.true), rw e (omega arith))
 
 pub returns-then-not-small : goal.returns-then-not-small
 returns-then-not-small c =
     let e = c.bad-then-not-small.ensures in
-    let g : small_of c.read_line.new.to ≡ false = sym c.small.ensures ∙ not-true _ c.if-not-small.true-raw in
-    (e ∙ large _ _ _ c.read_line.ensures.whole c.read_line.ensures.output (not-false _ c.if-not-read_line.false-raw) g, rw e (omega arith))
+    let g : small_of c.read_line.new.to ≡ false = sym c.small.ensures ∙ c.if-not-small.true in
+    (e ∙ large _ _ _ c.read_line.ensures.whole c.read_line.ensures.output (c.if-not-read_line.false) g, rw e (omega arith))
 
 pub run-a-requires : goal.run-a-requires
 run-a-requires c =
-    let small : small_of c.read_line.new.to ≡ true = sym c.small.ensures ∙ not-false _ c.if-not-small.false-raw in
+    let small : small_of c.read_line.new.to ≡ true = sym c.small.ensures ∙ c.if-not-small.false in
     fit _ (small)
 
 pub returns : goal.returns
 returns c =
-    let small : small_of c.read_line.new.to ≡ true = sym c.small.ensures ∙ not-false _ c.if-not-small.false-raw in
+    let small : small_of c.read_line.new.to ≡ true = sym c.small.ensures ∙ c.if-not-small.false in
     let v = c.read_line.new.to in (
       c.place_of-i.ensures.0
           ∙ ap (λ (x : Answer). counted_at x v) c.run-a.ensures
-          ∙ fitting _ v _ c.read_line.ensures.whole c.read_line.ensures.output (not-false _ c.if-not-read_line.false-raw) (small),
+          ∙ fitting _ v _ c.read_line.ensures.whole c.read_line.ensures.output (c.if-not-read_line.false) (small),
       c.place_of-i.ensures.1,
     )

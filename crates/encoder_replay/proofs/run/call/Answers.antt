@@ -27,4 +27,4 @@ pub returns : goal.returns
 unfolding call_of
 returns c =
     let v = c.args.v.now in
-    rw (c.settings.ensures, add-sub_cancel_left 1024 (at v 13), add-sub_cancel_left 7168 (at v 14), add-sub_cancel_left 7680 (at v 15)) at c.encode.ensures
+    rw (c.settings.ensures, c.attention.ensures, add-sub_cancel_left 1024 (at v 13), add-sub_cancel_left 7168 (at v 14), add-sub_cancel_left 7680 (at v 15)) at c.encode.ensures

@@ -5,13 +5,14 @@ use mathlib.Core.List.{List}
 use lib.Ieee.{Float}
 use lib.ListN.{length}
 use Rattle.encoder_settings.specs.declared.EncoderSettings.{EncoderSettings}
+use Rattle.encoder_settings.specs.declared.Attention.{Attention}
 use Rattle.encoder_run.specs.Answer.{Encoded}
 use Rattle.replay.specs.Hash.{float_hash}
 use Rattle.encoder_replay.specs.Run.{encoded_as, out_as, scratch_as, answer_from, answer_of}
 use Rattle.encoder_replay.proofs.run.encode.Goals as goal
 
 -- an answer a, an output t with its hash h, and a scratch u with its hash k
-module _ (p : ℕ) (s : EncoderSettings) (gh gw : ℕ) (w cos sin x scratch out : List Float) where
+module _ (p : Attention) (s : EncoderSettings) (gh gw : ℕ) (w cos sin x scratch out : List Float) where
   answered : (t u : List Float) (a : Encoded) (h k : ℕ)
       → a ≡ encoded_as p s gh gw w cos sin x (length out) (length scratch)
       → t ≡ out_as p s gh gw w cos sin x (length scratch) out
@@ -24,24 +25,13 @@ module _ (p : ℕ) (s : EncoderSettings) (gh gw : ℕ) (w cos sin x scratch out 
 
 pub returns-in-Ok : goal.returns-in-Ok
 returns-in-Ok c =
-    let whole : let d = c.before.before.before in let f = c.before.before.before.before.before.before.before in let a = c.args in
-    answer_from c.forward_as-found.result c.hash_floats-left.result c.hash_floats-work.result
-    ≡ answer_of c.args.plain c.args.s c.args.gh c.args.gw c.args.weights.now c.args.cos.now c.args.sin.now c.args.patches.now c.args.scratch.now c.args.out.now = let d = c.before.before.before in
-    let f = c.before.before.before.before.before.before.before in
-    let a = c.args in
-    answered c.args.plain c.args.s c.args.gh c.args.gw c.args.weights.now c.args.cos.now c.args.sin.now c.args.patches.now c.args.scratch.now c.args.out.now _ _ c.forward_as-found.result c.hash_floats-left.result c.hash_floats-work.result c.forward_as-found.ensures.value c.forward_as-found.ensures.out_after c.forward_as-found.ensures.scratch_after c.hash_floats-left.ensures c.hash_floats-work.ensures in
-    let d = c.before in
-    ap (λ (a : Encoded). answer_from a c.hash_floats-left.result c.hash_floats-work.result) (sym c.in-Ok.is) ∙ whole
+    ap (λ (a : Encoded). answer_from a c.hash_floats-left.result c.hash_floats-work.result) (sym c.in-Ok.is) ∙
+    answered c.args.f c.args.s c.args.gh c.args.gw c.args.weights.now c.args.cos.now c.args.sin.now c.args.patches.now c.args.scratch.now c.args.out.now _ _ c.forward_as-found.result c.hash_floats-left.result c.hash_floats-work.result
+    c.forward_as-found.ensures.value c.forward_as-found.ensures.out_after c.forward_as-found.ensures.scratch_after c.hash_floats-left.ensures c.hash_floats-work.ensures
 
 pub returns-in-Err : goal.returns-in-Err
 returns-in-Err c =
-    let whole : let d = c.before.before.before.before in let f = c.before.before.before.before.before.before.before.before in let a = c.args in
-    answer_from c.forward_as-found.result c.hash_floats-left.result c.hash_floats-work.result
-    ≡ answer_of c.args.plain c.args.s c.args.gh c.args.gw c.args.weights.now c.args.cos.now c.args.sin.now c.args.patches.now c.args.scratch.now c.args.out.now = let d = c.before.before.before.before in
-    let f = c.before.before.before.before.before.before.before.before in
-    let a = c.args in
-    answered c.args.plain c.args.s c.args.gh c.args.gw c.args.weights.now c.args.cos.now c.args.sin.now c.args.patches.now c.args.scratch.now c.args.out.now _ _ c.forward_as-found.result c.hash_floats-left.result c.hash_floats-work.result c.forward_as-found.ensures.value c.forward_as-found.ensures.out_after c.forward_as-found.ensures.scratch_after c.hash_floats-left.ensures c.hash_floats-work.ensures in
-    let d = c.before.before in
     ap (λ (n : ℕ). record { number = n; tokens = 0; out = c.hash_floats-left.result; scratch = c.hash_floats-work.result }) c.from.ensures
-    ∙ ap (λ (a : Encoded). answer_from a c.hash_floats-left.result c.hash_floats-work.result) (sym c.in-Err.is)
-    ∙ whole
+    ∙ ap (λ (a : Encoded). answer_from a c.hash_floats-left.result c.hash_floats-work.result) (sym c.in-Err.is) ∙
+    answered c.args.f c.args.s c.args.gh c.args.gw c.args.weights.now c.args.cos.now c.args.sin.now c.args.patches.now c.args.scratch.now c.args.out.now _ _ c.forward_as-found.result c.hash_floats-left.result c.hash_floats-work.result
+    c.forward_as-found.ensures.value c.forward_as-found.ensures.out_after c.forward_as-found.ensures.scratch_after c.hash_floats-left.ensures c.hash_floats-work.ensures

@@ -1,5 +1,4 @@
 -- `encoder_settings::settings::settings_allowed` meets its contract. Assumes nothing.
-use borrow.Author.Tests.{not-true, not-false}
 use mathlib.Core.Path.{◌≡◌, sym, ◌∙◌}
 use mathlib.Core.Bool.{true}
 use native.Mathlib.Omega.{arith}
@@ -11,22 +10,22 @@ use Rattle.encoder_settings.proofs.settings.settings_allowed.Goals as goal
 
 pub returns-then-not-settings_allowed : goal.returns-then-not-settings_allowed
 unfolding allowed
-returns-then-not-settings_allowed c = let e = sym c.settings_allowed.ensures ∙ not-true _ c.if-not-settings_allowed.true-raw in rw e
+returns-then-not-settings_allowed c = let e = sym c.settings_allowed.ensures ∙ c.if-not-settings_allowed.true in rw e
 
 pub returns-then-not-in_range : goal.returns-then-not-in_range
 unfolding allowed
 returns-then-not-in_range c =
-    let picture : P.allowed c.args.s.picture ≡ true = sym c.settings_allowed.ensures ∙ not-false _ c.if-not-settings_allowed.false-raw in
-    let p = picture in let e = sym c.in_range.ensures ∙ not-true _ c.if-not-in_range.true-raw in rw (p, e)
+    let picture : P.allowed c.args.s.picture ≡ true = sym c.settings_allowed.ensures ∙ c.if-not-settings_allowed.false in
+    let p = picture in let e = sym c.in_range.ensures ∙ c.if-not-in_range.true in rw (p, e)
 
 pub overflow_mul-result : goal.overflow_mul-result
 overflow_mul-result c =
-    let ranges : ranged c.args.s ≡ true = sym c.in_range.ensures ∙ not-false _ c.if-not-in_range.false-raw in
+    let ranges : ranged c.args.s ≡ true = sym c.in_range.ensures ∙ c.if-not-in_range.false in
     let s = c.args.s in let r = ranges-say s (ranges) in omega (arith, times c.args.s.num_heads c.args.s.head_dim 64 256 r.heads.1 r.width.1)
 
 pub returns : goal.returns
 unfolding allowed
 returns c =
-    let picture : P.allowed c.args.s.picture ≡ true = sym c.settings_allowed.ensures ∙ not-false _ c.if-not-settings_allowed.false-raw in
-    let ranges : ranged c.args.s ≡ true = sym c.in_range.ensures ∙ not-false _ c.if-not-in_range.false-raw in
+    let picture : P.allowed c.args.s.picture ≡ true = sym c.settings_allowed.ensures ∙ c.if-not-settings_allowed.false in
+    let ranges : ranged c.args.s ≡ true = sym c.in_range.ensures ∙ c.if-not-in_range.false in
     rw (picture, ranges, c.scale_allowed.ensures)
