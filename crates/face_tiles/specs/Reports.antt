@@ -1,14 +1,16 @@
 -- What the C face reports of the calls on tiles: the paper's number, and its sizes, 0 for each of a refusal. Assumes nothing.
+use Rattle.std.specs.Prelude.{Result, Ok, Err}
+use Rattle.picture_limits.specs.declared.Refusal.{Refusal}
 use Rattle.picture_limits.specs.Refusal as R
-use Rattle.picture_tiles.specs.declared.Cutting.{Cutting}
-use Rattle.picture_tiles.specs.declared.Tiled.{Tiled}
+use Rattle.picture_tiles.specs.declared.Tiles.{Tiles}
+use Rattle.picture_tiles.specs.declared.Tile.{Tile}
 use Rattle.face_tiles.specs.declared.CutReport.{CutReport}
 use Rattle.face_tiles.specs.declared.TileReport.{TileReport}
 
-abbrev pub cut_report : Cutting → CutReport
-cut_report (Cutting.Tiles t r c) = record { number = 0; side = t; rows = r; columns = c }
-cut_report (Cutting.Refused r) = record { number = R.number r; side = 0; rows = 0; columns = 0 }
+abbrev pub cut_report : Result Tiles Refusal → CutReport
+cut_report (Ok a) = record { number = 0; side = a.side; rows = a.rows; columns = a.columns }
+cut_report (Err r) = record { number = R.number r; side = 0; rows = 0; columns = 0 }
 
-abbrev pub tile_report : Tiled → TileReport
-tile_report (Tiled.Tile gh gw n t l h w) = record { number = 0; grid_h = gh; grid_w = gw; floats = n; top = t; left = l; height = h; width = w }
-tile_report (Tiled.Refused r) = record { number = R.number r; grid_h = 0; grid_w = 0; floats = 0; top = 0; left = 0; height = 0; width = 0 }
+abbrev pub tile_report : Result Tile Refusal → TileReport
+tile_report (Ok a) = record { number = 0; grid_h = a.grid_h; grid_w = a.grid_w; floats = a.floats; top = a.top; left = a.left; height = a.height; width = a.width }
+tile_report (Err r) = record { number = R.number r; grid_h = 0; grid_w = 0; floats = 0; top = 0; left = 0; height = 0; width = 0 }

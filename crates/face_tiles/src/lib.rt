@@ -7,7 +7,8 @@ ghost use Rattle.face_settings.specs.Settings.{inner};
 ghost use Rattle.face_tiles.specs.Reports.{cut_report, tile_report};
 
 use face_settings::{PictureSettings, settings};
-use picture_tiles::{Cutting, Tiled, preprocess, restore};
+use picture_limits::Refusal;
+use picture_tiles::{Tile, Tiles, preprocess, restore};
 
 // The side of a tile, and how many tiles stand below each other and side by side.
 #[repr(C)]
@@ -33,63 +34,61 @@ pub struct TileReport {
     pub width: usize,
 }
 
+impl From<Result<Tiles, Refusal>> for CutReport {
+    ghost from_gives = { λ found r. r ≡ cut_report found };
+
+    fn from(found: Result<Tiles, Refusal>) -> CutReport {
+        match found {
+            Ok(a) => CutReport {
+                number: 0,
+                side: a.side,
+                rows: a.rows,
+                columns: a.columns,
+            },
+            Err(r) => CutReport {
+                number: u32::from(r),
+                side: 0,
+                rows: 0,
+                columns: 0,
+            },
+        }
+    }
+}
+
+impl From<Result<Tile, Refusal>> for TileReport {
+    ghost from_gives = { λ found r. r ≡ tile_report found };
+
+    fn from(found: Result<Tile, Refusal>) -> TileReport {
+        match found {
+            Ok(a) => TileReport {
+                number: 0,
+                grid_h: a.grid_h,
+                grid_w: a.grid_w,
+                floats: a.floats,
+                top: a.top,
+                left: a.left,
+                height: a.height,
+                width: a.width,
+            },
+            Err(r) => TileReport {
+                number: u32::from(r),
+                grid_h: 0,
+                grid_w: 0,
+                floats: 0,
+                top: 0,
+                left: 0,
+                height: 0,
+                width: 0,
+            },
+        }
+    }
+}
+
 pub fn cut(s: PictureSettings, height: usize, width: usize) -> CutReport
     ensures { result ≡ cut_report (cut_of (inner s) height width) }
 {
     let found = picture_tiles::cut::cut(settings(s), height, width);
-    match found {
-        Cutting::Tiles {
-            side,
-            rows,
-            columns,
-        } => CutReport {
-            number: 0,
-            side,
-            rows,
-            columns,
-        },
-        Cutting::Refused(r) => CutReport {
-            number: picture_limits::settings::number(r),
-            side: 0,
-            rows: 0,
-            columns: 0,
-        },
-    }
-}
-
-fn tile_report(found: Tiled) -> TileReport
-    ensures { result ≡ tile_report found }
-{
-    match found {
-        Tiled::Tile {
-            grid_h,
-            grid_w,
-            floats,
-            top,
-            left,
-            height,
-            width,
-        } => TileReport {
-            number: 0,
-            grid_h,
-            grid_w,
-            floats,
-            top,
-            left,
-            height,
-            width,
-        },
-        Tiled::Refused(r) => TileReport {
-            number: picture_limits::settings::number(r),
-            grid_h: 0,
-            grid_w: 0,
-            floats: 0,
-            top: 0,
-            left: 0,
-            height: 0,
-            width: 0,
-        },
-    }
+    CutReport::from(found)
 }
 
 pub fn preprocess_tile(
@@ -104,7 +103,7 @@ pub fn preprocess_tile(
     ensures output { out.new ≡ patches_out (inner s) rgb.now height width index out.old }
 {
     let found = preprocess::preprocess_tile(settings(s), rgb, height, width, index, out);
-    tile_report(found)
+    TileReport::from(found)
 }
 
 pub fn restore_tile(
@@ -119,5 +118,5 @@ pub fn restore_tile(
     ensures output { out.new ≡ bytes_out (inner s) patches.now height width index out.old }
 {
     let found = restore::restore_tile(settings(s), patches, height, width, index, out);
-    tile_report(found)
+    TileReport::from(found)
 }

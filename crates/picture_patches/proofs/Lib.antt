@@ -1,6 +1,5 @@
 pub mod Patches
 pub mod Views
-pub mod Stored
 pub mod Fits
 pub mod Frames
 pub mod Strips

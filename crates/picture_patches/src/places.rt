@@ -1,52 +1,45 @@
 // The neighbours of a target's rows and columns, worked out once for all its samples.
-ghost use Rattle.std.specs.Prelude.{◌≡◌, ◌+◌, ◌≤◌, ◌<◌, length};
+ghost use Rattle.std.specs.Prelude.{◌≡◌, ◌≤◌, ◌<◌, length};
 ghost use Rattle.buffers.specs.Rows.{tab};
 ghost use Rattle.buffers.specs.Region.{put};
 ghost use Rattle.picture_resize.specs.Resize.{near};
-ghost use Rattle.picture_patches.specs.inner.Places.{Placed};
+ghost use Rattle.picture_patches.specs.inner.Places.{place_of, Placed};
 
 use picture_resize::{Near, near_of};
 
-// Rows are stored from 0 on and columns from here on: the largest image size, so no target has more rows.
-pub(crate) const COLUMNS: usize = 2048;
+// The largest image size, so no target has more rows or columns.
+pub(crate) const MOST: usize = 2048;
 
-// The first neighbours and the parts of every index of a side, stored from `at` on.
-pub(crate) fn places(from: usize, to: usize, at: usize, lows: &mut [usize], parts: &mut [f64])
-    requires { (0 < from) × (at + to ≤ length lows.old) × (at + to ≤ length parts.old) }
-    ensures lows_after { lows.new ≡ put lows.old at (tab to (λ j. (near from to j).low)) }
-    ensures parts_after { parts.new ≡ put parts.old at (tab to (λ j. (near from to j).part)) }
+// What is stored of an index's neighbours: the first one, and how far from it. The second one follows from the first.
+#[derive(Clone, Copy)]
+pub(crate) struct Place {
+    pub low: usize,
+    pub part: f64,
+}
+
+// The places of every index of a side, over the front of `out`.
+pub(crate) fn places(from: usize, to: usize, out: &mut [Place])
+    requires { to ≤ length out.old }
+    ensures { out.new ≡ put out.old 0 (tab to (λ j. place_of (near from to j))) }
 {
     for j in 0..to {
         let n = near_of(from, to, j);
-        lows[at + j] = n.low;
-        parts[at + j] = n.part;
+        out[j] = Place {
+            low: n.low,
+            part: n.part,
+        };
     }
 }
 
-// What was stored from `at` on of index j of a side: the first neighbour and the part, and with them the second.
-pub(crate) fn near_at(
-    from: usize,
-    to: usize,
-    at: usize,
-    j: usize,
-    lows: &[usize],
-    parts: &[f64],
-) -> Near
-    requires { (0 < from) × (j < to) × Placed from to at lows.now parts.now }
+// The neighbours of index j of a side.
+pub(crate) fn near_at(from: usize, to: usize, j: usize, places: &[Place]) -> Near
+    requires { (0 < from) × (j < to) × Placed from to places.now }
     ensures { result ≡ near from to j }
 {
-    let low = lows[at + j];
-    let part = parts[at + j];
-    if low + 1 < from {
-        return Near {
-            low,
-            high: low + 1,
-            part,
-        };
-    }
+    let place = places[j];
     Near {
-        low,
-        high: low,
-        part,
+        low: place.low,
+        high: (place.low + 1).min(from - 1),
+        part: place.part,
     }
 }

@@ -9,7 +9,7 @@ ghost use Rattle.picture_patches.specs.inner.Frame.{Framed, Ready, mixed, strip_
 ghost use Rattle.picture_patches.specs.inner.Strip.{span, Held, Slots, RowAt, Banded};
 
 use crate::nest::patch_line;
-use crate::places::{COLUMNS, near_at, places};
+use crate::places::{MOST, Place, near_at, places};
 use crate::rows::Frame;
 use crate::weigh::{hold, mix_row};
 use picture_limits::View;
@@ -26,20 +26,20 @@ fn strip_row(
     left: &mut [f64],
     right: &mut [f64],
     band: &mut [u8],
-    lows: &[usize],
-    parts: &[f64],
+    rows: &[Place],
+    columns: &[Place],
 )
-    requires { Ready f (length rgb.now) lows.now parts.now × (r < f.th) × (x + n ≤ f.tw) × Slots n (length left.old) (length right.old) × Held rgb.now f x n held.old left.old right.old × (at + span ≤ length band.old) }
+    requires { Ready f (length rgb.now) rows.now columns.now × (r < f.th) × (x + n ≤ f.tw) × Slots n (length left.old) (length right.old) × Held rgb.now f x n held.old left.old right.old × (at + span ≤ length band.old) }
     ensures held { Held rgb.now f x n held.new left.new right.new }
     ensures row_at { RowAt rgb.now f r x n at band.new }
     ensures by_index { (k : ℕ) → k < at → get_or band.new k 0 ≡ get_or band.old k 0 }
 {
-    let y = near_at(f.h, f.th, 0, r, lows, parts);
+    let y = near_at(f.h, f.th, r, rows);
     let low = y.low;
     let high = y.high;
     let part = y.part;
-    hold(rgb, f, low, x, n, held, left, right, lows, parts);
-    hold(rgb, f, high, x, n, held, left, right, lows, parts);
+    hold(rgb, f, low, x, n, held, left, right, columns);
+    hold(rgb, f, high, x, n, held, left, right, columns);
     mix_row(
         left,
         right,
@@ -63,10 +63,10 @@ fn fill_strip(
     left: &mut [f64],
     right: &mut [f64],
     band: &mut [u8],
-    lows: &[usize],
-    parts: &[f64],
+    rows: &[Place],
+    columns: &[Place],
 )
-    requires { Ready f (length rgb.now) lows.now parts.now × (r + f.p ≤ f.th) × (x + n ≤ f.tw) × Slots n (length left.old) (length right.old) × (32 * span ≤ length band.old) }
+    requires { Ready f (length rgb.now) rows.now columns.now × (r + f.p ≤ f.th) × (x + n ≤ f.tw) × Slots n (length left.old) (length right.old) × (32 * span ≤ length band.old) }
     ensures { Banded rgb.now f r x n f.p band.new }
 {
     let p = f.p;
@@ -83,8 +83,8 @@ fn fill_strip(
             left,
             right,
             band,
-            lows,
-            parts,
+            rows,
+            columns,
         );
     }
 }
@@ -116,10 +116,10 @@ fn mixed_line(
     left: &mut [f64],
     right: &mut [f64],
     band: &mut [u8],
-    lows: &[usize],
-    parts: &[f64],
+    rows: &[Place],
+    columns: &[Place],
 )
-    requires { Ready f (length rgb.now) lows.now parts.now × Clean t.now × (r + f.p ≤ f.th) × (at + f.gw * (3 * (f.p * f.p)) ≤ length out.old) × Slots 0 (length left.old) (length right.old) × (length band.old ≡ 32 * span) }
+    requires { Ready f (length rgb.now) rows.now columns.now × Clean t.now × (r + f.p ≤ f.th) × (at + f.gw * (3 * (f.p * f.p)) ≤ length out.old) × Slots 0 (length left.old) (length right.old) × (length band.old ≡ 32 * span) }
     ensures { out.new ≡ put out.old at (patch_line f.p f.gw (mixed (entry t.now) f rgb.now) r) }
 {
     let p = f.p;
@@ -129,7 +129,7 @@ fn mixed_line(
     let mut o = at;
     while b < gw {
         let m = most.min(gw - b);
-        fill_strip(rgb, f, r, b * p, m * p, left, right, band, lows, parts);
+        fill_strip(rgb, f, r, b * p, m * p, left, right, band, rows, columns);
         let v = View {
             top: 0,
             left: 0,
@@ -151,16 +151,28 @@ fn mixed_patches(
     left: &mut [f64],
     right: &mut [f64],
     band: &mut [u8],
-    lows: &[usize],
-    parts: &[f64],
+    rows: &[Place],
+    columns: &[Place],
 )
-    requires { Ready f (length rgb.now) lows.now parts.now × Clean t.now × (f.gh * (f.gw * (3 * (f.p * f.p))) ≤ length out.old) × Slots 0 (length left.old) (length right.old) × (length band.old ≡ 32 * span) }
+    requires { Ready f (length rgb.now) rows.now columns.now × Clean t.now × (f.gh * (f.gw * (3 * (f.p * f.p))) ≤ length out.old) × Slots 0 (length left.old) (length right.old) × (length band.old ≡ 32 * span) }
     ensures { out.new ≡ put out.old 0 (patches f.p f.gh f.gw (mixed (entry t.now) f rgb.now)) }
 {
     let p = f.p;
     let n = f.gw * (3 * (p * p));
     for a in 0..f.gh {
-        mixed_line(rgb, f, a * p, a * n, out, t, left, right, band, lows, parts);
+        mixed_line(
+            rgb,
+            f,
+            a * p,
+            a * n,
+            out,
+            t,
+            left,
+            right,
+            band,
+            rows,
+            columns,
+        );
     }
 }
 
@@ -169,14 +181,15 @@ pub(crate) fn resized_all(rgb: &[u8], f: Frame, out: &mut [f32], t: &[u32; 768])
     requires { Framed f (length rgb.now) × Clean t.now × (f.gh * (f.gw * (3 * (f.p * f.p))) ≤ length out.old) }
     ensures { out.new ≡ put out.old 0 (patches f.p f.gh f.gw (mixed (entry t.now) f rgb.now)) }
 {
-    let mut lows = [0usize; 2 * COLUMNS];
-    let mut parts = [0.0f64; 2 * COLUMNS];
-    places(f.h, f.th, 0, &mut lows, &mut parts);
-    places(f.w, f.tw, COLUMNS, &mut lows, &mut parts);
+    let nowhere = Place { low: 0, part: 0.0 };
+    let mut rows = [nowhere; MOST];
+    places(f.h, f.th, &mut rows);
+    let mut columns = [nowhere; MOST];
+    places(f.w, f.tw, &mut columns);
     let mut left = [0.0f64; 1536];
     let mut right = [0.0f64; 1536];
     let mut band = [0u8; 24576];
     mixed_patches(
-        rgb, f, out, t, &mut left, &mut right, &mut band, &lows, &parts,
+        rgb, f, out, t, &mut left, &mut right, &mut band, &rows, &columns,
     );
 }

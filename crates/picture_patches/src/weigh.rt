@@ -7,10 +7,10 @@ ghost use Rattle.buffers.specs.Rows.{tab};
 ghost use Rattle.buffers.specs.Region.{put};
 ghost use Rattle.picture_resize.specs.Resize.{whole};
 ghost use Rattle.picture_patches.specs.inner.Frame.{Framed};
-ghost use Rattle.picture_patches.specs.inner.Places.{columns, Placed};
+ghost use Rattle.picture_patches.specs.inner.Places.{Placed};
 ghost use Rattle.picture_patches.specs.inner.Strip.{left_row, right_row, Held, Slots, mixed_row, Mixes};
 
-use crate::places::{COLUMNS, near_at};
+use crate::places::{Place, near_at};
 use crate::rows::Frame;
 use picture_resize::weighed_byte;
 
@@ -38,21 +38,19 @@ fn weigh_row(
     at: usize,
     left: &mut [f64],
     right: &mut [f64],
-    lows: &[usize],
-    parts: &[f64],
+    columns: &[Place],
 )
-    requires { Framed f (length rgb.now) × Placed f.w f.tw columns lows.now parts.now × (y < f.h) × (x + n ≤ f.tw) × (at + n * 3 ≤ length left.old) × (at + n * 3 ≤ length right.old) }
+    requires { Framed f (length rgb.now) × Placed f.w f.tw columns.now × (y < f.h) × (x + n ≤ f.tw) × (at + n * 3 ≤ length left.old) × (at + n * 3 ≤ length right.old) }
     ensures left_after { left.new ≡ put left.old at (left_row rgb.now f.w f.tw y x n) }
     ensures right_after { right.new ≡ put right.old at (right_row rgb.now f.w f.tw y x n) }
 {
     let w = f.w;
     let tw = f.tw;
-    let mut o = at;
     for j in 0..n {
-        let s = near_at(w, tw, COLUMNS, x + j, lows, parts);
+        let o = at + j * 3;
+        let s = near_at(w, tw, x + j, columns);
         weigh_pixel(rgb, (y * w + s.low) * 3, 1.0 - s.part, o, left);
         weigh_pixel(rgb, (y * w + s.high) * 3, s.part, o, right);
-        o += 3;
     }
 }
 
@@ -67,16 +65,15 @@ pub(crate) fn hold(
     held: &mut [usize],
     left: &mut [f64],
     right: &mut [f64],
-    lows: &[usize],
-    parts: &[f64],
+    columns: &[Place],
 )
-    requires { Framed f (length rgb.now) × Placed f.w f.tw columns lows.now parts.now × (y < f.h) × (x + n ≤ f.tw) × Slots n (length left.old) (length right.old) × Held rgb.now f x n held.old left.old right.old }
+    requires { Framed f (length rgb.now) × Placed f.w f.tw columns.now × (y < f.h) × (x + n ≤ f.tw) × Slots n (length left.old) (length right.old) × Held rgb.now f x n held.old left.old right.old }
     ensures held_after { held.new ≡ set held.old (y % 2) (y + 1) }
     ensures held { Held rgb.now f x n held.new left.new right.new }
 {
     let s = y % 2;
     if held[s] != y + 1 {
-        weigh_row(rgb, f, y, x, n, s * 768, left, right, lows, parts);
+        weigh_row(rgb, f, y, x, n, s * 768, left, right, columns);
     }
     held[s] = y + 1;
 }

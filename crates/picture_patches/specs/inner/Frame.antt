@@ -1,11 +1,12 @@
 -- What the loops over rows and patches ask and write. Assumes nothing.
 use Rattle.std.specs.Prelude.{◌≡◌, cond, List, ℕ, ◌+◌, ◌-◌, ◌*◌, ◌≤◌, ◌<◌, min, ltb, Float}
 use Rattle.picture_limits.specs.declared.View.{View}
+use Rattle.picture_patches.specs.declared.places.Place.{Place}
 use Rattle.picture_patches.specs.declared.rows.Frame.{Frame}
 use Rattle.picture_resize.specs.Resize.{resized_at}
 use Rattle.picture_samples.specs.Samples.{value}
 use Rattle.picture_patches.specs.Viewed.{view_at}
-use Rattle.picture_patches.specs.inner.Places.{columns, Placed}
+use Rattle.picture_patches.specs.inner.Places.{most, Placed}
 
 -- the sample at a row, a column and a channel, by a table k: of the picture resized, and of a view of it
 abbrev pub mixed : (ℕ → ℕ → ℕ) → Frame → List ℕ → ℕ → ℕ → ℕ → Float
@@ -25,24 +26,24 @@ pub record Framed (f : Frame) (len : ℕ) : Type 0 where
   pub wide : 0 < f.w
   pub tall-high : f.h ≤ 8192
   pub wide_high : f.w ≤ 8192
-  pub target-tall : f.th ≤ columns
-  pub target-wide : f.tw ≤ columns
+  pub target-tall : f.th ≤ most
+  pub target-wide : f.tw ≤ most
   pub patch-low : 0 < f.p
   pub patch-high : f.p ≤ 32
   pub grid-tall : f.gh * f.p ≤ f.th
   pub grid-wide : f.gw * f.p ≤ f.tw
-  pub grid-tall-high : f.gh ≤ columns
-  pub grid-wide-high : f.gw ≤ columns
+  pub grid-tall-high : f.gh ≤ most
+  pub grid-wide-high : f.gw ≤ most
 
 -- a view of the picture lies inside it
 abbrev pub Inside : Frame → View → Type 0
 Inside f v = (v.top + v.height ≤ f.h) × (v.left + v.width ≤ f.w)
 
 -- the frame, and the neighbours of rows and columns are in place
-pub record Ready (f : Frame) (len : ℕ) (lows : List ℕ) (parts : List Float) : Type 0 where
+pub record Ready (f : Frame) (len : ℕ) (rows columns : List Place) : Type 0 where
   pub frame : Framed f len
-  pub down : Placed f.h f.th 0 lows parts
-  pub across : Placed f.w f.tw columns lows parts
+  pub down : Placed f.h f.th rows
+  pub across : Placed f.w f.tw columns
 
 -- a strip of m patches of side p, in a picture of 32 rows of 256 pixels, and what it is a view of
 abbrev pub strip_frame : ℕ → ℕ → Frame

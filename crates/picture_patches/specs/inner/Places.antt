@@ -1,15 +1,18 @@
--- Where the neighbours of a target's rows and columns are stored. Assumes nothing.
-use Rattle.std.specs.Prelude.{◌≡◌, List, ℕ, ◌+◌, ◌≤◌, ◌<◌, length, get_or, Float}
-use Rattle.std.specs.Float.{nan}
+-- What is stored of the neighbours of a target's rows and columns. Assumes nothing.
+use Rattle.std.specs.Prelude.{◌≡◌, List, ℕ, ◌≤◌, ◌<◌, length, get_or}
+use Rattle.picture_resize.specs.declared.Near.{Near}
 use Rattle.picture_resize.specs.Resize.{near}
+use Rattle.picture_patches.specs.declared.places.Place.{Place}
 
--- columns start here, behind the rows, of which a target has no more
-abbrev pub columns : ℕ
-columns = 2048
+-- a target has no more rows or columns than the largest image size
+abbrev pub most : ℕ
+most = 2048
 
--- from `at` on, the first neighbour and the part of each index
-pub record Placed (from to at : ℕ) (lows : List ℕ) (parts : List Float) : Type 0 where
-  pub room : at + to ≤ length lows
-  pub space : at + to ≤ length parts
-  pub low : (j : ℕ) → j < to → get_or lows (at + j) 0 ≡ (near from to j).low
-  pub part : (j : ℕ) → j < to → get_or parts (at + j) nan ≡ (near from to j).part
+-- the first neighbour, and how far from it
+abbrev pub place_of : Near → Place
+place_of n = record { low = n.low; part = n.part }
+
+-- that of each index of a side
+pub record Placed (from to : ℕ) (places : List Place) : Type 0 where
+  pub room : to ≤ length places
+  pub near : (j : ℕ) (d : Place) → j < to → get_or places j d ≡ place_of (near from to j)

@@ -8,9 +8,7 @@ use Rattle.picture_patches.proofs.weigh.weigh_row.Given as goal
 
 abbrev pub invariant-loop-j : goal.invariant-loop-j
 invariant-loop-j l =
-    (l.j ≤ l.n)
-    × (l.o ≡ l.at + l.j * 3)
-    × (length l.left ≡ length l.initial.left)
+    (length l.left ≡ length l.initial.left)
     × (length l.right ≡ length l.initial.right)
     × (l.left ≡ put l.initial.left l.at (left_row l.rgb l.w l.tw l.y l.x l.j))
     × (l.right ≡ put l.initial.right l.at (right_row l.rgb l.w l.tw l.y l.x l.j))
