@@ -10,8 +10,9 @@ ghost use Rattle.face_settings.specs.Settings.{inner};
 ghost use Rattle.face_picture.specs.Reports.{preprocess_report, restore_report, place_of};
 
 use face_settings::{PictureSettings, settings};
-use picture::Preprocessed;
-use picture_restore::Restored;
+use picture::Patches;
+use picture_limits::Refusal;
+use picture_restore::Picture;
 
 #[repr(C)]
 #[derive(Drop)]
@@ -28,6 +29,46 @@ pub struct RestoreReport {
     pub number: u32,
     pub height: usize,
     pub width: usize,
+}
+
+impl From<Result<Patches, Refusal>> for PreprocessReport {
+    ghost from_gives = { λ found r. r ≡ preprocess_report found };
+
+    fn from(found: Result<Patches, Refusal>) -> PreprocessReport {
+        match found {
+            Ok(p) => PreprocessReport {
+                number: 0,
+                grid_h: p.grid_h,
+                grid_w: p.grid_w,
+                floats: p.floats,
+            },
+            Err(r) => PreprocessReport {
+                number: u32::from(r),
+                grid_h: 0,
+                grid_w: 0,
+                floats: 0,
+            },
+        }
+    }
+}
+
+impl From<Result<Picture, Refusal>> for RestoreReport {
+    ghost from_gives = { λ found r. r ≡ restore_report found };
+
+    fn from(found: Result<Picture, Refusal>) -> RestoreReport {
+        match found {
+            Ok(p) => RestoreReport {
+                number: 0,
+                height: p.height,
+                width: p.width,
+            },
+            Err(r) => RestoreReport {
+                number: u32::from(r),
+                height: 0,
+                width: 0,
+            },
+        }
+    }
 }
 
 // Where a patch lies in the patches: 0 and 0 where there is none.
@@ -49,24 +90,7 @@ pub fn preprocess(
     ensures output { out.new ≡ patches_out (inner s) rgb.now height width out.old }
 {
     let found = picture::preprocess::pixtral_preprocess(settings(s), rgb, height, width, out);
-    match found {
-        Preprocessed::Patches {
-            grid_h,
-            grid_w,
-            floats,
-        } => PreprocessReport {
-            number: 0,
-            grid_h,
-            grid_w,
-            floats,
-        },
-        Preprocessed::Refused(r) => PreprocessReport {
-            number: picture_limits::settings::number(r),
-            grid_h: 0,
-            grid_w: 0,
-            floats: 0,
-        },
-    }
+    PreprocessReport::from(found)
 }
 
 pub fn restore(
@@ -80,18 +104,7 @@ pub fn restore(
     ensures output { out.new ≡ bytes_out (inner s) patches.now grid_h grid_w out.old }
 {
     let found = picture_restore::restore(settings(s), patches, grid_h, grid_w, out);
-    match found {
-        Restored::Picture { height, width } => RestoreReport {
-            number: 0,
-            height,
-            width,
-        },
-        Restored::Refused(r) => RestoreReport {
-            number: picture_limits::settings::number(r),
-            height: 0,
-            width: 0,
-        },
-    }
+    RestoreReport::from(found)
 }
 
 pub fn patch(patches: &[f32], patch_size: usize, i: usize) -> PatchPlace

@@ -5,6 +5,7 @@ ghost use Rattle.face_settings.specs.Settings.{inner};
 ghost use Rattle.face_picture.specs.Reports.{salvage_report};
 
 use face_settings::{PictureSettings, settings};
+use picture_limits::Refusal;
 use picture_salvage::Salvaged;
 
 // The picture's sides, and how many samples were bad.
@@ -15,6 +16,27 @@ pub struct SalvageReport {
     pub height: usize,
     pub width: usize,
     pub bad: usize,
+}
+
+impl From<Result<Salvaged, Refusal>> for SalvageReport {
+    ghost from_gives = { λ found r. r ≡ salvage_report found };
+
+    fn from(found: Result<Salvaged, Refusal>) -> SalvageReport {
+        match found {
+            Ok(p) => SalvageReport {
+                number: 0,
+                height: p.height,
+                width: p.width,
+                bad: p.bad,
+            },
+            Err(r) => SalvageReport {
+                number: u32::from(r),
+                height: 0,
+                width: 0,
+                bad: 0,
+            },
+        }
+    }
 }
 
 pub fn salvage(
@@ -30,18 +52,5 @@ pub fn salvage(
     ensures entries { list.new ≡ list_out (inner s) patches.now grid_h grid_w (length out.old) list.old }
 {
     let found = picture_salvage::salvage(settings(s), patches, grid_h, grid_w, out, list);
-    match found {
-        Salvaged::Picture { height, width, bad } => SalvageReport {
-            number: 0,
-            height,
-            width,
-            bad,
-        },
-        Salvaged::Refused(r) => SalvageReport {
-            number: picture_limits::settings::number(r),
-            height: 0,
-            width: 0,
-            bad: 0,
-        },
-    }
+    SalvageReport::from(found)
 }
