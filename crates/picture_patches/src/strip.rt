@@ -127,6 +127,7 @@ fn mixed_line(
     let most = 256 / p;
     let mut b = 0usize;
     let mut o = at;
+    // A `for` would count strips and then ask for each how many patches are left: here the count of patches says both.
     while b < gw {
         let m = most.min(gw - b);
         fill_strip(rgb, f, r, b * p, m * p, left, right, band, rows, columns);

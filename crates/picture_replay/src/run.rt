@@ -1,10 +1,10 @@
 // A record's two calls. v holds its 30 numbers, in the order that main.rt lists.
 ghost use Rattle.std.specs.Prelude.{◌≡◌, ◌≤◌, length};
-ghost use Rattle.picture_replay.specs.Run.{room, at, made_of, left, back_of, float_of, settings_of, first_of, cells_left, second_of};
+ghost use Rattle.picture_replay.specs.Run.{room, at, made_from, made_of, left, back_from, back_of, float_of, settings_of, first_of, cells_left, second_of};
 
-use picture::Preprocessed;
-use picture_limits::PictureSettings;
-use picture_restore::Restored;
+use picture::Patches;
+use picture_limits::{PictureSettings, Refusal};
+use picture_restore::Picture;
 use replay::damage::damage;
 use replay::hash::{hash_bytes, hash_floats};
 use replay::marks::{MARKS, fill_bytes};
@@ -31,26 +31,19 @@ pub struct Back {
     pub hash: usize,
 }
 
-fn make(s: PictureSettings, rgb: &[u8], height: usize, width: usize, out: &mut [f32]) -> Made
-    ensures answer { result ≡ made_of s rgb.now height width out.old }
-    ensures output { out.new ≡ left s rgb.now height width out.old }
+fn tell_made(found: Result<Patches, Refusal>, hash: usize) -> Made
+    ensures { result ≡ made_from found hash }
 {
-    let found = picture::preprocess::pixtral_preprocess(s, rgb, height, width, out);
-    let hash = hash_floats(out) as usize;
     match found {
-        Preprocessed::Patches {
-            grid_h,
-            grid_w,
-            floats,
-        } => Made {
+        Ok(p) => Made {
             number: 0,
-            grid_h,
-            grid_w,
-            floats,
+            grid_h: p.grid_h,
+            grid_w: p.grid_w,
+            floats: p.floats,
             hash,
         },
-        Preprocessed::Refused(r) => Made {
-            number: picture_limits::settings::number(r) as usize,
+        Err(r) => Made {
+            number: u32::from(r) as usize,
             grid_h: 0,
             grid_w: 0,
             floats: 0,
@@ -59,25 +52,38 @@ fn make(s: PictureSettings, rgb: &[u8], height: usize, width: usize, out: &mut [
     }
 }
 
-fn bring(s: PictureSettings, patches: &[f32], grid_h: usize, grid_w: usize, out: &mut [u8]) -> Back
-    ensures { result ≡ back_of s patches.now grid_h grid_w out.old }
+fn tell_back(found: Result<Picture, Refusal>, hash: usize) -> Back
+    ensures { result ≡ back_from found hash }
 {
-    let found = picture_restore::restore(s, patches, grid_h, grid_w, out);
-    let hash = hash_bytes(out) as usize;
     match found {
-        Restored::Picture { height, width } => Back {
+        Ok(p) => Back {
             number: 0,
-            height,
-            width,
+            height: p.height,
+            width: p.width,
             hash,
         },
-        Restored::Refused(r) => Back {
-            number: picture_limits::settings::number(r) as usize,
+        Err(r) => Back {
+            number: u32::from(r) as usize,
             height: 0,
             width: 0,
             hash,
         },
     }
+}
+
+fn make(s: PictureSettings, rgb: &[u8], height: usize, width: usize, out: &mut [f32]) -> Made
+    ensures answer { result ≡ made_of s rgb.now height width out.old }
+    ensures output { out.new ≡ left s rgb.now height width out.old }
+{
+    let found = picture::preprocess::pixtral_preprocess(s, rgb, height, width, out);
+    tell_made(found, hash_floats(out) as usize)
+}
+
+fn bring(s: PictureSettings, patches: &[f32], grid_h: usize, grid_w: usize, out: &mut [u8]) -> Back
+    ensures { result ≡ back_of s patches.now grid_h grid_w out.old }
+{
+    let found = picture_restore::restore(s, patches, grid_h, grid_w, out);
+    tell_back(found, hash_bytes(out) as usize)
 }
 
 // The float of a pattern, of which a record's number has the low 32 bits.
