@@ -1,13 +1,13 @@
 // Patterns of damaged patches back to the picture: a sample that has no byte becomes byte 0, and is listed.
 #![tactic(auto)]
 
-ghost use Rattle.std.specs.Prelude.{◌≡◌, true, [], ◌∷◌, ◌+◌, ◌*◌, ◌/◌, ◌%◌, ◌≤◌, ◌<◌, length, Ok};
-ghost use Rattle.buffers.specs.Rows.{count};
+ghost use Rattle.std.specs.Prelude.{◌≡◌, true, [], ◌∷◌, ◌+◌, ◌*◌, ◌/◌, ◌%◌, ◌≤◌, ◌<◌, ℕ, length, get_or, Ok, Option};
+ghost use Rattle.buffers.specs.Rows.{tab, count};
 ghost use Rattle.buffers.specs.Region.{put};
 ghost use Rattle.picture_limits.specs.Shape.{shaped};
 ghost use Rattle.picture_samples.specs.Samples.{sample_table, channels_allowed, value, entry};
 ghost use Rattle.picture_salvage.specs.Salvage.{saved, salvaged, saved_out, list_out};
-ghost use Rattle.picture_spot.specs.inner.Spot.{guessed_by, spotted, Spots};
+ghost use Rattle.picture_spot.specs.inner.Spot.{spotted, or_none, Spots};
 ghost use Rattle.picture_salvage.specs.inner.Loops.{found_run, none_at, bad_run, entries_by, all_entries, saved_pixel, saved_pixels, saved_run, saved_line, saved_rows};
 
 use picture_limits::settings::shape;
@@ -23,38 +23,43 @@ pub struct Salvaged {
     pub bad: usize,
 }
 
-// Writes over the front of `found`, of each of the n samples from `at` on, the byte in channel c, and 256 where there is
-// none; bytes are spotted by arithmetic.
-fn find_guessed(
-    bits: &[u32],
-    at: usize,
-    n: usize,
-    c: usize,
-    found: &mut [u16],
-    t: &[u32; 768],
-    w: Way,
-)
-    requires { (c < 3) × (at + n ≤ length bits.now) × (n ≤ length found.old) × Spots t.now (guessed_by w) }
-    ensures { found.new ≡ put found.old 0 (found_run (entry t.now) bits.now at c n) }
+// A byte, and 256 where there is none: sixteen bits of each, so that several are counted at once.
+fn or_none(b: Option<u8>) -> u16
+    ensures { result ≡ or_none b }
 {
-    let slope = w.slope[c];
-    let shift = w.shift[c];
+    b.map_or(256, u16::from)
+}
+
+// Writes over the front of `found` what f finds of each of the n patterns from `at` on.
+fn find_each<F: Fn(u32) -> Option<u8>>(bits: &[u32], at: usize, n: usize, found: &mut [u16], f: F)
+    requires room { (at + n ≤ length bits.now) × (n ≤ length found.old) }
+    requires callable { F.IsAlwaysCallable f }
+    ensures { (g : ℕ → ℕ) → ((b : ℕ) (r : Option ℕ) → F.post f b r → or_none r ≡ g b) → found.new ≡ put found.old 0 (tab n (λ k. g (get_or bits.now (at + k) 0))) }
+{
     for k in 0..n {
-        found[k] = guess_of(t, slope, shift, c, bits[at + k]) as u16;
+        found[k] = or_none(f(bits[at + k]));
     }
 }
 
-// The same either way. How bytes are spotted is asked once for all of them.
+// Writes over the front of `found`, of each of the n samples from `at` on, the byte in channel c. How bytes are spotted is
+// asked once for all of them.
 fn find_run(bits: &[u32], at: usize, n: usize, c: usize, found: &mut [u16], t: &[u32; 768], w: Way)
     requires { (c < 3) × (at + n ≤ length bits.now) × (n ≤ length found.old) × Spots t.now (spotted w (entry t.now)) }
     ensures { found.new ≡ put found.old 0 (found_run (entry t.now) bits.now at c n) }
 {
-    if w.right {
-        find_guessed(bits, at, n, c, found, t, w);
-        return;
-    }
-    for k in 0..n {
-        found[k] = byte_of(t, w, c, bits[at + k]) as u16;
+    match w {
+        Way::Guess { slope, shift } => {
+            let own_slope = slope[c];
+            let own_shift = shift[c];
+            find_each(
+                bits,
+                at,
+                n,
+                found,
+                |b| guess_of(t, own_slope, own_shift, c, b),
+            );
+        }
+        Way::Halve => find_each(bits, at, n, found, |b| byte_of(t, w, c, b)),
     }
 }
 

@@ -1,5 +1,5 @@
 -- A test of every number of a range, and a float's own test. Assumes nothing.
-use Rattle.std.proofs.Common.{◌≡◌, ℕ, zero, suc, ◌+◌, Bool, ◌&&◌, refl, sym, ap, ◌∙◌, arith}
+use Rattle.std.proofs.Common.{◌≡◌, ℕ, zero, suc, ◌+◌, ◌-◌, Bool, ◌&&◌, refl, sym, ap, ◌∙◌, arith}
 use Rattle.std.specs.Float.{Float, nan, inf, fin, float_is_finite}
 use Rattle.std.specs.Float.Ieee.Scale.{finite}
 use Rattle.std.specs.List.{list_all, range_with_len}
@@ -17,9 +17,11 @@ all-from f a (suc n) =
     ∙ sym (all-add 1 n (λ i. f (a + i)))
     ∙ ap (λ (k : ℕ). all k (λ i. f (a + i))) more
 
--- that of every number below n
-pub all-below : (f : ℕ → Bool) (n : ℕ) → list_all f (range_with_len 0 n) ≡ all n f
-all-below f n = all-from f 0 n ∙ all-ext n (λ i. f (0 + i)) f (λ i _. ap f (let e : 0 + i ≡ i = omega arith in e))
+-- that of the numbers of 0..n
+pub all-below : (f : ℕ → Bool) (n : ℕ) → list_all f (range_with_len 0 (n - 0)) ≡ all n f
+all-below f n =
+    let same : n - 0 ≡ n = omega arith in
+    ap (λ (m : ℕ). list_all f (range_with_len 0 m)) same ∙ all-from f 0 n ∙ all-ext n (λ i. f (0 + i)) f (λ i _. ap f (let e : 0 + i ≡ i = omega arith in e))
 
 -- `x.is_finite()` says whether x is finite
 pub finite-is : (x : Float) → float_is_finite x ≡ finite x

@@ -9,7 +9,8 @@ use number_floats::pattern::f32_of_bits;
 use picture_limits::settings::settings_allowed;
 use picture_limits::{PictureSettings, Refusal};
 
-fn value_of(t: &[u32; 768], c: usize, b: usize) -> f32
+// The sample of byte b in channel c.
+pub fn value_of(t: &[u32; 768], c: usize, b: usize) -> f32
     requires { (c < 3) × (b < 256) }
     ensures { result ≡ value (entry t.now) c b }
 {

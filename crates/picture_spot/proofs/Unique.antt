@@ -3,6 +3,7 @@ use mathlib.Core.Path.{◌≡◌}
 use mathlib.Core.List.{List}
 use Prim.Native.Nat.{ℕ}
 use lib.Ieee.{Float}
+use Rattle.std.specs.Prelude.{Option}
 use Rattle.number_floats.proofs.Unique.{one}
 use Rattle.picture_samples.specs.Samples.{entry}
 use Rattle.picture_spot.specs.declared.Way.{Way}
@@ -17,8 +18,8 @@ way-unique t mean deviation a b = one _
 pub spot-unique : (t : List ℕ) (w : Way) (c : ℕ) (v : Float) (a b : ℕ) → a ≡ spotted w (entry t) c v → b ≡ spotted w (entry t) c v → a ≡ b
 spot-unique t w c v a b = one _
 
-pub byte-unique : (t : List ℕ) (w : Way) (c x : ℕ) (a b : ℕ) → a ≡ tried (entry t) (spotted w (entry t)) c x → b ≡ tried (entry t) (spotted w (entry t)) c x → a ≡ b
+pub byte-unique : (t : List ℕ) (w : Way) (c x : ℕ) (a b : Option ℕ) → a ≡ tried (entry t) (spotted w (entry t)) c x → b ≡ tried (entry t) (spotted w (entry t)) c x → a ≡ b
 byte-unique t w c x a b = one _
 
-pub guess-unique : (t : List ℕ) (slope shift : Float) (c x : ℕ) (a b : ℕ) → a ≡ tried (entry t) (guessed_with slope shift) c x → b ≡ tried (entry t) (guessed_with slope shift) c x → a ≡ b
+pub guess-unique : (t : List ℕ) (slope shift : Float) (c x : ℕ) (a b : Option ℕ) → a ≡ tried (entry t) (guessed_with slope shift) c x → b ≡ tried (entry t) (guessed_with slope shift) c x → a ≡ b
 guess-unique t slope shift c x a b = one _

@@ -1,20 +1,20 @@
 // The byte of a sample: spotted in a table of 768 patterns, and then compared by its bits.
 #![tactic(auto)]
 
-ghost use Rattle.std.specs.Prelude.{◌≡◌, ◌<◌};
+ghost use Rattle.std.specs.Prelude.{◌≡◌, ◌<◌, cond, eqb, Some, None};
 ghost use Rattle.std.specs.Float.Ieee as Ieee;
 ghost use Rattle.picture_samples.specs.Samples.{value, entry};
 ghost use Rattle.picture_spot.specs.inner.Spot.{guessed, guesses, beyond, halved, guessed_with, spotted, tried, way_of};
 
 use number_floats::pattern::{bits_of_f32, f32_of_bits};
+use picture_samples::allowed::value_of;
 
 // How a byte is spotted: by arithmetic, with a slope and a shift for each channel, where that is right for every byte
 // of the table; else by halving.
 #[derive(Clone, Copy)]
-pub struct Way {
-    pub right: bool,
-    pub slope: [f32; 3],
-    pub shift: [f32; 3],
+pub enum Way {
+    Guess { slope: [f32; 3], shift: [f32; 3] },
+    Halve,
 }
 
 // The byte that v would have to be the sample of, by arithmetic: adding 2^23 leaves the whole part in the low bits.
@@ -23,13 +23,6 @@ pub fn guess(slope: f32, shift: f32, v: f32) -> usize
 {
     let s = v * slope + shift + 8388608.0;
     (bits_of_f32(s) % 256) as usize
-}
-
-fn value_of(t: &[u32; 768], c: usize, b: usize) -> f32
-    requires { (c < 3) × (b < 256) }
-    ensures { result ≡ value (entry t.now) c b }
-{
-    f32_of_bits(t[c * 256 + b])
 }
 
 // Whether byte b + 1 of channel c lies beyond v, where the channel rises if `up`, and else falls.
@@ -63,7 +56,7 @@ fn halve(t: &[u32; 768], c: usize, v: f32) -> usize
     low
 }
 
-// Whether every byte of the table is guessed right.
+// Whether every byte of the table is guessed right. All are looked at, so that several are at once.
 fn guesses_right(t: &[u32; 768], slope: [f32; 3], shift: [f32; 3]) -> bool
     ensures { result ≡ guesses slope shift t.now }
 {
@@ -86,11 +79,10 @@ pub fn way_of(t: &[u32; 768], mean: [f32; 3], deviation: [f32; 3]) -> Way
         255.0 * deviation[2],
     ];
     let shift = [255.0 * mean[0], 255.0 * mean[1], 255.0 * mean[2]];
-    let right = guesses_right(t, slope, shift);
-    Way {
-        right,
-        slope,
-        shift,
+    if guesses_right(t, slope, shift) {
+        Way::Guess { slope, shift }
+    } else {
+        Way::Halve
     }
 }
 
@@ -101,36 +93,42 @@ pub fn spot(t: &[u32; 768], w: Way, c: usize, v: f32) -> usize
     if 3 <= c {
         return 0;
     }
-    if w.right {
-        return guess(w.slope[c], w.shift[c], v);
+    match w {
+        Way::Guess { slope, shift } => guess(slope[c], shift[c], v),
+        Way::Halve => halve(t, c, v),
     }
-    halve(t, c, v)
 }
 
-// The byte whose sample in channel c has the pattern b, and 256 where there is none.
-pub fn byte_of(t: &[u32; 768], w: Way, c: usize, b: u32) -> usize
+// The byte k, where its sample in channel c has the pattern b.
+fn held_to(t: &[u32; 768], c: usize, k: usize, b: u32) -> Option<u8>
+    requires { (c < 3) × (k < 256) }
+    ensures { result ≡ cond (eqb (entry t.now c k) b) (Some k) None }
+{
+    if t[c * 256 + k] == b {
+        Some(k as u8)
+    } else {
+        None
+    }
+}
+
+// The byte whose sample in channel c has the pattern b.
+pub fn byte_of(t: &[u32; 768], w: Way, c: usize, b: u32) -> Option<u8>
     ensures { result ≡ tried (entry t.now) (spotted w (entry t.now)) c b }
 {
     if 3 <= c {
-        return 256;
+        return None;
     }
     let k = spot(t, w, c, f32_of_bits(b));
-    if t[c * 256 + k] == b {
-        return k;
-    }
-    256
+    held_to(t, c, k, b)
 }
 
 // The same, by arithmetic alone, with the channel's slope and shift.
-pub fn guess_of(t: &[u32; 768], slope: f32, shift: f32, c: usize, b: u32) -> usize
+pub fn guess_of(t: &[u32; 768], slope: f32, shift: f32, c: usize, b: u32) -> Option<u8>
     ensures { result ≡ tried (entry t.now) (guessed_with slope shift) c b }
 {
     if 3 <= c {
-        return 256;
+        return None;
     }
     let k = guess(slope, shift, f32_of_bits(b));
-    if t[c * 256 + k] == b {
-        return k;
-    }
-    256
+    held_to(t, c, k, b)
 }

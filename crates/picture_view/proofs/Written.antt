@@ -21,6 +21,7 @@ use Rattle.picture_samples.proofs.Finds.{Same, byte-same}
 use Rattle.picture_limits.specs.Places.{patch_floats, sample_place}
 use Rattle.picture_limits.proofs.Places.{turn, quotient, remainder, patch-in, place-in-patch, at_in}
 use Rattle.picture_spot.specs.declared.Way.{Way}
+use Rattle.picture_spot.specs.declared.Way.TheVariants.{Guess}
 use Rattle.picture_spot.specs.inner.Spot.{guessed_by, spotted, Spots}
 use Rattle.picture_spot.proofs.Spots.{spot-byte}
 use Rattle.picture_view.specs.Known.{known}
@@ -29,9 +30,9 @@ use Rattle.picture_view.proofs.Known.{known_at}
 use Rattle.picture_view.proofs.Columns.{puts-longer, puts-more}
 
 -- where bytes are spotted by arithmetic, guesses are what is spotted
-pub by-arithmetic : (w : Way) (k : ℕ → ℕ → ℕ) → w.right ≡ true → (c : ℕ) → c < 3 → (n : ℕ) (l : List Float) (from : ℕ) → run_by (guessed_by w) c n l from ≡ run_by (spotted w k) c n l from
+pub by-arithmetic : (w : Way) (slope shift : List Float) (k : ℕ → ℕ → ℕ) → w ≡ Guess slope shift → (c : ℕ) → c < 3 → (n : ℕ) (l : List Float) (from : ℕ) → run_by (guessed_by slope shift) c n l from ≡ run_by (spotted w k) c n l from
 unfolding spotted
-by-arithmetic w k e c h n l from = tab-ext n _ _ (λ i _. rw (lt-ltb c 3 h, e) refl)
+by-arithmetic w slope shift k e c h n l from = tab-ext n _ _ (λ i _. rw (e, lt-ltb c 3 h) refl)
 
 -- a loop that goes on by p, and ends at m: where it stands after a turn
 pub record Next (a y p m n : ℕ) : Type 0 where

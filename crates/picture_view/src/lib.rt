@@ -3,7 +3,7 @@
 
 pub mod view;
 
-ghost use Rattle.std.specs.Prelude.{◌≡◌, ℕ, ◌+◌, ◌*◌, ◌≤◌, ◌<◌, min, length, get_or};
+ghost use Rattle.std.specs.Prelude.{◌≡◌, ℕ, ◌+◌, ◌*◌, ◌≤◌, ◌<◌, length, get_or};
 ghost use Rattle.std.specs.Float.{nan};
 ghost use Rattle.buffers.specs.Rows.{tab};
 ghost use Rattle.buffers.specs.Region.{put, put_rows};
@@ -15,10 +15,9 @@ ghost use Rattle.picture_spot.specs.inner.Spot.{guessed, spotted, Spots};
 use number_floats::pattern::bits_of_f32;
 use picture_spot::{Way, byte_of, guess, spot};
 
-// The numbers of the formula, and whether the table has its patterns.
+// The numbers of the formula.
 #[derive(Clone, Copy)]
 pub(crate) struct Formula {
-    pub exact: bool,
     pub mean: [f32; 3],
     pub deviation: [f32; 3],
 }
@@ -30,7 +29,7 @@ fn pattern_of(mean: f32, deviation: f32, b: u8) -> u32
     bits_of_f32((b as f32 / 255.0 - mean) / deviation)
 }
 
-// Whether the table has the formula's patterns in channel c.
+// Whether the table has the formula's patterns in channel c. All are looked at, so that several are at once.
 fn channel_exact(t: &[u32; 768], c: usize, mean: f32, deviation: f32) -> bool
     requires { c < 3 }
     ensures { result ≡ channel_exact t.now c mean deviation }
@@ -42,16 +41,17 @@ fn channel_exact(t: &[u32; 768], c: usize, mean: f32, deviation: f32) -> bool
     ok
 }
 
-pub(crate) fn formula_of(t: &[u32; 768], mean: [f32; 3], deviation: [f32; 3]) -> Formula
+// The formula, where the table has its patterns.
+pub(crate) fn formula_of(t: &[u32; 768], mean: [f32; 3], deviation: [f32; 3]) -> Option<Formula>
     ensures { result ≡ formula_of t.now mean deviation }
 {
     let exact = channel_exact(t, 0, mean[0], deviation[0])
         & channel_exact(t, 1, mean[1], deviation[1])
         & channel_exact(t, 2, mean[2], deviation[2]);
-    Formula {
-        exact,
-        mean,
-        deviation,
+    if exact {
+        Some(Formula { mean, deviation })
+    } else {
+        None
     }
 }
 
@@ -87,31 +87,35 @@ fn run_known(
     c: usize,
     t: &[u32; 768],
     w: Way,
-    f: Formula,
+    f: Option<Formula>,
 ) -> bool
     requires { (c < 3) × (at + n ≤ length patches.now) × Spots t.now (spotted w (entry t.now)) × Exact t.now f }
     ensures { result ≡ known_run (entry t.now) n patches.now at c }
 {
-    if w.right & f.exact {
-        return run_exact(
-            patches,
-            at,
-            n,
-            w.slope[c],
-            w.shift[c],
-            f.mean[c],
-            f.deviation[c],
-        );
-    }
-    for k in 0..n {
-        if 256 <= byte_of(t, w, c, bits_of_f32(patches[at + k])) {
-            return false;
+    if let Way::Guess { slope, shift } = w {
+        if let Some(f) = f {
+            return run_exact(
+                patches,
+                at,
+                n,
+                slope[c],
+                shift[c],
+                f.mean[c],
+                f.deviation[c],
+            );
         }
     }
-    true
+    (0..n).all(|k| byte_of(t, w, c, bits_of_f32(patches[at + k])).is_some())
 }
 
-fn patch_known(patches: &[f32], at: usize, p: usize, t: &[u32; 768], w: Way, f: Formula) -> bool
+fn patch_known(
+    patches: &[f32],
+    at: usize,
+    p: usize,
+    t: &[u32; 768],
+    w: Way,
+    f: Option<Formula>,
+) -> bool
     requires { (p ≤ 32) × (at + 3 * (p * p) ≤ length patches.now) × Spots t.now (spotted w (entry t.now)) × Exact t.now f }
     ensures { result ≡ known_patch (entry t.now) p patches.now at }
 {
@@ -133,7 +137,7 @@ pub(crate) fn all_known(
     n: usize,
     t: &[u32; 768],
     w: Way,
-    f: Formula,
+    f: Option<Formula>,
 ) -> bool
     requires { (p ≤ 32) × (n * (3 * (p * p)) ≤ length patches.now) × Spots t.now (spotted w (entry t.now)) × Exact t.now f }
     ensures { result ≡ known_patches (entry t.now) p n patches.now }
@@ -181,8 +185,8 @@ fn run_bytes(
     requires { (c < 3) × (from + n ≤ length patches.now) × (at + n ≤ length bytes.old) × Spots t.now (spotted w (entry t.now)) }
     ensures { bytes.new ≡ put bytes.old at (run_by (spotted w (entry t.now)) c n patches.now from) }
 {
-    if w.right {
-        guess_bytes(patches, from, n, w.slope[c], w.shift[c], at, bytes);
+    if let Way::Guess { slope, shift } = w {
+        guess_bytes(patches, from, n, slope[c], shift[c], at, bytes);
         return;
     }
     for k in 0..n {
@@ -259,12 +263,6 @@ fn restore_patch(
     copy_patch(bytes, p, tall, wide, at, stride, out);
 }
 
-fn smaller(a: usize, b: usize) -> usize
-    ensures { result ≡ min a b }
-{
-    if a <= b { a } else { b }
-}
-
 // The first `wide` pixels of the first `tall` rows of the patches side by side from `from` on: of whole patches, and then of a
 // part of one.
 fn restore_line(
@@ -287,7 +285,7 @@ fn restore_line(
     let mut b = 0usize;
     let mut x = 0usize;
     while x < wide {
-        let n = smaller(p, wide - x);
+        let n = p.min(wide - x);
         restore_patch(
             patches,
             p,
@@ -327,7 +325,7 @@ pub(crate) fn restore_rows(
     let mut a = 0usize;
     let mut y = 0usize;
     while y < tall {
-        let n = smaller(p, tall - y);
+        let n = p.min(tall - y);
         restore_line(
             patches,
             p,

@@ -1,56 +1,25 @@
--- `picture_salvage::find_run` meets its contract. The invariant: the bytes of the samples passed are written. Assumes nothing.
-use mathlib.Core.Path.{◌≡◌, refl, ap, ◌∙◌}
-use Prim.Native.Nat.{ℕ, ◌+◌}
-use native.Mathlib.Omega.{arith}
-use lib.ListN.{get_or, length-set}
-use Rattle.buffers.specs.Rows.{tab}
-use Rattle.buffers.specs.Region.{put}
-use Rattle.buffers.proofs.Lists.{tab-step-0}
+-- `picture_salvage::find_run` meets its contract. Assumes nothing.
+use Rattle.std.proofs.Common.{◌≡◌, ℕ, ap, ◌∙◌, rules}
+use Rattle.std.specs.Prelude.{get_or}
+use lib.Ieee.{nan}
 use Rattle.picture_samples.specs.Samples.{byte_of, entry}
-use Rattle.picture_samples.proofs.Finds.{byte_le}
-use Rattle.picture_spot.specs.inner.Spot.{spotted}
-use Rattle.picture_spot.proofs.Spots.{by-guess, tried-byte}
-use Rattle.picture_salvage.specs.inner.Loops.{found_run}
+use Rattle.picture_spot.specs.inner.Spot.{guessed_with, guessed_by, spotted, tried, or_none}
+use Rattle.picture_spot.proofs.Spots.{by-guess, own-channel, tried-byte}
 use Rattle.picture_salvage.proofs.find_run.Goals as goal
 
-pub find_guessed-requires : goal.find_guessed-requires
-find_guessed-requires c =
-    (c.requires.0, c.requires.1, c.requires.2, by-guess c.args.w c.args.t.now c.if-w.true c.requires.3)
+pub returns-in-Guess : goal.returns-in-Guess
+returns-in-Guess c =
+    let t = c.args.t.now in
+    let slope = c.in-Guess.slope in
+    let shift = c.in-Guess.shift in
+    c.find_each.ensures (byte_of (entry t) c.args.c) (λ b r p.
+    let told : r ≡ tried (entry t) (guessed_with (get_or slope c.args.c nan) (get_or shift c.args.c nan)) c.args.c b = search rules in
+    ap or_none (told ∙ own-channel slope shift (entry t) c.args.c b)
+    ∙ tried-byte t (guessed_by slope shift) (by-guess c.args.w slope shift t c.in-Guess.is c.requires.3) c.args.c c.requires.0 b)
 
-pub shape_of-found-then-w : goal.shape_of-found-then-w
-shape_of-found-then-w c = c.find_guessed.auto.found
-
-pub returns-then-w : goal.returns-then-w
-returns-then-w c = c.find_guessed.ensures
-
-pub loop-k-init : goal.loop-k-init
-unfolding put tab
-loop-k-init c = (omega arith, refl, refl)
-
-pub overflow_cast-found : goal.overflow_cast-found
-overflow_cast-found c =
-    let told : let a = c.args in c.byte_of.result ≡ byte_of (entry c.args.t.now) c.args.c (get_or c.args.bits.now (c.args.at + c.loop-k.k) 0) = let a = c.args in c.byte_of.ensures ∙ tried-byte c.args.t.now (spotted c.args.w (entry c.args.t.now)) c.requires.3 c.args.c c.requires.0 _ in
-    let a = c.args in omega (arith, told, byte_le (entry c.args.t.now) c.args.c (get_or c.args.bits.now (c.args.at + c.loop-k.k) 0))
-
-pub offset_bounds-found-k : goal.offset_bounds-found-k
-offset_bounds-found-k c = omega (arith, c.loop-k.invariant.1, c.well_formed)
-
-pub bounds-found-k : goal.bounds-found-k
-bounds-found-k c = omega (arith, c.loop-k.invariant.1, c.requires.2)
-
-pub loop-k-preserved : goal.loop-k-preserved
-loop-k-preserved c =
-    let told : let a = c.args in c.byte_of.result ≡ byte_of (entry c.args.t.now) c.args.c (get_or c.args.bits.now (c.args.at + c.loop-k.k) 0) = let a = c.args in c.byte_of.ensures ∙ tried-byte c.args.t.now (spotted c.args.w (entry c.args.t.now)) c.requires.3 c.args.c c.requires.0 _ in
-    let a = c.args in (
-      omega arith,
-      simp length-set c.loop-k.invariant.1,
-      tab-step-0 c.args.found.now c.loop-k.found c.loop-k.k (λ i. byte_of (entry c.args.t.now) c.args.c (get_or c.args.bits.now (c.args.at + i) 0)) _ c.loop-k.invariant.2 (told),
-    )
-
-pub shape_of-found : goal.shape_of-found
-shape_of-found c = c.loop-k.invariant.1
-
-pub returns : goal.returns
-returns c =
-    let e : c.loop-k.k ≡ c.args.n = omega arith in
-    c.loop-k.invariant.2 ∙ ap (λ (n : ℕ). put c.args.found.now 0 (found_run (entry c.args.t.now) c.args.bits.now c.args.at c.args.c n)) e
+pub returns-in-Halve : goal.returns-in-Halve
+returns-in-Halve c =
+    let t = c.args.t.now in
+    c.find_each-in-Halve.ensures (byte_of (entry t) c.args.c) (λ b r p.
+    let told : r ≡ tried (entry t) (spotted c.args.w (entry t)) c.args.c b = search rules in
+    ap or_none told ∙ tried-byte t (spotted c.args.w (entry t)) c.requires.3 c.args.c c.requires.0 b)

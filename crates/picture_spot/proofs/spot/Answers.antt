@@ -2,19 +2,18 @@
 use mathlib.Core.Path.{refl}
 use native.Mathlib.Omega.{arith}
 use borrow.Author.Tests.{lt-ltb, le-ltb}
+use Rattle.picture_samples.specs.Samples.{entry}
 use Rattle.picture_spot.specs.inner.Spot.{spotted}
+use Rattle.picture_spot.proofs.Spots.{no-spot}
 use Rattle.picture_spot.proofs.spot.Goals as goal
 
 pub returns-then-c-ge3 : goal.returns-then-c-ge3
-unfolding spotted
-returns-then-c-ge3 c = rw (le-ltb c.args.c 3 c.if-c-ge3.true) refl
+returns-then-c-ge3 c = no-spot c.args.w (entry c.args.t.now) c.args.c c.args.v c.if-c-ge3.true
 
-pub returns-then-w : goal.returns-then-w
+pub returns-in-Guess : goal.returns-in-Guess
 unfolding spotted
-returns-then-w c =
-    rw (lt-ltb c.args.c 3 (omega arith), c.if-w.true) c.guess.ensures
+returns-in-Guess c = rw (c.in-Guess.is, lt-ltb c.args.c 3 (omega arith)) c.guess.ensures
 
-pub returns : goal.returns
+pub returns-in-Halve : goal.returns-in-Halve
 unfolding spotted
-returns c =
-    rw (lt-ltb c.args.c 3 (omega arith), c.if-w.false) c.halve.ensures
+returns-in-Halve c = rw (c.in-Halve.is, lt-ltb c.args.c 3 (omega arith)) c.halve.ensures

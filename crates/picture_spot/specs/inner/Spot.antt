@@ -1,10 +1,11 @@
 -- A byte spotted from its sample, by arithmetic or by halving. Assumes nothing.
-use Rattle.std.specs.Prelude.{◌≡◌, Bool, true, cond, ◌&&◌, List, [], ◌∷◌, ℕ, zero, suc, ◌+◌, ◌/◌, ◌%◌, ◌<◌, eqb, ltb, get_or, Float}
+use Rattle.std.specs.Prelude.{◌≡◌, Bool, true, cond, ◌&&◌, List, [], ◌∷◌, ℕ, zero, suc, ◌+◌, ◌/◌, ◌%◌, ◌<◌, eqb, ltb, get_or, Float, Option, Some, None}
 use Rattle.std.specs.Float.{nan, binary32}
 use Rattle.std.specs.Float.Ieee.{add, mul, lt, of_bits, to_bits}
 use Rattle.buffers.specs.Rows.{all}
 use Rattle.picture_samples.specs.Samples.{channels_allowed, value, entry}
 use Rattle.picture_spot.specs.declared.Way.{Way}
+use Rattle.picture_spot.specs.declared.Way.TheVariants.{Guess, Halve}
 
 -- v times the slope, plus the shift, plus 2 ^ 23, whose low bits are then the whole part
 unfoldable pub guessed : Float → Float → Float → ℕ
@@ -30,22 +31,28 @@ halved k c v = halving (beyond k c v) 255 0 255
 abbrev pub guessed_with : Float → Float → ℕ → Float → ℕ
 guessed_with slope shift c v = guessed slope shift v
 
-abbrev pub guessed_by : Way → ℕ → Float → ℕ
-guessed_by w c v = guessed (get_or w.slope c nan) (get_or w.shift c nan) v
+abbrev pub guessed_by : List Float → List Float → ℕ → Float → ℕ
+guessed_by slope shift c v = guessed (get_or slope c nan) (get_or shift c nan) v
 
 unfoldable pub spotted : Way → (ℕ → ℕ → ℕ) → ℕ → Float → ℕ
-spotted w k c v = cond (ltb c 3) (cond w.right (guessed_by w c v) (halved k c v)) 0
+spotted (Guess slope shift) k c v = cond (ltb c 3) (guessed_by slope shift c v) 0
+spotted Halve k c v = cond (ltb c 3) (halved k c v) 0
 
--- what g spots is held to the pattern b: the byte where k has the pattern there, and 256 where not
-unfoldable pub tried : (ℕ → ℕ → ℕ) → (ℕ → Float → ℕ) → ℕ → ℕ → ℕ
-tried k g c b = cond (ltb c 3 && eqb (k c (g c (of_bits binary32 b))) b) (g c (of_bits binary32 b)) 256
+-- what g spots is held to the pattern b: the byte where k has the pattern there, and none where not
+unfoldable pub tried : (ℕ → ℕ → ℕ) → (ℕ → Float → ℕ) → ℕ → ℕ → Option ℕ
+tried k g c b = cond (ltb c 3 && eqb (k c (g c (of_bits binary32 b))) b) (Some (g c (of_bits binary32 b))) None
+
+-- a byte, and 256 where there is none
+abbrev pub or_none : Option ℕ → ℕ
+or_none None = 256
+or_none (Some b) = b
 
 -- 255 times each of three numbers; 0x437F_0000 is 255
 abbrev pub scaled : List Float → List Float
 scaled l = mul binary32 (of_bits binary32 0x437F_0000) (get_or l 0 nan) ∷ mul binary32 (of_bits binary32 0x437F_0000) (get_or l 1 nan) ∷ mul binary32 (of_bits binary32 0x437F_0000) (get_or l 2 nan) ∷ []
 
 unfoldable pub way_of : List ℕ → List Float → List Float → Way
-way_of t mean deviation = record { right = guesses (scaled deviation) (scaled mean) t; slope = scaled deviation; shift = scaled mean }
+way_of t mean deviation = cond (guesses (scaled deviation) (scaled mean) t) (Guess (scaled deviation) (scaled mean)) Halve
 
 -- g spots every byte of an allowed table t
 pub record Spots (t : List ℕ) (g : ℕ → Float → ℕ) : Type 0 where

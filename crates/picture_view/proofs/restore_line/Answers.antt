@@ -54,13 +54,13 @@ overflow_add-at c =
 pub restore_patch-requires : goal.restore_patch-requires
 restore_patch-requires c =
     let patch : c.loop-x.x ≡ c.loop-x.b * c.args.p = c.loop-x.invariant.1 c.loop-x-test.true in
-    let step : let a = c.args in let l = c.loop-x in Next c.loop-x.b c.loop-x.x c.args.p c.args.wide c.smaller-n.result = let s = c.before.before.before.before.before.before.before in
-    next _ _ _ _ _ c.requires.0.patch-low c.loop-x-test.true (patch) c.smaller-n.ensures in
+    let step : let a = c.args in let l = c.loop-x in Next c.loop-x.b c.loop-x.x c.args.p c.args.wide c.min-n.result = let s = c.before.before.before.before.before.before.before in
+    next _ _ _ _ _ c.requires.0.patch-low c.loop-x-test.true (patch) c.min-n.ensures in
     let samples : let a = c.args in c.args.from + c.loop-x.b * patch_floats c.args.p + patch_floats c.args.p ≤ length c.args.patches.now = let s = c.before.before.before.before.before.before.before in c.requires.0.samples c.loop-x.b (omega (arith, patch, c.loop-x-test.true)) in
     let s = c.before.before.before.before.before.before.before in
     let l = c.loop-x in
     let z = step in
-    let piece : Piece c.args.p c.args.tall c.smaller-n.result (c.args.at + c.loop-x.x * 3) c.args.stride (length c.loop-x.out) =
+    let piece : Piece c.args.p c.args.tall c.min-n.result (c.args.at + c.loop-x.x * 3) c.args.stride (length c.loop-x.out) =
     record {
       patch-high = c.requires.0.patch-high;
       rows-high = c.requires.0.rows-high;
@@ -72,14 +72,14 @@ restore_patch-requires c =
 pub overflow_add-b : goal.overflow_add-b
 overflow_add-b c =
     let patch : c.loop-x.x ≡ c.loop-x.b * c.args.p = c.loop-x.invariant.1 c.loop-x-test.true in
-    let step : Next c.loop-x.b c.loop-x.x c.args.p c.args.wide c.smaller-n.result = next _ _ _ _ _ c.requires.0.patch-low c.loop-x-test.true (patch) c.smaller-n.ensures in
+    let step : Next c.loop-x.b c.loop-x.x c.args.p c.args.wide c.min-n.result = next _ _ _ _ _ c.requires.0.patch-low c.loop-x-test.true (patch) c.min-n.ensures in
     omega (arith, step.passed, c.loop-x-test.true, c.well_formed)
 
 pub loop-x-preserved : goal.loop-x-preserved
 loop-x-preserved c =
     let patch : c.loop-x.x ≡ c.loop-x.b * c.args.p = c.loop-x.invariant.1 c.loop-x-test.true in
-    let step : let a = c.args in let l = c.loop-x in Next c.loop-x.b c.loop-x.x c.args.p c.args.wide c.smaller-n.result = let s = c.before.before.before.before.before.before.before.before.before.before.before in
-    next _ _ _ _ _ c.requires.0.patch-low c.loop-x-test.true (patch) c.smaller-n.ensures in
+    let step : let a = c.args in let l = c.loop-x in Next c.loop-x.b c.loop-x.x c.args.p c.args.wide c.min-n.result = let s = c.before.before.before.before.before.before.before.before.before.before.before in
+    next _ _ _ _ _ c.requires.0.patch-low c.loop-x-test.true (patch) c.min-n.ensures in
     let s = c.before.before.before.before.before.before.before.before.before.before.before in
     let a = c.args in
     let l = c.loop-x in
@@ -88,7 +88,7 @@ loop-x-preserved c =
       z.goes_on,
       c.restore_patch.auto.out ∙ c.loop-x.invariant.2,
       c.restore_patch.auto.bytes ∙ c.loop-x.invariant.3,
-      line-turn (spotted c.args.w (entry c.args.t.now)) c.args.p c.args.patches.now c.requires.0.patch-low c.args.out.now c.loop-x.out _ c.args.tall c.args.at c.args.stride c.args.from c.loop-x.b c.loop-x.x c.smaller-n.result (patch) z.few
+      line-turn (spotted c.args.w (entry c.args.t.now)) c.args.p c.args.patches.now c.requires.0.patch-low c.args.out.now c.loop-x.out _ c.args.tall c.args.at c.args.stride c.args.from c.loop-x.b c.loop-x.x c.min-n.result (patch) z.few
           (omega (arith, z.inside, c.requires.0.apart)) c.loop-x.invariant.4 c.restore_patch.ensures,
     )
 

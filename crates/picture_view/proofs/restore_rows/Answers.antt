@@ -57,24 +57,24 @@ overflow_add-at c =
 pub restore_line-requires : goal.restore_line-requires
 restore_line-requires c =
     let line : c.loop-y.y ≡ c.loop-y.a * c.args.p = c.loop-y.invariant.1 c.loop-y-test.true in
-    let step : let a = c.args in let l = c.loop-y in Next c.loop-y.a c.loop-y.y c.args.p c.args.tall c.smaller-n.result = let s = c.before.before.before.before.before.before in
-    next _ _ _ _ _ c.requires.0.patch-low c.loop-y-test.true (line) c.smaller-n.ensures in
+    let step : let a = c.args in let l = c.loop-y in Next c.loop-y.a c.loop-y.y c.args.p c.args.tall c.min-n.result = let s = c.before.before.before.before.before.before in
+    next _ _ _ _ _ c.requires.0.patch-low c.loop-y-test.true (line) c.min-n.ensures in
     let there : let a = c.args in let l = c.loop-y in
-    Line c.args.p (c.loop-y.a * (c.args.gw * patch_floats c.args.p)) c.smaller-n.result c.args.wide (c.args.at + c.loop-y.y * c.args.stride) c.args.stride (length c.args.patches.now) (length c.args.out.now) = let s = c.before.before.before.before.before.before in
+    Line c.args.p (c.loop-y.a * (c.args.gw * patch_floats c.args.p)) c.min-n.result c.args.wide (c.args.at + c.loop-y.y * c.args.stride) c.args.stride (length c.args.patches.now) (length c.args.out.now) = let s = c.before.before.before.before.before.before in
     line-fits _ _ _ _ _ _ _ _ _ _ _ c.requires.0 c.loop-y-test.true (line) (step) in
     let s = c.before.before.before.before.before.before in (rw c.loop-y.invariant.2 (there), c.requires.1)
 
 pub overflow_add-a : goal.overflow_add-a
 overflow_add-a c =
     let line : c.loop-y.y ≡ c.loop-y.a * c.args.p = c.loop-y.invariant.1 c.loop-y-test.true in
-    let step : Next c.loop-y.a c.loop-y.y c.args.p c.args.tall c.smaller-n.result = next _ _ _ _ _ c.requires.0.patch-low c.loop-y-test.true (line) c.smaller-n.ensures in
+    let step : Next c.loop-y.a c.loop-y.y c.args.p c.args.tall c.min-n.result = next _ _ _ _ _ c.requires.0.patch-low c.loop-y-test.true (line) c.min-n.ensures in
     omega (arith, step.passed, c.loop-y-test.true, c.well_formed)
 
 pub loop-y-preserved : goal.loop-y-preserved
 loop-y-preserved c =
     let line : c.loop-y.y ≡ c.loop-y.a * c.args.p = c.loop-y.invariant.1 c.loop-y-test.true in
-    let step : let a = c.args in let l = c.loop-y in Next c.loop-y.a c.loop-y.y c.args.p c.args.tall c.smaller-n.result = let s = c.before.before.before.before.before.before.before.before.before in
-    next _ _ _ _ _ c.requires.0.patch-low c.loop-y-test.true (line) c.smaller-n.ensures in
+    let step : let a = c.args in let l = c.loop-y in Next c.loop-y.a c.loop-y.y c.args.p c.args.tall c.min-n.result = let s = c.before.before.before.before.before.before.before.before.before in
+    next _ _ _ _ _ c.requires.0.patch-low c.loop-y-test.true (line) c.min-n.ensures in
     let s = c.before.before.before.before.before.before.before.before.before in
     let a = c.args in
     let l = c.loop-y in
@@ -82,7 +82,7 @@ loop-y-preserved c =
       z.inside,
       z.goes_on,
       c.restore_line.auto.out ∙ c.loop-y.invariant.2,
-      rows-turn (spotted c.args.w (entry c.args.t.now)) c.args.p c.args.patches.now c.requires.0.patch-low c.args.out.now c.loop-y.out _ c.args.gw c.args.wide c.args.at c.args.stride c.loop-y.a c.loop-y.y c.smaller-n.result (line) z.few
+      rows-turn (spotted c.args.w (entry c.args.t.now)) c.args.p c.args.patches.now c.requires.0.patch-low c.args.out.now c.loop-y.out _ c.args.gw c.args.wide c.args.at c.args.stride c.loop-y.a c.loop-y.y c.min-n.result (line) z.few
           c.loop-y.invariant.3 c.restore_line.ensures,
     )
 

@@ -18,13 +18,13 @@ use Rattle.picture_view.proofs.run_bytes.Goals as goal
 pub guess_bytes-requires : goal.guess_bytes-requires
 guess_bytes-requires c = (c.requires.1, c.requires.2)
 
-pub shape_of-bytes-then-w : goal.shape_of-bytes-then-w
-shape_of-bytes-then-w c = c.guess_bytes.auto.bytes
+pub shape_of-bytes-in-Guess : goal.shape_of-bytes-in-Guess
+shape_of-bytes-in-Guess c = c.guess_bytes.auto.bytes
 
-pub returns-then-w : goal.returns-then-w
-returns-then-w c =
+pub returns-in-Guess : goal.returns-in-Guess
+returns-in-Guess c =
     c.guess_bytes.ensures
-    ∙ ap (put c.args.bytes.now c.args.at) (by-arithmetic c.args.w (entry c.args.t.now) c.if-w.true c.args.c c.requires.0 c.args.n c.args.patches.now c.args.from)
+    ∙ ap (put c.args.bytes.now c.args.at) (by-arithmetic c.args.w c.in-Guess.slope c.in-Guess.shift (entry c.args.t.now) c.in-Guess.is c.args.c c.requires.0 c.args.n c.args.patches.now c.args.from)
 
 pub loop-k-init : goal.loop-k-init
 unfolding put tab

@@ -1,6 +1,6 @@
 -- Which samples the loops of restore find known: a run of one channel, a patch, and patches; and where the formula tells it.
 -- Assumes nothing.
-use Rattle.std.specs.Prelude.{◌≡◌, Bool, true, List, ℕ, ◌+◌, ◌*◌, ◌<◌, get_or, eqb, ltb, Float}
+use Rattle.std.specs.Prelude.{◌≡◌, Bool, true, List, ℕ, ◌+◌, ◌*◌, ◌<◌, get_or, eqb, ltb, Float, cond, Option, Some, None}
 use Rattle.std.specs.Float.{nan, binary32}
 use Rattle.std.specs.Float.Ieee.{to_bits}
 use Rattle.buffers.specs.Rows.{all}
@@ -17,12 +17,13 @@ pattern_by mean deviation b = to_bits binary32 (sample mean deviation b)
 abbrev pub channel_exact : List ℕ → ℕ → Float → Float → Bool
 channel_exact t c mean deviation = all 256 (λ b. eqb (entry t c b) (pattern_by mean deviation b))
 
-unfoldable pub formula_of : List ℕ → List Float → List Float → Formula
-formula_of t mean deviation = record { exact = all 3 (λ c. channel_exact t c (get_or mean c nan) (get_or deviation c nan)); mean = mean; deviation = deviation }
+unfoldable pub formula_of : List ℕ → List Float → List Float → Option Formula
+formula_of t mean deviation = cond (all 3 (λ c. channel_exact t c (get_or mean c nan) (get_or deviation c nan))) (Some (record { mean = mean; deviation = deviation })) None
 
--- where it is said, it is so
-abbrev pub Exact : List ℕ → Formula → Type 0
-Exact t f = f.exact ≡ true → (c b : ℕ) → c < 3 → b < 256 → entry t c b ≡ pattern_by (get_or f.mean c nan) (get_or f.deviation c nan) b
+-- where there is one, the table has its patterns
+abbrev pub Exact : List ℕ → Option Formula → Type 0
+Exact t None = Unit {0}
+Exact t (Some f) = (c b : ℕ) → c < 3 → b < 256 → entry t c b ≡ pattern_by (get_or f.mean c nan) (get_or f.deviation c nan) b
 
 -- each of n samples from `at` on has the formula's pattern of the byte that is guessed of it
 unfoldable pub exact_at : Float → Float → Float → Float → Float → Bool
