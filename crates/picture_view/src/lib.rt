@@ -3,7 +3,7 @@
 
 pub mod view;
 
-ghost use Rattle.std.specs.Prelude.{◌≡◌, ℕ, ◌+◌, ◌*◌, ◌≤◌, ◌<◌, length, get_or};
+ghost use Rattle.std.specs.Prelude.{◌≡◌, ℕ, ◌+◌, ◌*◌, ◌≤◌, ◌<◌, length, get_or, Float};
 ghost use Rattle.std.specs.Float.{nan};
 ghost use Rattle.buffers.specs.Rows.{tab};
 ghost use Rattle.buffers.specs.Region.{put, put_rows};
@@ -120,14 +120,7 @@ fn patch_known(
     ensures { result ≡ known_patch (entry t.now) p patches.now at }
 {
     let n = p * p;
-    let mut o = at;
-    for c in 0..3 {
-        if !run_known(patches, o, n, c, t, w, f) {
-            return false;
-        }
-        o += n;
-    }
-    true
+    (0..3).all(|c| run_known(patches, at + c * n, n, c, t, w, f))
 }
 
 // Whether every sample of n patches has the bits of a byte in its channel.
@@ -143,31 +136,25 @@ pub(crate) fn all_known(
     ensures { result ≡ known_patches (entry t.now) p n patches.now }
 {
     let m = 3 * (p * p);
-    let mut o = 0usize;
-    for q in 0..n {
-        if !patch_known(patches, o, p, t, w, f) {
-            return false;
-        }
-        o += m;
-    }
-    true
+    (0..n).all(|q| patch_known(patches, q * m, p, t, w, f))
 }
 
-// As run_bytes, by arithmetic with the channel's slope and shift.
-fn guess_bytes(
+// The bytes that f spots of each of the n samples from `from` on.
+fn fill_bytes<F: Fn(f32) -> usize>(
     patches: &[f32],
     from: usize,
     n: usize,
-    slope: f32,
-    shift: f32,
     at: usize,
     bytes: &mut [u8],
+    f: F,
 )
-    requires { (from + n ≤ length patches.now) × (at + n ≤ length bytes.old) }
-    ensures { bytes.new ≡ put bytes.old at (tab n (λ k. guessed slope shift (get_or patches.now (from + k) nan))) }
+    requires room { (from + n ≤ length patches.now) × (at + n ≤ length bytes.old) }
+    requires callable { F.IsAlwaysCallable f }
+    requires small { (v : Float) (r : ℕ) → F.post f v r → r < 256 }
+    ensures { (g : Float → ℕ) → ((v : Float) (r : ℕ) → F.post f v r → r ≡ g v) → bytes.new ≡ put bytes.old at (tab n (λ k. g (get_or patches.now (from + k) nan))) }
 {
     for k in 0..n {
-        bytes[at + k] = guess(slope, shift, patches[from + k]) as u8;
+        bytes[at + k] = f(patches[from + k]) as u8;
     }
 }
 
@@ -185,12 +172,20 @@ fn run_bytes(
     requires { (c < 3) × (from + n ≤ length patches.now) × (at + n ≤ length bytes.old) × Spots t.now (spotted w (entry t.now)) }
     ensures { bytes.new ≡ put bytes.old at (run_by (spotted w (entry t.now)) c n patches.now from) }
 {
-    if let Way::Guess { slope, shift } = w {
-        guess_bytes(patches, from, n, slope[c], shift[c], at, bytes);
-        return;
-    }
-    for k in 0..n {
-        bytes[at + k] = spot(t, w, c, patches[from + k]) as u8;
+    match w {
+        Way::Guess { slope, shift } => {
+            let own_slope = slope[c];
+            let own_shift = shift[c];
+            fill_bytes(
+                patches,
+                from,
+                n,
+                at,
+                bytes,
+                |v| guess(own_slope, own_shift, v),
+            );
+        }
+        Way::Halve => fill_bytes(patches, from, n, at, bytes, |v| spot(t, w, c, v)),
     }
 }
 

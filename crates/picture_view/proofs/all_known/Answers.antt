@@ -1,17 +1,13 @@
--- `picture_view::all_known` meets its contract. The invariant: the patches passed are known. Assumes nothing.
-use mathlib.Core.Path.{◌≡◌, sym, ap, ◌∙◌}
-use mathlib.Core.Bool.{true}
-use Prim.Native.Nat.{ℕ}
-use native.Mathlib.Omega.{arith}
-use borrow.Author.Rules.{rules}
-use borrow.Author.Tests.{not-true, not-false}
-use Rattle.buffers.specs.Rows.{all}
-use Rattle.buffers.proofs.Lists.{fit, all-step, all-fails}
+-- `picture_view::all_known` meets its contract. Assumes nothing.
+use Rattle.std.proofs.Common.{◌≡◌, ℕ, ◌+◌, ◌*◌, ◌≤◌, length, refl, ◌∙◌, rules, tests, arith}
+use Rattle.std.proofs.lemmas.Iterator.{YieldsList-from_range, serves_from_Range}
+use Rattle.std.proofs.lemmas.Iterator.Search.{all_from_yields_List}
+use Rattle.buffers.proofs.Lists.{fit}
 use Rattle.picture_samples.specs.Samples.{entry}
-use Rattle.picture_limits.specs.Places.{patch_floats}
+use Rattle.picture_samples.proofs.Ranges.{all-below}
 use Rattle.picture_view.specs.inner.Known.{known_patch, known_patches}
-use Rattle.picture_limits.proofs.Places.{turn, square}
-use Rattle.picture_view.proofs.all_known.Invariants.{seen}
+use Rattle.picture_limits.specs.Places.{patch_floats}
+use Rattle.picture_limits.proofs.Places.{square}
 use Rattle.picture_view.proofs.all_known.Goals as goal
 
 pub overflow_mul-m : goal.overflow_mul-m
@@ -20,36 +16,15 @@ overflow_mul-m c = omega (arith, square c.args.p c.requires.0)
 pub overflow_mul-m-2 : goal.overflow_mul-m-2
 overflow_mul-m-2 c = omega (arith, square c.args.p c.requires.0)
 
-pub loop-q-init : goal.loop-q-init
-unfolding all
-loop-q-init c = search rules
-
-pub patch_known-requires : goal.patch_known-requires
-patch_known-requires c = (c.requires.0, omega (arith, fit (patch_floats c.args.p) c.loop-q-test.true), c.requires.2, c.requires.3)
-
-pub returns-then-not-patch_known : goal.returns-then-not-patch_known
-unfolding known_patches
-returns-then-not-patch_known c =
-    let answer : let a = c.args in c.patch_known.result ≡ seen c.args.t.now c.args.p c.args.patches.now c.loop-q.q = let a = c.args in
-    c.patch_known.ensures ∙ ap (λ (o : ℕ). known_patch (entry c.args.t.now) c.args.p c.args.patches.now o) c.loop-q.invariant.1 in
-    let a = c.args in
-    sym (all-fails c.args.n (seen c.args.t.now c.args.p c.args.patches.now) c.loop-q.q c.loop-q-test.true (sym (answer) ∙ not-true _ c.if-not-patch_known.true-raw))
-
-pub overflow_add-o : goal.overflow_add-o
-overflow_add-o c = omega (arith, fit (patch_floats c.args.p) c.loop-q-test.true)
-
-pub loop-q-preserved : goal.loop-q-preserved
-loop-q-preserved c =
-    let answer : let a = c.args in c.patch_known.result ≡ seen c.args.t.now c.args.p c.args.patches.now c.loop-q.q = let a = c.args in
-    c.patch_known.ensures ∙ ap (λ (o : ℕ). known_patch (entry c.args.t.now) c.args.p c.args.patches.now o) c.loop-q.invariant.1 in
-    let a = c.args in (
-      omega arith,
-      omega (arith, turn c.loop-q.q (patch_floats c.args.p)),
-      all-step c.loop-q.q (seen c.args.t.now c.args.p c.args.patches.now) c.loop-q.invariant.2 (sym (answer) ∙ not-false _ c.if-not-patch_known.false-raw),
-    )
+pub all-requires-clause-callable : goal.all-requires-clause-callable
+all-requires-clause-callable c =
+    serves_from_Range (λ x q k. search rules) (λ x a b.
+    let m = patch_floats c.args.p in
+    let inside : x * m + m ≤ length c.args.patches.now = omega (arith, fit m b, c.requires.1) in
+    (λ _ _ _ _ _ h _ _. omega (arith, inside, h), λ _ _ _ _ _ _ _ _ _ _ _ _. (c.requires.0, inside, c.requires.2, c.requires.3)))
 
 pub returns : goal.returns
 unfolding known_patches
 returns c =
-    let e : c.loop-q.q ≡ c.args.n = omega arith in
-    sym c.loop-q.invariant.2 ∙ ap (λ (n : ℕ). all n (seen c.args.t.now c.args.p c.args.patches.now)) e
+    all_from_yields_List (λ q. known_patch (entry c.args.t.now) c.args.p c.args.patches.now (q * patch_floats c.args.p)) _ _ _ c.all.ensures.ran (YieldsList-from_range 0 c.args.n _ refl refl) (λ x b q k. search (rules, tests))
+    ∙ all-below _ c.args.n
