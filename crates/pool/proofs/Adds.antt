@@ -14,7 +14,7 @@ use Rattle.buffers.proofs.Regions.{put-append, put-put}
 use Rattle.picture_limits.specs.declared.Refusal as F
 use Rattle.pool_books.specs.declared.Held.{Held}
 use Rattle.pool_books.specs.declared.Pool.{Pool}
-use Rattle.pool.specs.declared.Pooled.{Pooled}
+use Rattle.pool.specs.Pool.{Pooled}
 use Rattle.pool_books.specs.Book.{held, entries, with, floats, end_of, well_made, laid, joined, has, key_of}
 use Rattle.pool.specs.Pool.{refused, done, room_behind, ready, behind, add_answer, add_slice}
 use Rattle.pool_books.proofs.Orders.{end-laid, with_entries, length-laid}

@@ -8,7 +8,8 @@ use lib.Dec.{eqb}
 use lib.ListN.{length}
 use Rattle.picture_limits.specs.declared.Refusal as F
 use Rattle.pool_books.specs.declared.Held.{Held}
-use Rattle.pool_books.specs.declared.Found.{Found}
+use Rattle.std.specs.Prelude.{Ok, Err}
+use Rattle.pool_books.specs.Lookup.{place}
 use Rattle.pool_books.specs.Book.{floats, in_order, has, without, key_of}
 use Rattle.pool_books.specs.Lookup.{lookup, found_start, found_len}
 use Rattle.pool_books.specs.inner.Place.{place_in, left_out}
@@ -43,24 +44,24 @@ place_none k (h ∷ hs) l = go (eqb h.key k) l (λ m. place_none k hs m)
     go true l r = absurd (omega arith)
     go false l r = r (omega arith)
 
-pub held_at : (k : ℕ) (es : List Held) → has key_of k es ≡ true → lookup k es ≡ Found.At (found_start (lookup k es)) (found_len (lookup k es))
+pub held_at : (k : ℕ) (es : List Held) → has key_of k es ≡ true → lookup k es ≡ Ok (place (found_start (lookup k es)) (found_len (lookup k es)))
 unfolding has lookup
 held_at k [] e = absurd (true≢false (sym e))
 held_at k (h ∷ hs) e = go (eqb h.key k) e (λ f. held_at k hs f)
   where
-    go : (b : Bool) → b || has key_of k hs ≡ true → (has key_of k hs ≡ true → lookup k hs ≡ Found.At (found_start (lookup k hs)) (found_len (lookup k hs)))
-        → cond b (Found.At h.start h.len) (lookup k hs)
-        ≡ Found.At (found_start (cond b (Found.At h.start h.len) (lookup k hs))) (found_len (cond b (Found.At h.start h.len) (lookup k hs)))
+    go : (b : Bool) → b || has key_of k hs ≡ true → (has key_of k hs ≡ true → lookup k hs ≡ Ok (place (found_start (lookup k hs)) (found_len (lookup k hs))))
+        → cond b (Ok (place h.start h.len)) (lookup k hs)
+        ≡ Ok (place (found_start (cond b (Ok (place h.start h.len)) (lookup k hs))) (found_len (cond b (Ok (place h.start h.len)) (lookup k hs))))
     go true e r = refl
     go false e r = r e
 
-pub none-lookup : (k : ℕ) (es : List Held) → has key_of k es ≡ false → lookup k es ≡ Found.Refused F.Refusal.KeyUnknown
+pub none-lookup : (k : ℕ) (es : List Held) → has key_of k es ≡ false → lookup k es ≡ Err F.Refusal.KeyUnknown
 unfolding has lookup
 none-lookup k [] e = refl
 none-lookup k (h ∷ hs) e = go (eqb h.key k) e (λ f. none-lookup k hs f)
   where
-    go : (b : Bool) → b || has key_of k hs ≡ false → (has key_of k hs ≡ false → lookup k hs ≡ Found.Refused F.Refusal.KeyUnknown)
-        → cond b (Found.At h.start h.len) (lookup k hs) ≡ Found.Refused F.Refusal.KeyUnknown
+    go : (b : Bool) → b || has key_of k hs ≡ false → (has key_of k hs ≡ false → lookup k hs ≡ Err F.Refusal.KeyUnknown)
+        → cond b (Ok (place h.start h.len)) (lookup k hs) ≡ Err F.Refusal.KeyUnknown
     go true e r = absurd (true≢false e)
     go false e r = r e
 
@@ -108,7 +109,7 @@ floats-without k [] = refl
 floats-without k (h ∷ hs) = go (eqb h.key k) (floats-without k hs)
   where
     go : (b : Bool) → floats (without key_of k hs) + found_len (lookup k hs) ≡ floats hs
-        → floats (cond b hs (h ∷ without key_of k hs)) + found_len (cond b (Found.At h.start h.len) (lookup k hs)) ≡ h.len + floats hs
+        → floats (cond b hs (h ∷ without key_of k hs)) + found_len (cond b (Ok (place h.start h.len)) (lookup k hs)) ≡ h.len + floats hs
     go true r = omega arith
     go false r = omega arith
 
@@ -119,6 +120,6 @@ lookup-inside k at n [] e = omega arith
 lookup-inside k at n (h ∷ hs) e = go (eqb h.key k) (lookup-inside k (h.start + h.len) n hs (order-rest at n h hs e))
   where
     go : (b : Bool) → found_start (lookup k hs) + found_len (lookup k hs) ≤ n
-        → found_start (cond b (Found.At h.start h.len) (lookup k hs)) + found_len (cond b (Found.At h.start h.len) (lookup k hs)) ≤ n
+        → found_start (cond b (Ok (place h.start h.len)) (lookup k hs)) + found_len (cond b (Ok (place h.start h.len)) (lookup k hs)) ≤ n
     go true r = order-at (h.start + h.len) n hs (order-rest at n h hs e)
     go false r = r

@@ -13,7 +13,8 @@ use Rattle.buffers.specs.Region.{region, put}
 use Rattle.buffers.specs.inner.Apart.{before}
 use Rattle.buffers.proofs.Regions.{region-put, region-region, length-region}
 use Rattle.pool_books.specs.declared.Held.{Held}
-use Rattle.pool_books.specs.declared.Found.{Found}
+use Rattle.std.specs.Prelude.{Ok, Err}
+use Rattle.pool_books.specs.Lookup.{place}
 use Rattle.pool_books.specs.Book.{floats, end_of, in_order, laid, joined, has, without, key_of}
 use Rattle.pool_books.specs.Lookup.{lookup, found_start, found_len}
 use Rattle.pool.specs.Map.{Result, result, key_in, results, size, vectors_in}
@@ -57,7 +58,7 @@ vectors-found k s [] = refl
 vectors-found k s (h ∷ hs) = go (eqb h.key k) (vectors-found k s hs)
   where
     go : (b : Bool) → region s (found_start (lookup k hs)) (found_len (lookup k hs)) ≡ vectors_in k (results s hs)
-        → region s (found_start (cond b (Found.At h.start h.len) (lookup k hs))) (found_len (cond b (Found.At h.start h.len) (lookup k hs)))
+        → region s (found_start (cond b (Ok (place h.start h.len)) (lookup k hs))) (found_len (cond b (Ok (place h.start h.len)) (lookup k hs)))
         ≡ cond b (region s h.start h.len) (vectors_in k (results s hs))
     go true r = refl
     go false r = r

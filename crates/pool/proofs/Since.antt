@@ -15,9 +15,9 @@ use Rattle.buffers.proofs.Regions.{length-region}
 use Rattle.picture_limits.specs.declared.Refusal as F
 use Rattle.pool_books.specs.declared.Held.{Held}
 use Rattle.pool_books.specs.declared.Pool.{Pool}
-use Rattle.pool.specs.declared.Outcome.{Outcome}
-use Rattle.pool.specs.declared.Pooled.{Pooled}
-use Rattle.pool_books.specs.declared.Found.{Found}
+use Rattle.pool.specs.Pool.{Pooled}
+use Rattle.std.specs.Prelude.{Ok, Err}
+use Rattle.pool_books.specs.Lookup.{place}
 use Rattle.pool_books.specs.Book.{held, entries, with, floats, in_order, well_made, laid, has, without, key_of}
 use Rattle.pool.specs.Pool.{new_pool, refused, done, room_behind, ready, behind, add_answer, add_slice, find_answer, drop_answer, number}
 use Rattle.pool_books.specs.Lookup.{lookup, found_start, found_len}
@@ -156,7 +156,7 @@ drop-case p n k = go (well_made p n) refl (has key_of k (entries p)) refl
 
 -- ---- 4. a refused call moves nothing
 
-never : (r : F.Refusal) → Outcome.Done ≡ Outcome.Refused r → ⊥
+never : (r : F.Refusal) → Ok tt ≡ Err r → ⊥
 never r e = let z : ◌≡◌ {A = ℕ} 0 1 = cc in omega arith
 
 pub add-moves : AddMoves
@@ -236,7 +236,7 @@ full n p a d c s k vs l h v =
     let e : a - d ≡ floats (entries p) = omega (arith, o.balance) in
     rw (e, ← l) (go m (ltb p.count 64 && leb (floats (entries p) + length vs) (length s)) refl)
   where
-    go : well_made p (length s) ≡ true → (z : Bool) → ltb p.count 64 && leb (floats (entries p) + length vs) (length s) ≡ z → (add_answer p s k vs).outcome ≡ cond z Outcome.Done (Outcome.Refused F.Refusal.PoolFull)
+    go : well_made p (length s) ≡ true → (z : Bool) → ltb p.count 64 && leb (floats (entries p) + length vs) (length s) ≡ z → (add_answer p s k vs).outcome ≡ cond z (Ok tt) (Err F.Refusal.PoolFull)
     go m true g = rw (add_done p s k vs m h (λ z. omega arith) g) refl
     go m false g = rw (add-full p s k vs m h (λ z. omega arith) g) refl
 
@@ -245,7 +245,7 @@ full n p a d c s k vs l h v =
 pub gone : Gone
 gone n p a d c k e = go (balance n p a d c) (drop-case p n k)
   where
-    go : Sound n p a d → DropCase p n k → find_answer (drop_answer p n k).pool n k ≡ Found.Refused F.Refusal.KeyUnknown
+    go : Sound n p a d → DropCase p n k → find_answer (drop_answer p n k).pool n k ≡ Err F.Refusal.KeyUnknown
     go o (keeps-it r x) = absurd (never r (sym (rw x at e)))
     go o (leaves x) =
         let es = without key_of k (entries p) in
@@ -359,6 +359,6 @@ keeps n k vs p s c =
     let g = found-is p (length s) k m.1 in
     let at = found_start (find_answer p (length s) k) in
     let len = found_len (find_answer p (length s) k) in
-    let x : find_answer p (length s) k ≡ Found.At at len = rw g (held_at k (entries p) (sym (has-results k s (entries p)) ∙ h.0)) in
+    let x : find_answer p (length s) k ≡ Ok (place at len) = rw g (held_at k (entries p) (sym (has-results k s (entries p)) ∙ h.0)) in
     let l : len ≡ length vs = sym (length-region s at len f.inside) ∙ ap length (f.vectors-are ∙ h.1) in
-    record { at = at; found = x ∙ ap (Found.At at) l; vectors = ap (region s at) (sym l) ∙ f.vectors-are ∙ h.1 }
+    record { at = at; found = x ∙ ap (λ (m : ℕ). Ok (place at m)) l; vectors = ap (region s at) (sym l) ∙ f.vectors-are ∙ h.1 }

@@ -16,7 +16,8 @@ use Rattle.picture_limits.specs.Refusal as R
 use Rattle.picture_limits.specs.Refusal.{unless}
 use Rattle.pool_books.specs.declared.Held.{Held}
 use Rattle.pool_books.specs.declared.Pool.{Pool}
-use Rattle.pool_books.specs.declared.Found.{Found}
+use Rattle.std.specs.Prelude.{Ok, Err}
+use Rattle.pool_books.specs.Lookup.{place}
 use Rattle.pool_books.specs.Book.{held, entries, with, floats, end_of, in_order, well_made, joined, has, without, key_of}
 use Rattle.pool.specs.Pool.{refused, done, room_behind, ready, ready_slice, behind, add_answer, find_answer, drop_answer}
 use Rattle.pool_books.specs.Lookup.{lookup, found_number}
@@ -33,7 +34,7 @@ unfolding lookup has
 found_number_lem k [] = refl
 found_number_lem k (h ∷ hs) = go (eqb h.key k) (found_number_lem k hs)
   where
-    go : (b : Bool) → found_number (lookup k hs) ≡ unless (has key_of k hs) 26 0 → found_number (cond b (Found.At h.start h.len) (lookup k hs)) ≡ unless (b || has key_of k hs) 26 0
+    go : (b : Bool) → found_number (lookup k hs) ≡ unless (has key_of k hs) 26 0 → found_number (cond b (Ok (place h.start h.len)) (lookup k hs)) ≡ unless (b || has key_of k hs) 26 0
     go true r = refl
     go false r = r
 

@@ -6,8 +6,10 @@ use lib.ListN.{length}
 use lib.Ieee.{Float}
 use Rattle.number_floats.proofs.Unique.{one}
 use Rattle.pool_books.specs.declared.Pool.{Pool}
-use Rattle.pool.specs.declared.Pooled.{Pooled}
-use Rattle.pool_books.specs.declared.Found.{Found}
+use Rattle.pool.specs.Pool.{Pooled}
+use Rattle.std.specs.Prelude.{Result}
+use Rattle.picture_limits.specs.declared.Refusal as F
+use Rattle.pool_books.specs.declared.Place.{Place}
 use Rattle.pool.specs.Pool.{new_pool, add_answer, add_slice, find_answer, drop_answer}
 
 pub new-unique : (n : ℕ) (a b : Pool) → a ≡ new_pool n → b ≡ new_pool n → a ≡ b
@@ -20,7 +22,7 @@ Added p s k vs r t = (r ≡ add_answer p s k vs) × (t ≡ add_slice p s k vs)
 pub add-unique : (p : Pool) (s : List Float) (k : ℕ) (vs : List Float) (r r' : Pooled) (t t' : List Float) → Added p s k vs r t → Added p s k vs r' t' → (r ≡ r') × (t ≡ t')
 add-unique p s k vs r r' t t' x y = (one _ x.0 y.0, one _ x.1 y.1)
 
-pub find-unique : (p : Pool) (s : List Float) (k : ℕ) (a b : Found) → a ≡ find_answer p (length s) k → b ≡ find_answer p (length s) k → a ≡ b
+pub find-unique : (p : Pool) (s : List Float) (k : ℕ) (a b : Result Place F.Refusal) → a ≡ find_answer p (length s) k → b ≡ find_answer p (length s) k → a ≡ b
 find-unique p s k a b = one _
 
 pub drop-unique : (p : Pool) (s : List Float) (k : ℕ) (a b : Pooled) → a ≡ drop_answer p (length s) k → b ≡ drop_answer p (length s) k → a ≡ b

@@ -1,28 +1,37 @@
 -- What each call of a pool answers, and what it leaves in the slice, for every input. Assumes nothing.
-use Rattle.std.specs.Prelude.{Bool, not, ◌&&◌, cond, List, [], ◌∷◌, ◌++◌, ℕ, ◌+◌, eqb, leb, ltb, length, replicate, Float}
+use Rattle.std.specs.Prelude.{Bool, not, ◌&&◌, cond, List, [], ◌∷◌, ◌++◌, ℕ, ◌+◌, eqb, leb, ltb, length, replicate, Float, Result, Ok, Err}
 use Rattle.buffers.specs.Region.{put}
 use Rattle.picture_limits.specs.declared.Refusal as F
 use Rattle.picture_limits.specs.Refusal as R
 use Rattle.picture_limits.specs.Refusal.{unless}
 use Rattle.pool_books.specs.declared.Held.{Held}
 use Rattle.pool_books.specs.declared.Pool.{Pool}
-use Rattle.pool.specs.declared.Outcome.{Outcome}
-use Rattle.pool.specs.declared.Pooled.{Pooled}
-use Rattle.pool_books.specs.declared.Found.{Found}
+use Rattle.pool_books.specs.declared.Place.{Place}
 use Rattle.pool_books.specs.Lookup.{lookup}
 use Rattle.pool_books.specs.Book.{held, entries, with, floats, end_of, well_made, laid, joined, has, without, key_of}
+
+-- whether a call is done, and the pool after it
+abbrev pub Outcome : Type 0
+Outcome = Result (Unit {0}) F.Refusal
+
+pub record Pooled : Type 0 where
+  pub outcome : Outcome
+  pub pool : Pool
+
+abbrev pub pooled : Outcome → Pool → Pooled
+pooled o p = record { outcome = o; pool = p }
 
 -- ---- new: for a slice of n floats, nothing held
 
 abbrev pub new_pool : ℕ → Pool
 new_pool n = record { len = n; count = 0; held = replicate 64 (held 0 0 0) }
 
--- a refusal hands back the pool that was lent
+-- a refusal leaves the pool as it was
 abbrev pub refused : Pool → F.Refusal → Pooled
-refused p r = record { outcome = Outcome.Refused r; pool = p }
+refused p r = pooled (Err r) p
 
 abbrev pub done : Pool → Pooled
-done p = record { outcome = Outcome.Done; pool = p }
+done p = pooled (Ok tt) p
 
 -- ---- add
 
@@ -52,16 +61,16 @@ add_answer p s k vs =
 
 -- the slice after the call, by its outcome
 abbrev pub left_of : Outcome → List Float → List Float → List Float
-left_of Outcome.Done new old = new
-left_of (Outcome.Refused r) new old = old
+left_of (Ok u) new old = new
+left_of (Err r) new old = old
 
 abbrev pub add_slice : Pool → List Float → ℕ → List Float → List Float
 add_slice p s k vs = left_of (add_answer p s k vs).outcome (put (ready_slice p s (length vs)) (behind p (length s) (length vs)) vs) s
 
 -- ---- find: where the vectors of the key stand
 
-unfoldable pub find_answer : Pool → ℕ → ℕ → Found
-find_answer p n k = unless (well_made p n) (Found.Refused F.Refusal.PoolSlice) (lookup k (entries p))
+unfoldable pub find_answer : Pool → ℕ → ℕ → Result Place F.Refusal
+find_answer p n k = unless (well_made p n) (Err F.Refusal.PoolSlice) (lookup k (entries p))
 
 -- ---- drop: no float is moved
 
@@ -74,5 +83,5 @@ drop_answer p n k =
 -- ---- the paper's number of an answer
 
 abbrev pub number : Outcome → ℕ
-number Outcome.Done = 0
-number (Outcome.Refused r) = R.number r
+number (Ok u) = 0
+number (Err r) = R.number r

@@ -18,45 +18,38 @@ fn move_down(s: &mut [f32], from: usize, to: usize, n: usize)
 }
 
 // The held results one right behind the other, from the front of the slice on.
-pub(crate) fn slide(p: Pool, s: &mut [f32]) -> Pool
-    requires { well_made p (length s.old) ≡ true }
-    ensures answer { result ≡ with p (laid 0 (entries p)) }
-    ensures output { s.new ≡ put s.old 0 (joined s.old (entries p)) }
+pub(crate) fn slide(p: &mut Pool, s: &mut [f32])
+    requires { (well_made p.old (length s.old) ≡ true) × (length p.old.held ≡ 64) }
+    ensures answer { p.new ≡ with p.old (laid 0 (entries p.old)) }
+    ensures output { s.new ≡ put s.old 0 (joined s.old (entries p.old)) }
 {
-    let count = p.count;
-    let mut q = p;
     let mut to = 0usize;
-    for i in 0..count {
-        let h = q.held[i];
+    for i in 0..p.count {
+        let h = p.held[i];
         move_down(s, h.start, to, h.len);
-        let moved = Held {
+        p.held[i] = Held {
             key: h.key,
             start: to,
             len: h.len,
         };
-        q.held[i] = moved;
         to += h.len;
     }
-    q
 }
 
 // The vectors at `at`, and their key behind the held ones.
-pub(crate) fn store(p: Pool, s: &mut [f32], at: usize, key: u64, vectors: &[f32]) -> Pool
-    requires { (p.count < 64) × (at + length vectors.now ≤ length s.old) }
-    ensures answer { result ≡ with p (entries p ++ (B.held key at (length vectors.now) ∷ [])) }
+pub(crate) fn store(p: &mut Pool, s: &mut [f32], at: usize, key: u64, vectors: &[f32])
+    requires { (p.old.count < 64) × (at + length vectors.now ≤ length s.old) }
+    ensures answer { p.new ≡ with p.old (entries p.old ++ (B.held key at (length vectors.now) ∷ [])) }
     ensures output { s.new ≡ put s.old at vectors.now }
 {
     let n = vectors.len();
     let e = at + n;
     copy(vectors, &mut s[at..e]);
     let count = p.count;
-    let mut q = p;
-    let new = Held {
+    p.held[count] = Held {
         key,
         start: at,
         len: n,
     };
-    q.held[count] = new;
-    q.count = count + 1;
-    q
+    p.count = count + 1;
 }

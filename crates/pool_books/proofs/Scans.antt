@@ -12,11 +12,12 @@ use lib.ListN.{length, drop, get_or}
 use Rattle.pool_books.specs.declared.Held.{Held}
 use Rattle.pool_books.specs.declared.Pool.{Pool}
 use Rattle.pool_books.specs.declared.Books.{Books}
-use Rattle.pool_books.specs.declared.Found.{Found}
+use Rattle.pool_books.specs.declared.Place.{Place}
+use Rattle.std.specs.Prelude.{Result, Ok, Err, Option, Some, None}
 use Rattle.picture_limits.specs.declared.Refusal as F
 use Rattle.pool_books.specs.Book.{entries, floats, end_of, in_order, well_made}
-use Rattle.pool_books.specs.Lookup.{lookup, found_start, found_len}
-use Rattle.pool_books.specs.inner.Place.{place_in, books_of}
+use Rattle.pool_books.specs.Lookup.{place, lookup, found_start, found_len}
+use Rattle.pool_books.specs.inner.Place.{place_in, books_in, books_of}
 use Rattle.pool_books.proofs.Orders.{made-is, entry_at, entries-end, order-at}
 
 -- ---- the order of the places
@@ -96,7 +97,7 @@ pub sought-none : (p : Pool) (k : ℕ) → Sought p k 0
 sought-none p k = record { passed = omega arith; stands = sym (zero-add (place_in k (entries p))); looks = refl }
 
 module _ (p : Pool) (k j : ℕ) (d : Held) (w : p.count ≤ length p.held) (l : j < p.count) (s : Sought p k j) where
-  pub sought-here : (get_or p.held j d).key ≡ k → (place_in k (entries p) ≡ j) × (lookup k (entries p) ≡ Found.At (get_or p.held j d).start (get_or p.held j d).len)
+  pub sought-here : (get_or p.held j d).key ≡ k → (place_in k (entries p) ≡ j) × (lookup k (entries p) ≡ Ok (place (get_or p.held j d).start (get_or p.held j d).len))
   unfolding place_in lookup
   sought-here e =
       let a = entry_at p j d w l in
@@ -114,7 +115,7 @@ module _ (p : Pool) (k j : ℕ) (d : Held) (w : p.count ≤ length p.held) (l : 
         looks = s.looks ∙ ap (lookup k) a ∙ rw t;
       }
 
-pub sought-all : (p : Pool) (k j : ℕ) → p.count ≤ length p.held → p.count ≤ j → Sought p k j → (place_in k (entries p) ≡ p.count) × (lookup k (entries p) ≡ Found.Refused F.Refusal.KeyUnknown)
+pub sought-all : (p : Pool) (k j : ℕ) → p.count ≤ length p.held → p.count ≤ j → Sought p k j → (place_in k (entries p) ≡ p.count) × (lookup k (entries p) ≡ Err F.Refusal.KeyUnknown)
 unfolding place_in lookup
 sought-all p k j w m s =
     let e = entries-end p j w s.passed m in
@@ -123,23 +124,23 @@ sought-all p k j w m s =
 
 -- ---- what is found
 
-pub unmade : (p : Pool) (n k : ℕ) → in_order 0 n (entries p) ≡ false → Books.Unmade ≡ books_of p n k
+pub unmade : (p : Pool) (n k : ℕ) → in_order 0 n (entries p) ≡ false → None ≡ books_of p n k
 unfolding books_of well_made
 unmade p n k e = rw e (go (eqb p.len n && leb p.count 64))
   where
     go : (b : Bool)
-        → Books.Unmade
-        ≡ cond (b && false) (Books.Made (floats (entries p)) (end_of 0 (entries p)) (place_in k (entries p)) (found_start (lookup k (entries p))) (found_len (lookup k (entries p)))) Books.Unmade
+        → None
+        ≡ cond (b && false) (Some (books_in p k)) None
     go true = refl
     go false = refl
 
-pub unmade-early : (p : Pool) (n k : ℕ) → not (eqb p.len n) || ltb 64 p.count ≡ true → Books.Unmade ≡ books_of p n k
+pub unmade-early : (p : Pool) (n k : ℕ) → not (eqb p.len n) || ltb 64 p.count ≡ true → None ≡ books_of p n k
 unfolding books_of well_made
 unmade-early p n k t = go (eqb p.len n) (leb p.count 64) refl t
   where
     go : (x y : Bool) → leb p.count 64 ≡ y → not x || ltb 64 p.count ≡ true
-        → Books.Unmade
-        ≡ cond ((x && y) && in_order 0 n (entries p)) (Books.Made (floats (entries p)) (end_of 0 (entries p)) (place_in k (entries p)) (found_start (lookup k (entries p))) (found_len (lookup k (entries p)))) Books.Unmade
+        → None
+        ≡ cond ((x && y) && in_order 0 n (entries p)) (Some (books_in p k)) None
     go false y e t = refl
     go true false e t = refl
     go true true e t = let u = ltb-true 64 p.count t in let v = leb-true p.count 64 e in absurd (omega arith)
@@ -152,7 +153,7 @@ early len n count t = go (eqb len n) refl (ltb 64 count) refl t
     go true e false f t = (eqb-true len n e, ltb-false 64 count f)
     go false e y f t = absurd (true≢false t)
 
-pub made-books : (p : Pool) (n k sum end place : ℕ) (found : Found) → p.len ≡ n → p.count ≤ 64 → in_order 0 n (entries p) ≡ true → floats (entries p) ≡ sum → end_of 0 (entries p) ≡ end
-    → place_in k (entries p) ≡ place → lookup k (entries p) ≡ found → Books.Made sum end place (found_start found) (found_len found) ≡ books_of p n k
+pub made-books : (p : Pool) (n k sum end at : ℕ) (found : Result Place F.Refusal) → p.len ≡ n → p.count ≤ 64 → in_order 0 n (entries p) ≡ true → floats (entries p) ≡ sum → end_of 0 (entries p) ≡ end
+    → place_in k (entries p) ≡ at → lookup k (entries p) ≡ found → Some (record { floats = sum; end = end; place = at; start = found_start found; len = found_len found }) ≡ books_of p n k
 unfolding books_of
-made-books p n k sum end place found a b o s e q f = rw (made-is p n a b o, s, e, q, f)
+made-books p n k sum end at found a b o s e q f = rw (made-is p n a b o, s, e, q, f)

@@ -1,10 +1,8 @@
 // The bookkeeping of a pool, and one look at it: whether it is one for the slice, and where a key stands.
 #![tactic(auto)]
 
-ghost use Rattle.std.specs.Prelude.{◌≡◌};
+ghost use Rattle.std.specs.Prelude.{◌≡◌, length, IsSome};
 ghost use Rattle.pool_books.specs.inner.Place.{books_of};
-
-use picture_limits::Refusal;
 
 // A key, and the place of its vectors in the slice.
 #[repr(C)]
@@ -25,68 +23,62 @@ pub struct Pool {
 }
 
 // Where the vectors of a key stand in the slice.
-#[derive(Drop)]
-pub enum Found {
-    At { start: usize, len: usize },
-    Refused(Refusal),
+#[derive(Clone, Copy)]
+pub struct Place {
+    pub start: usize,
+    pub len: usize,
 }
 
-// What a look at the bookkeeping finds: of a pool for this slice, the floats that it holds, where the last result ends, and
+// What a look at the bookkeeping of a pool for this slice finds: the floats that it holds, where the last result ends, and
 // which of the results has the key, as many as there are where none has it, with its place in the slice.
-#[derive(Drop)]
-pub enum Books {
-    Made {
-        floats: usize,
-        end: usize,
-        place: usize,
-        start: usize,
-        len: usize,
-    },
-    Unmade,
+#[derive(Clone, Copy)]
+pub struct Books {
+    pub floats: usize,
+    pub end: usize,
+    pub place: usize,
+    pub start: usize,
+    pub len: usize,
 }
 
-fn found_at(floats: usize, end: usize, place: usize, start: usize, len: usize) -> Books
-    ensures { result ≡ Books.Made floats end place start len }
-{
-    Books::Made {
-        floats,
-        end,
-        place,
-        start,
-        len,
-    }
-}
-
-// Whether p is a pool for a slice of n floats, and where the key stands. Both are asked here, since each function that reads
-// the bookkeeping copies it.
-pub fn scan(p: Pool, n: usize, key: u64) -> Books
-    ensures { result ≡ books_of p n key }
+// Where the key stands in p, if p is a pool for a slice of n floats. That there is room for 64 is of the type.
+pub fn scan(p: &Pool, n: usize, key: u64) -> Option<Books>
+    ensures books { result ≡ books_of p.now n key }
+    ensures whole { IsSome result → length p.now.held ≡ 64 }
 {
     let count = p.count;
     if (p.len != n) | (64 < count) {
-        return Books::Unmade;
+        return None;
     }
     let mut floats = 0usize;
     let mut end = 0usize;
     for i in 0..count {
         let h = p.held[i];
         if h.start < end {
-            return Books::Unmade;
+            return None;
         }
-        if 18446744073709551615 - h.start < h.len {
-            return Books::Unmade;
-        }
-        end = h.start + h.len;
+        end = h.start.checked_add(h.len)?;
         floats += h.len;
     }
     if n < end {
-        return Books::Unmade;
+        return None;
     }
     for j in 0..count {
         let h = p.held[j];
         if h.key == key {
-            return found_at(floats, end, j, h.start, h.len);
+            return Some(Books {
+                floats,
+                end,
+                place: j,
+                start: h.start,
+                len: h.len,
+            });
         }
     }
-    found_at(floats, end, count, 0, 0)
+    Some(Books {
+        floats,
+        end,
+        place: count,
+        start: 0,
+        len: 0,
+    })
 }

@@ -1,9 +1,10 @@
 -- `pool::add` meets its contract. Assumes nothing.
-use mathlib.Core.Path.{◌≡◌, sym, ◌∙◌}
+use mathlib.Core.Path.{◌≡◌, refl, sym, ◌∙◌}
 use mathlib.Core.Bool.{true}
 use Prim.Native.Nat.{ℕ, ◌≤◌}
 use native.Mathlib.Omega.{arith}
 use lib.ListN.{length}
+use Rattle.std.proofs.Common.{rules}
 use Rattle.pool_books.specs.declared.Pool.{Pool}
 use Rattle.pool_books.specs.Book.{well_made}
 use Rattle.pool_books.proofs.Orders.{made-says}
@@ -17,24 +18,22 @@ room p n h m = omega (arith, (made-says p n m).few)
 
 pub returns-in_default : goal.returns-in_default
 returns-in_default c = record {
-  answer = (add-refused c.args.p c.args.s.now c.args.key c.args.vectors.now F.Refusal.PoolSlice c.refuse.result c.refuse.ensures
-      (add-unmade c.args.p c.args.s.now c.args.key c.args.vectors.now (untold c.args.p (length c.args.s.now) c.args.key (sym c.scan-books.ensures ∙ c.in_default.is)))).0;
-  output = (add-refused c.args.p c.args.s.now c.args.key c.args.vectors.now F.Refusal.PoolSlice c.refuse.result c.refuse.ensures
-      (add-unmade c.args.p c.args.s.now c.args.key c.args.vectors.now (untold c.args.p (length c.args.s.now) c.args.key (sym c.scan-books.ensures ∙ c.in_default.is)))).1;
+  answer = (add-refused c.args.p.now c.args.s.now c.args.key c.args.vectors.now F.Refusal.PoolSlice _ refl
+      (add-unmade c.args.p.now c.args.s.now c.args.key c.args.vectors.now (untold c.args.p.now (length c.args.s.now) c.args.key (sym c.scan.ensures.books ∙ c.in_default.is)))).0;
+  output = (add-refused c.args.p.now c.args.s.now c.args.key c.args.vectors.now F.Refusal.PoolSlice _ refl
+      (add-unmade c.args.p.now c.args.s.now c.args.key c.args.vectors.now (untold c.args.p.now (length c.args.s.now) c.args.key (sym c.scan.ensures.books ∙ c.in_default.is)))).1;
 }
 
-pub returns-then-place-p : goal.returns-then-place-p
-returns-then-place-p c =
-    let k = c.before.before.before.before.before.before.before in
-    let t = told c.args.p (length c.args.s.now) c.args.key _ _ _ _ _ (sym c.scan-books.ensures ∙ c.in-Made.is) in record {
-      answer = (add-refused c.args.p c.args.s.now c.args.key c.args.vectors.now F.Refusal.KeyHeld c.refuse-then-place-p.result c.refuse-then-place-p.ensures
-          (add-held c.args.p c.args.s.now c.args.key c.args.vectors.now t.made (held-there c.args.p (length c.args.s.now) c.args.key _ (room c.args.p (length c.args.s.now) c.well_formed.0.1.1.1.1.0.1.0.1 t.made) t.made t.stands c.if-place-p.true))).0;
-      output = (add-refused c.args.p c.args.s.now c.args.key c.args.vectors.now F.Refusal.KeyHeld c.refuse-then-place-p.result c.refuse-then-place-p.ensures
-          (add-held c.args.p c.args.s.now c.args.key c.args.vectors.now t.made (held-there c.args.p (length c.args.s.now) c.args.key _ (room c.args.p (length c.args.s.now) c.well_formed.0.1.1.1.1.0.1.0.1 t.made) t.made t.stands c.if-place-p.true))).1;
+pub returns-then-books-p : goal.returns-then-books-p
+returns-then-books-p c =
+    let t = told c.args.p.now (length c.args.s.now) c.args.key _ (sym c.scan.ensures.books ∙ c.in-Some.is) in record {
+      answer = (add-refused c.args.p.now c.args.s.now c.args.key c.args.vectors.now F.Refusal.KeyHeld _ refl
+          (add-held c.args.p.now c.args.s.now c.args.key c.args.vectors.now t.made (held-there c.args.p.now (length c.args.s.now) c.args.key _ (room c.args.p.now (length c.args.s.now) (c.in-Some.ensures.whole refl) t.made) t.made t.stands c.if-books-p.true))).0;
+      output = (add-refused c.args.p.now c.args.s.now c.args.key c.args.vectors.now F.Refusal.KeyHeld _ refl
+          (add-held c.args.p.now c.args.s.now c.args.key c.args.vectors.now t.made (held-there c.args.p.now (length c.args.s.now) c.args.key _ (room c.args.p.now (length c.args.s.now) (c.in-Some.ensures.whole refl) t.made) t.made t.stands c.if-books-p.true))).1;
     }
 
 pub add_new-requires : goal.add_new-requires
 add_new-requires c =
-    let k = c.before.before.before.before.before.before.before in
-    let t = told c.args.p (length c.args.s.now) c.args.key _ _ _ _ _ (sym c.scan-books.ensures ∙ c.in-Made.is) in
-    (t.made, t.sums, t.ends, held-nowhere c.args.p (length c.args.s.now) c.args.key _ (room c.args.p (length c.args.s.now) c.well_formed.0.1.1.1.1.0.1.0.1 t.made) t.made t.stands c.if-place-p.false)
+    let t = told c.args.p.now (length c.args.s.now) c.args.key _ (sym c.scan.ensures.books ∙ c.in-Some.is) in
+    (t.made, t.sums, t.ends, held-nowhere c.args.p.now (length c.args.s.now) c.args.key _ (room c.args.p.now (length c.args.s.now) (c.in-Some.ensures.whole refl) t.made) t.made t.stands c.if-books-p.false, c.in-Some.ensures.whole refl)

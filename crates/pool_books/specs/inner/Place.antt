@@ -1,5 +1,5 @@
 -- What the inner functions answer: where a key stands in the bookkeeping, and what a test of it finds. Assumes nothing.
-use Rattle.std.specs.Prelude.{cond, List, [], ◌∷◌, ◌++◌, ℕ, suc, eqb, take, drop}
+use Rattle.std.specs.Prelude.{cond, Option, Some, None, List, [], ◌∷◌, ◌++◌, ℕ, suc, eqb, take, drop}
 use Rattle.pool_books.specs.declared.Held.{Held}
 use Rattle.pool_books.specs.declared.Pool.{Pool}
 use Rattle.pool_books.specs.declared.Books.{Books}
@@ -16,8 +16,15 @@ abbrev pub left_out : ℕ → List Held → List Held
 left_out i es = take i es ++ drop (suc i) es
 
 -- of a pool for a slice of n floats, how many floats it holds, where the last result ends, and where the key stands
-unfoldable pub books_of : Pool → ℕ → ℕ → Books
-books_of p n k =
-    cond (well_made p n)
-    (Books.Made (floats (entries p)) (end_of 0 (entries p)) (place_in k (entries p)) (found_start (lookup k (entries p))) (found_len (lookup k (entries p))))
-    Books.Unmade
+abbrev pub books_in : Pool → ℕ → Books
+books_in p k =
+    record {
+      floats = floats (entries p);
+      end = end_of 0 (entries p);
+      place = place_in k (entries p);
+      start = found_start (lookup k (entries p));
+      len = found_len (lookup k (entries p));
+    }
+
+unfoldable pub books_of : Pool → ℕ → ℕ → Option Books
+books_of p n k = cond (well_made p n) (Some (books_in p k)) None

@@ -5,6 +5,7 @@ use Prim.Native.Nat.{ℕ, suc, ◌+◌, ◌-◌, ◌≤◌, ◌<◌}
 use native.Mathlib.Nat.{zero-add}
 use native.Mathlib.Numerals.{add-one}
 use native.Mathlib.Omega.{arith}
+use Rattle.std.proofs.Common.{rules}
 use lib.ListN.{length, take, drop, get_or, set, length-set, length-append, length-drop}
 use lib.Seq.{take-take, length-take-le, get_or-set_other}
 use Rattle.buffers.specs.Region.{put}
@@ -65,15 +66,15 @@ left-all p q i j last w l e m r =
 
 pub loop-j-init : goal.loop-j-init
 loop-j-init c =
-    let room : c.args.p.count ≤ length c.args.p.held = omega (arith, c.requires.0, c.well_formed.0.1.1.1.1.0.1.0.1) in
-    left-none c.args.p c.args.i (c.args.p.count - 1) (room) c.requires.1 refl
+    let room : c.args.p.now.count ≤ length c.args.p.now.held = omega (arith, c.requires.0, c.requires.2) in
+    left-none c.args.p.now c.args.i (c.args.p.now.count - 1) (room) c.requires.1 refl
 
 pub loop-j-preserved : goal.loop-j-preserved
 loop-j-preserved c =
-    let room : c.args.p.count ≤ length c.args.p.held = omega (arith, c.requires.0, c.well_formed.0.1.1.1.1.0.1.0.1) in
-    left-more c.args.p c.loop-j.q c.args.i c.loop-j.j (c.args.p.count - 1) _ (room) refl c.loop-j-test.true c.loop-j.invariant
+    let room : c.args.p.now.count ≤ length c.args.p.now.held = omega (arith, c.requires.0, c.requires.2) in
+    left-more c.args.p.now c.loop-j.p c.args.i c.loop-j.j (c.args.p.now.count - 1) _ (room) refl c.loop-j-test.true c.loop-j.invariant
 
 pub returns : goal.returns
 returns c =
-    let room : c.args.p.count ≤ length c.args.p.held = omega (arith, c.requires.0, c.well_formed.0.1.1.1.1.0.1.0.1) in
-    left-all c.args.p c.loop-j.q c.args.i c.loop-j.j (c.args.p.count - 1) (room) c.requires.1 refl c.loop-j-test.false c.loop-j.invariant
+    let room : c.args.p.now.count ≤ length c.args.p.now.held = omega (arith, c.requires.0, c.requires.2) in
+    left-all c.args.p.now c.loop-j.p c.args.i c.loop-j.j (c.args.p.now.count - 1) (room) c.requires.1 refl c.loop-j-test.false c.loop-j.invariant

@@ -19,4 +19,4 @@ pub record Left (p q : Pool) (i j last : ℕ) : Type 0 where
   pub left : put q.held j (drop (suc j) (entries p)) ≡ put p.held 0 (left_out i (entries p))
 
 abbrev pub invariant-loop-j : goal.invariant-loop-j
-invariant-loop-j l = Left l.initial.q l.q l.i l.j l.last
+invariant-loop-j l = Left l.initial.p l.p l.i l.j l.last

@@ -5,6 +5,7 @@ use mathlib.Core.List.{List, ◌∷◌}
 use Prim.Native.Nat.{ℕ, suc, ◌+◌, ◌≤◌, ◌<◌}
 use native.Mathlib.Numerals.{add-one}
 use native.Mathlib.Omega.{arith}
+use Rattle.std.proofs.Common.{rules}
 use lib.ListN.{length, drop, get_or, set, length-set}
 use lib.Seq.{get_or-set_other}
 use lib.Ieee.{Float}
@@ -89,56 +90,56 @@ slid-all p q s t at i w m j =
     same a b x y z = λ i. record { len = x i; count = y i; held = z i }
 
 pub loop-i-init : goal.loop-i-init
-loop-i-init c = slid-none c.args.p c.args.s.now c.requires
+loop-i-init c = slid-none c.args.p.now c.args.s.now c.requires.0
 
-pub offset_bounds-q-i : goal.offset_bounds-q-i
-offset_bounds-q-i c =
-    let few : c.args.p.count ≤ 64 = (made-says c.args.p (length c.args.s.now) c.requires).few in
+pub offset_bounds-p-i : goal.offset_bounds-p-i
+offset_bounds-p-i c =
+    let few : c.args.p.now.count ≤ 64 = (made-says c.args.p.now (length c.args.s.now) c.requires.0).few in
     omega (arith, few)
 
-pub bounds-q-i : goal.bounds-q-i
-bounds-q-i c =
-    let few : c.args.p.count ≤ 64 = (made-says c.args.p (length c.args.s.now) c.requires).few in
+pub bounds-p-i : goal.bounds-p-i
+bounds-p-i c =
+    let few : c.args.p.now.count ≤ 64 = (made-says c.args.p.now (length c.args.s.now) c.requires.0).few in
     omega (arith, few)
 
 pub move_down-requires : goal.move_down-requires
 move_down-requires c =
-    let few : c.args.p.count ≤ 64 = (made-says c.args.p (length c.args.s.now) c.requires).few in
-    let room : c.args.p.count ≤ length c.args.p.held = omega (arith, few, c.well_formed.0.1.1.1.1.0.1.0.1) in
+    let few : c.args.p.now.count ≤ 64 = (made-says c.args.p.now (length c.args.s.now) c.requires.0).few in
+    let room : c.args.p.now.count ≤ length c.args.p.now.held = omega (arith, few, c.requires.1) in
     let t = c.loop-i-test.true in
-    let h = high c.args.p c.loop-i.q c.args.s.now c.loop-i.s c.loop-i.to c.loop-i.i (held 0 0 0) (room) t c.loop-i.invariant in
-    (low c.args.p c.loop-i.q c.args.s.now c.loop-i.s c.loop-i.to c.loop-i.i (held 0 0 0) (room) t c.loop-i.invariant, rw c.loop-i.invariant.as_long h)
+    let h = high c.args.p.now c.loop-i.p c.args.s.now c.loop-i.s c.loop-i.to c.loop-i.i (held 0 0 0) (room) t c.loop-i.invariant in
+    (low c.args.p.now c.loop-i.p c.args.s.now c.loop-i.s c.loop-i.to c.loop-i.i (held 0 0 0) (room) t c.loop-i.invariant, rw c.loop-i.invariant.as_long h)
 
-pub offset_bounds-q-i-in-loop-i : goal.offset_bounds-q-i-in-loop-i
-offset_bounds-q-i-in-loop-i c =
-    let few : c.args.p.count ≤ 64 = (made-says c.args.p (length c.args.s.now) c.requires).few in
+pub offset_bounds-p-i-in-loop-i : goal.offset_bounds-p-i-in-loop-i
+offset_bounds-p-i-in-loop-i c =
+    let few : c.args.p.now.count ≤ 64 = (made-says c.args.p.now (length c.args.s.now) c.requires.0).few in
     omega (arith, few, c.loop-i-test.true)
 
-pub bounds-q-i-in-loop-i : goal.bounds-q-i-in-loop-i
-bounds-q-i-in-loop-i c =
-    let few : c.args.p.count ≤ 64 = (made-says c.args.p (length c.args.s.now) c.requires).few in
+pub bounds-p-i-in-loop-i : goal.bounds-p-i-in-loop-i
+bounds-p-i-in-loop-i c =
+    let few : c.args.p.now.count ≤ 64 = (made-says c.args.p.now (length c.args.s.now) c.requires.0).few in
     omega (arith, few, c.loop-i-test.true)
 
 pub overflow_add-to : goal.overflow_add-to
 overflow_add-to c =
-    let few : c.args.p.count ≤ 64 = (made-says c.args.p (length c.args.s.now) c.requires).few in
-    let room : c.args.p.count ≤ length c.args.p.held = omega (arith, few, c.well_formed.0.1.1.1.1.0.1.0.1) in
+    let few : c.args.p.now.count ≤ 64 = (made-says c.args.p.now (length c.args.s.now) c.requires.0).few in
+    let room : c.args.p.now.count ≤ length c.args.p.now.held = omega (arith, few, c.requires.1) in
     let t = c.loop-i-test.true in
-    omega (arith, low c.args.p c.loop-i.q c.args.s.now c.loop-i.s c.loop-i.to c.loop-i.i (held 0 0 0) (room) t c.loop-i.invariant, high c.args.p c.loop-i.q c.args.s.now c.loop-i.s c.loop-i.to c.loop-i.i (held 0 0 0) (room) t c.loop-i.invariant, c.well_formed.1.0.0)
+    omega (arith, low c.args.p.now c.loop-i.p c.args.s.now c.loop-i.s c.loop-i.to c.loop-i.i (held 0 0 0) (room) t c.loop-i.invariant, high c.args.p.now c.loop-i.p c.args.s.now c.loop-i.s c.loop-i.to c.loop-i.i (held 0 0 0) (room) t c.loop-i.invariant, c.well_formed.1.0.0)
 
 pub loop-i-preserved : goal.loop-i-preserved
 loop-i-preserved c =
-    let few : c.args.p.count ≤ 64 = (made-says c.args.p (length c.args.s.now) c.requires).few in
-    let room : c.args.p.count ≤ length c.args.p.held = omega (arith, few, c.well_formed.0.1.1.1.1.0.1.0.1) in
-    slid-more c.args.p c.loop-i.q c.args.s.now c.loop-i.s c.loop-i.to c.loop-i.i (held 0 0 0) (room) c.loop-i-test.true c.loop-i.invariant c.move_down.new.s c.move_down.ensures
+    let few : c.args.p.now.count ≤ 64 = (made-says c.args.p.now (length c.args.s.now) c.requires.0).few in
+    let room : c.args.p.now.count ≤ length c.args.p.now.held = omega (arith, few, c.requires.1) in
+    slid-more c.args.p.now c.loop-i.p c.args.s.now c.loop-i.s c.loop-i.to c.loop-i.i (held 0 0 0) (room) c.loop-i-test.true c.loop-i.invariant c.move_down.new.s c.move_down.ensures
 
 pub shape_of-s : goal.shape_of-s
 shape_of-s c = c.loop-i.invariant.as_long
 
 pub returns : goal.returns
 returns c =
-    let few : c.args.p.count ≤ 64 = (made-says c.args.p (length c.args.s.now) c.requires).few in
-    let room : c.args.p.count ≤ length c.args.p.held = omega (arith, few, c.well_formed.0.1.1.1.1.0.1.0.1) in record {
-      answer = (slid-all c.args.p c.loop-i.q c.args.s.now c.loop-i.s c.loop-i.to c.loop-i.i (room) c.loop-i-test.false c.loop-i.invariant).0;
-      output = (slid-all c.args.p c.loop-i.q c.args.s.now c.loop-i.s c.loop-i.to c.loop-i.i (room) c.loop-i-test.false c.loop-i.invariant).1;
+    let few : c.args.p.now.count ≤ 64 = (made-says c.args.p.now (length c.args.s.now) c.requires.0).few in
+    let room : c.args.p.now.count ≤ length c.args.p.now.held = omega (arith, few, c.requires.1) in record {
+      answer = (slid-all c.args.p.now c.loop-i.p c.args.s.now c.loop-i.s c.loop-i.to c.loop-i.i (room) c.loop-i-test.false c.loop-i.invariant).0;
+      output = (slid-all c.args.p.now c.loop-i.p c.args.s.now c.loop-i.s c.loop-i.to c.loop-i.i (room) c.loop-i-test.false c.loop-i.invariant).1;
     }

@@ -24,4 +24,4 @@ pub record Slid (p q : Pool) (s t : List Float) (at i : ℕ) : Type 0 where
   pub vectors : put t at (joined s (drop i (entries p))) ≡ put s 0 (joined s (entries p))
 
 abbrev pub invariant-loop-i : goal.invariant-loop-i
-invariant-loop-i l = Slid l.initial.q l.q l.initial.s l.s l.to l.i
+invariant-loop-i l = Slid l.initial.p l.p l.initial.s l.s l.to l.i
