@@ -21,22 +21,20 @@ pub fn bf16_pack_all(x: &[u32], out: &mut [u16]) -> usize
     ensures count { result ≡ min (length x.now) (length out.old) }
     ensures output { out.new ≡ packed_all x.now out.old }
 {
-    let mut i = 0usize;
-    while i < x.len() && i < out.len() {
+    let n = x.len().min(out.len());
+    for i in 0..n {
         out[i] = bf16_pack(x[i]);
-        i += 1;
     }
-    i
+    n
 }
 
 pub fn bf16_widen_all(b: &[u16], out: &mut [u32]) -> usize
     ensures count { result ≡ min (length b.now) (length out.old) }
     ensures output { out.new ≡ widened_all b.now out.old }
 {
-    let mut i = 0usize;
-    while i < b.len() && i < out.len() {
+    let n = b.len().min(out.len());
+    for i in 0..n {
         out[i] = bf16_widen(b[i]);
-        i += 1;
     }
-    i
+    n
 }

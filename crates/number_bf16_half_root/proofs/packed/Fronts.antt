@@ -1,6 +1,5 @@
 -- A loop that writes f of one element of x after another over the front of a buffer that held s. Assumes nothing.
-use Rattle.std.proofs.Common.{◌≡◌, ℕ, ◌+◌, ◌<◌, ◌≤◌, min, List, length, get_or, set, sym, refl, ap, ◌∙◌, arith, length-set}
-use native.Mathlib.Nat.{min-eq_left, min-eq_right}
+use Rattle.std.proofs.Common.{◌≡◌, ℕ, ◌+◌, ◌<◌, ◌≤◌, min, List, length, get_or, set, refl, ap, ◌∙◌, arith, length-set}
 use Rattle.buffers.specs.Rows.{tab}
 use Rattle.buffers.specs.Region.{put, over}
 use Rattle.buffers.proofs.Regions.{put-over}
@@ -27,14 +26,7 @@ module _ {f : ℕ → ℕ} {x s t : List ℕ} {i : ℕ} (b : Begun f x s t i) wh
     written = tab-step-0 s t i (λ k. f (get_or x k 0)) v b.written e;
   }
 
-  ended : i ≡ min (length x) (length s) → t ≡ front f x s
+  pub ended : i ≡ min (length x) (length s) → t ≡ front f x s
   ended e =
       b.written ∙ ap (λ (n : ℕ). put s 0 (tab n (λ k. f (get_or x k 0)))) e
       ∙ put-over s (tab (min (length x) (length s)) (λ k. f (get_or x k 0))) (rw (length-tab (min (length x) (length s)) (λ k. f (get_or x k 0)), ← e) b.room)
-
-  -- x has no more, or the buffer
-  pub all_read : length x ≤ i → (i ≡ min (length x) (length s)) × (t ≡ front f x s)
-  all_read h = let l : i ≡ length x = omega (arith, b.read) in let e = l ∙ sym (min-eq_left {m = length s} (omega (arith, b.room))) in (e, ended e)
-
-  pub full : length t ≤ i → (i ≡ min (length x) (length s)) × (t ≡ front f x s)
-  full h = let l : i ≡ length s = omega (arith, b.room, b.long) in let e = l ∙ sym (min-eq_right {m = length x} (omega (arith, b.read))) in (e, ended e)
