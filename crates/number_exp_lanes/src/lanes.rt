@@ -62,11 +62,9 @@ fn series_lanes(r: [f64; 16]) -> [f64; 16]
     ensures { result ≡ tab 16 (λ l. series (get_or r l nan) 10 one64) }
 {
     let mut p = [1.0f64; 16];
-    let mut i: u32 = 10;
-    while 0 < i {
-        let next = add_term(p, r, i as f64);
+    for i in (1u32..11).rev() {
+        let next = add_term(p, r, f64::from(i));
         p = next;
-        i -= 1;
     }
     p
 }

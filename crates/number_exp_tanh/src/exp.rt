@@ -20,10 +20,8 @@ fn series_of(r: f64) -> f64
     ensures { result ≡ series r 10 one64 }
 {
     let mut p = 1.0;
-    let mut i: u32 = 10;
-    while 0 < i {
-        p = 1.0 + (r * p) / (i as f64);
-        i -= 1;
+    for i in (1u32..11).rev() {
+        p = 1.0 + (r * p) / f64::from(i);
     }
     p
 }

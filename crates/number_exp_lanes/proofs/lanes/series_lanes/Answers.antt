@@ -25,19 +25,15 @@ step r p q i h e g l k =
 pub loop-i-init : goal.loop-i-init
 loop-i-init c = (omega arith, simp length-replicate, λ l h. ap (series (get_or c.args.r l nan) 10) (get_or-replicate 16 l one64 nan h))
 
-pub overflow_sub-i : goal.overflow_sub-i
-overflow_sub-i c = omega arith
-
-pub loop-i-smaller : goal.loop-i-smaller
-loop-i-smaller c = omega arith
-
 pub loop-i-preserved : goal.loop-i-preserved
 loop-i-preserved c =
     let r = c.args.r in
-    (omega arith, ap length c.add_term-next.ensures ∙ length-tab 16 _, step r c.loop-i.p _ c.loop-i.i c.loop-i-test.true c.add_term-next.ensures c.loop-i.invariant.2)
+    let i : ℕ = c.loop-i.i - 1 in
+    let e : c.add_term-next.result ≡ tab 16 (λ l. term (get_or r l nan) (get_or c.loop-i.p l nan) (of_int binary64 (pos (c.loop-i.i - 1)))) = rw c.from.ensures at c.add_term-next.ensures in
+    (omega arith, ap length c.add_term-next.ensures ∙ length-tab 16 _, step r c.loop-i.p _ i (omega arith) e c.loop-i.invariant.2)
 
 pub returns : goal.returns
 returns c =
     let r = c.args.r in
     sym (tab-self c.loop-i.p 16 nan c.loop-i.invariant.1)
-    ∙ tab-ext 16 (λ i. get_or c.loop-i.p i nan) (λ i. series (get_or r i nan) 10 one64) (λ i h. sym (series-end (get_or r i nan) (get_or c.loop-i.p i nan) c.loop-i.i c.loop-i-test.false) ∙ c.loop-i.invariant.2 i h)
+    ∙ tab-ext 16 (λ i. get_or c.loop-i.p i nan) (λ i. series (get_or r i nan) 10 one64) (λ i h. sym (series-end (get_or r i nan) (get_or c.loop-i.p i nan) (c.loop-i.i - 1) (omega arith)) ∙ c.loop-i.invariant.2 i h)
