@@ -1,5 +1,5 @@
 -- What a record says, and the counts over a text. Assumes nothing.
-use Rattle.std.specs.Prelude.{ℕ, ◌+◌, cond, List, [], ◌∷◌, eqb, ltb, length, get_or, take, drop, set}
+use Rattle.std.specs.Prelude.{ℕ, ◌+◌, cond, List, [], ◌∷◌, eqb, ltb, length, get_or, take, drop, set, Option, Some, None}
 use Rattle.number_bf16_half_root.specs.Bf16.{bf16}
 use Rattle.number_bf16_half_root.specs.Half.{half}
 use Rattle.number_bf16_half_root.specs.Root.{root}
@@ -7,32 +7,30 @@ use Rattle.number_bf16_half_root.specs.Packed.{packed, widened}
 use Rattle.number_exp_tanh.specs.Exp.{exp_bits}
 use Rattle.number_exp_tanh.specs.Tanh.{tanh_bits}
 use Rattle.number_replay.specs.Hex.{word_of}
-use Rattle.number_replay.specs.declared.hex.Word.{Word}
-use Rattle.number_replay.specs.declared.hex.Word.TheVariants.{Value, Bad}
 use Rattle.number_replay.specs.declared.record.Verdict.{Verdict}
 use Rattle.number_replay.specs.declared.record.Verdict.TheVariants.{Same, Differs, Bad as Unread}
 
 -- the rule of a letter, at x: b, h (whose inputs have 16 bits), r, e, t, p, w (16 bits again)
-unfoldable pub answer_of : ℕ → ℕ → Word
+unfoldable pub answer_of : ℕ → ℕ → Option ℕ
 answer_of letter x =
-    cond (eqb letter 98) (Value (bf16 x))
-    (cond (eqb letter 104) (cond (ltb x 65536) (Value (half x)) Bad)
-    (cond (eqb letter 114) (Value (root x))
-    (cond (eqb letter 101) (Value (exp_bits x))
-    (cond (eqb letter 116) (Value (tanh_bits x))
-    (cond (eqb letter 112) (Value (packed x))
-    (cond (eqb letter 119) (cond (ltb x 65536) (Value (widened x)) Bad)
-    Bad))))))
+    cond (eqb letter 98) (Some (bf16 x))
+    (cond (eqb letter 104) (cond (ltb x 65536) (Some (half x)) None)
+    (cond (eqb letter 114) (Some (root x))
+    (cond (eqb letter 101) (Some (exp_bits x))
+    (cond (eqb letter 116) (Some (tanh_bits x))
+    (cond (eqb letter 112) (Some (packed x))
+    (cond (eqb letter 119) (cond (ltb x 65536) (Some (widened x)) None)
+    None))))))
 
 -- the Rust's answer beside ours
-unfoldable pub besides : ℕ → ℕ → Word → Verdict
-besides letter rust Bad = Unread
-besides letter rust (Value ours) = cond (eqb ours rust) (Same letter) (Differs ours)
+unfoldable pub besides : ℕ → ℕ → Option ℕ → Verdict
+besides letter rust None = Unread
+besides letter rust (Some ours) = cond (eqb ours rust) (Same letter) (Differs ours)
 
-unfoldable pub verdict_from : ℕ → Word → Word → Verdict
-verdict_from letter Bad a = Unread
-verdict_from letter (Value x) Bad = Unread
-verdict_from letter (Value x) (Value rust) = besides letter rust (answer_of letter x)
+unfoldable pub verdict_from : ℕ → Option ℕ → Option ℕ → Verdict
+verdict_from letter None a = Unread
+verdict_from letter (Some x) None = Unread
+verdict_from letter (Some x) (Some rust) = besides letter rust (answer_of letter x)
 
 -- of a line: a letter, a space, 8 digits, a space, 8 digits, a newline
 unfoldable pub verdict_of : List ℕ → Verdict

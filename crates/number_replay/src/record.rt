@@ -3,8 +3,6 @@ ghost use Rattle.std.specs.Prelude.{◌≡◌, ◌<◌};
 ghost use Rattle.number_bf16_half_root.specs.Packed.{packed};
 ghost use Rattle.number_replay.specs.Records.{answer_of, place_of, verdict_from, verdict_of};
 
-use crate::hex::Word;
-
 #[derive(Clone, Copy)]
 pub enum Verdict {
     // the letter of the rule
@@ -16,13 +14,13 @@ pub enum Verdict {
 }
 
 // The letter h, 104: its input is a pattern of 16 bits.
-fn half(input: u32) -> Word
+fn half(input: u32) -> Option<u32>
     ensures { result ≡ answer_of 104 input }
 {
     if input < 0x1_0000 {
-        Word::Value(number_bf16_half_root::half::half_to_f32(input as u16))
+        Some(number_bf16_half_root::half::half_to_f32(input as u16))
     } else {
-        Word::Bad
+        None
     }
 }
 
@@ -33,41 +31,41 @@ fn pack(input: u32) -> u32
 }
 
 // The letter w, 119: its input has 16 bits too.
-fn widen(input: u32) -> Word
+fn widen(input: u32) -> Option<u32>
     ensures { result ≡ answer_of 119 input }
 {
     if input < 0x1_0000 {
-        Word::Value(number_bf16_half_root::packed::bf16_widen(input as u16))
+        Some(number_bf16_half_root::packed::bf16_widen(input as u16))
     } else {
-        Word::Bad
+        None
     }
 }
 
-fn answer(letter: u8, input: u32) -> Word
+fn answer(letter: u8, input: u32) -> Option<u32>
     ensures { result ≡ answer_of letter input }
 {
     match letter {
-        b'b' => Word::Value(number_bf16_half_root::bf16::bf16(input)),
+        b'b' => Some(number_bf16_half_root::bf16::bf16(input)),
         b'h' => half(input),
-        b'r' => Word::Value(number_bf16_half_root::root::root(input)),
-        b'e' => Word::Value(number_exp_tanh::exp::exp(input)),
-        b't' => Word::Value(number_exp_tanh::tanh::tanh(input)),
-        b'p' => Word::Value(pack(input)),
+        b'r' => Some(number_bf16_half_root::root::root(input)),
+        b'e' => Some(number_exp_tanh::exp::exp(input)),
+        b't' => Some(number_exp_tanh::tanh::tanh(input)),
+        b'p' => Some(pack(input)),
         b'w' => widen(input),
-        _ => Word::Bad,
+        _ => None,
     }
 }
 
-fn compare(letter: u8, input: Word, answered: Word) -> Verdict
+fn compare(letter: u8, input: Option<u32>, answered: Option<u32>) -> Verdict
     ensures { result ≡ verdict_from letter input answered }
 {
-    let Word::Value(x) = input else {
+    let Some(x) = input else {
         return Verdict::Bad;
     };
-    let Word::Value(rust) = answered else {
+    let Some(rust) = answered else {
         return Verdict::Bad;
     };
-    let Word::Value(ours) = answer(letter, x) else {
+    let Some(ours) = answer(letter, x) else {
         return Verdict::Bad;
     };
     if ours == rust {

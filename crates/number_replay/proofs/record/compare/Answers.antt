@@ -9,21 +9,21 @@ returns-in_default c = rw c.in_default.is
 
 pub returns-in_default-answered : goal.returns-in_default-answered
 unfolding verdict_from besides
-returns-in_default-answered c = rw (c.in-Value.is, c.in_default-answered.is)
+returns-in_default-answered c = rw (c.in-Some.is, c.in_default-answered.is)
 
 pub returns-in_default-answer : goal.returns-in_default-answer
 unfolding verdict_from besides
 returns-in_default-answer c =
-    rw (c.in-Value.is, c.in-Value-answered.is, ← c.answer.ensures, c.in_default-answer.is)
+    rw (c.in-Some.is, c.in-Some-answered.is, ← c.answer.ensures, c.in_default-answer.is)
 
 pub returns-then-ours-rust : goal.returns-then-ours-rust
 unfolding verdict_from besides
 returns-then-ours-rust c =
-    rw (c.in-Value.is, c.in-Value-answered.is, ← c.answer.ensures, c.in-Value-answer.is)
+    rw (c.in-Some.is, c.in-Some-answered.is, ← c.answer.ensures, c.in-Some-answer.is)
     (simp (eq-eqb _ _ c.if-ours-rust.true))
 
 pub returns-else-ours-rust : goal.returns-else-ours-rust
 unfolding verdict_from besides
 returns-else-ours-rust c =
-    rw (c.in-Value.is, c.in-Value-answered.is, ← c.answer.ensures, c.in-Value-answer.is)
+    rw (c.in-Some.is, c.in-Some-answered.is, ← c.answer.ensures, c.in-Some-answer.is)
     (simp (ne_eqb _ _ c.if-ours-rust.false))

@@ -2,12 +2,12 @@
 use borrow.Author.Tests.{le-ltb, lt-ltb}
 use mathlib.Core.Path.{ap}
 use Rattle.number_replay.specs.Records.{answer_of}
-use Rattle.number_replay.specs.declared.hex.Word.TheVariants.{Value}
+use Rattle.std.specs.Prelude.{Some}
 use Rattle.number_replay.proofs.record.widen.Goals as goal
 
 pub returns-then-input-lt65536 : goal.returns-then-input-lt65536
 unfolding answer_of
-returns-then-input-lt65536 c = simp (lt-ltb _ _ c.if-input-lt65536.true) (ap Value c.bf16_widen.ensures)
+returns-then-input-lt65536 c = simp (lt-ltb _ _ c.if-input-lt65536.true) (ap Some c.bf16_widen.ensures)
 
 pub returns-else-input-lt65536 : goal.returns-else-input-lt65536
 unfolding answer_of
