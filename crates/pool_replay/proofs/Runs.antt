@@ -8,7 +8,6 @@ use lib.ListN.{length, take, drop, replicate}
 use lib.Ieee.{Float}
 use Rattle.buffers.specs.Region.{over}
 use Rattle.pool_books.specs.declared.Pool.{Pool}
-use Rattle.pool.specs.declared.Pooled.{Pooled}
 use Rattle.pool.specs.Pool as P
 use Rattle.replay.specs.Marks.{seeded, floats}
 use Rattle.replay.specs.Line.{read_of}
@@ -23,7 +22,7 @@ use Rattle.pool_replay.specs.Run.{at, lent_of, part_of, vectors_of, pooled, plac
 use Rattle.pool_replay.specs.Record.{differs, place_of, told_of, judged, judged_in, slice_in, tally}
 
 module _ (p : Pool) (s : List Float) (v : List ℕ) where
-  pub added : (n m k : ℕ) (fl t : List Float) (r : Pooled) → n ≡ lent_of (at v 1) (length s) → m ≡ lent_of (at v 3) 512 → fl ≡ floats (seeded (at v 4)) 512
+  pub added : (n m k : ℕ) (fl t : List Float) (r : P.Pooled) → n ≡ lent_of (at v 1) (length s) → m ≡ lent_of (at v 3) 512 → fl ≡ floats (seeded (at v 4)) 512
       → r ≡ P.add_answer p (take n s) (at v 2) (take m fl) → t ≡ P.add_slice p (take n s) (at v 2) (take m fl) → k ≡ P.number r.outcome
       → (record { pool = r.pool; number = k; start = 0; len = 0 } ≡ pooled (P.add_answer p (part_of v s) (at v 2) (vectors_of v)))
       × (t ++ drop n s ≡ P.add_slice p (part_of v s) (at v 2) (vectors_of v) ++ drop (lent_of (at v 1) (length s)) s)

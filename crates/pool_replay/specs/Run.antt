@@ -1,10 +1,10 @@
 -- What the call of a record answers and leaves, of the pool and the slice that the lines before it have left. Assumes nothing.
-use Rattle.std.specs.Prelude.{ℕ, ◌%◌, cond, List, ◌++◌, eqb, ltb, length, get_or, take, drop, set, Float}
+use Rattle.std.specs.Prelude.{ℕ, ◌%◌, cond, List, ◌++◌, eqb, length, get_or, take, drop, set, Float, Result, min}
 use Rattle.pool_books.specs.declared.Pool.{Pool}
-use Rattle.pool.specs.declared.Pooled.{Pooled}
-use Rattle.pool_books.specs.declared.Found.{Found}
+use Rattle.picture_limits.specs.declared.Refusal as F
+use Rattle.pool_books.specs.declared.Place.{Place}
 use Rattle.pool_books.specs.Book.{held}
-use Rattle.pool.specs.Pool.{new_pool, add_answer, add_slice, find_answer, drop_answer, number}
+use Rattle.pool.specs.Pool.{Pooled, new_pool, add_answer, add_slice, find_answer, drop_answer, number}
 use Rattle.pool_books.specs.Lookup.{found_number, found_start, found_len}
 use Rattle.replay.specs.Marks.{seeded, floats}
 use Rattle.pool_replay.specs.declared.run.Ran.{Ran}
@@ -16,7 +16,7 @@ at v k = get_or v k 0
 
 -- of n floats, as many as are asked for, and all of them where that is more
 abbrev pub lent_of : ℕ → ℕ → ℕ
-lent_of k n = cond (ltb k n) k n
+lent_of k n = min k n
 
 -- what is lent of the slice
 abbrev pub part_of : List ℕ → List Float → List Float
@@ -30,7 +30,7 @@ vectors_of v = take (lent_of (at v 3) 512) (floats (seeded (at v 4)) 512)
 abbrev pub pooled : Pooled → Ran
 pooled r = record { pool = r.pool; number = number r.outcome; start = 0; len = 0 }
 
-abbrev pub placed : Pool → Found → Ran
+abbrev pub placed : Pool → Result Place F.Refusal → Ran
 placed p f = record { pool = p; number = found_number f; start = found_start f; len = found_len f }
 
 abbrev pub plain : Pool → Ran

@@ -3,8 +3,8 @@ ghost use Rattle.std.specs.Prelude.{◌≡◌, ◌++◌, ◌≤◌, length, drop
 ghost use Rattle.pool.specs.Pool as P;
 ghost use Rattle.pool_replay.specs.Run.{at, lent_of, part_of, vectors_of, pooled, placed, plain, entered, ran_of, slice_of};
 
-use pool::Outcome;
-use pool_books::{Found, Held, Pool};
+use picture_limits::Refusal;
+use pool_books::{Held, Pool};
 use replay::marks::fill_floats;
 
 // The pool after a call, and what it answered.
@@ -16,12 +16,12 @@ pub struct Ran {
     pub len: usize,
 }
 
-fn number(outcome: Outcome) -> usize
-    ensures { result ≡ P.number outcome }
+fn number(answer: Result<(), Refusal>) -> usize
+    ensures { result ≡ P.number answer }
 {
-    match outcome {
-        Outcome::Done => 0,
-        Outcome::Refused(r) => picture_limits::settings::number(r) as usize,
+    match answer {
+        Ok(()) => 0,
+        Err(r) => u32::from(r) as usize,
     }
 }
 
@@ -40,10 +40,7 @@ fn done(pool: Pool) -> Ran
 fn lent(n: usize, len: usize) -> usize
     ensures { (result ≡ lent_of n len) × (result ≤ len) }
 {
-    if n < len {
-        return n;
-    }
-    len
+    n.min(len)
 }
 
 fn add(p: Pool, s: &mut [f32], v: &[usize; 10]) -> Ran
@@ -54,12 +51,11 @@ fn add(p: Pool, s: &mut [f32], v: &[usize; 10]) -> Ran
     fill_floats(v[4], &mut vectors);
     let n = lent(v[1], s.len());
     let m = lent(v[3], 512);
-    let added = pool::add(p, &mut s[..n], v[2] as u64, &vectors[..m]);
-    let outcome = added.outcome;
-    let after = added.pool;
+    let mut pool = p;
+    let answer = pool::add(&mut pool, &mut s[..n], v[2] as u64, &vectors[..m]);
     Ran {
-        pool: after,
-        number: number(outcome),
+        pool,
+        number: number(answer),
         start: 0,
         len: 0,
     }
@@ -69,17 +65,16 @@ fn find(p: Pool, s: &[f32], v: &[usize; 10]) -> Ran
     ensures { result ≡ placed p (P.find_answer p (length (part_of v.now s.now)) (at v.now 2)) }
 {
     let n = lent(v[1], s.len());
-    let found = pool::find(p, &s[..n], v[2] as u64);
-    match found {
-        Found::At { start, len } => Ran {
+    match pool::find(&p, &s[..n], v[2] as u64) {
+        Ok(place) => Ran {
             pool: p,
             number: 0,
-            start,
-            len,
+            start: place.start,
+            len: place.len,
         },
-        Found::Refused(r) => Ran {
+        Err(r) => Ran {
             pool: p,
-            number: picture_limits::settings::number(r) as usize,
+            number: u32::from(r) as usize,
             start: 0,
             len: 0,
         },
@@ -90,12 +85,11 @@ fn drop_key(p: Pool, s: &[f32], v: &[usize; 10]) -> Ran
     ensures { result ≡ pooled (P.drop_answer p (length (part_of v.now s.now)) (at v.now 2)) }
 {
     let n = lent(v[1], s.len());
-    let dropped = pool::drop_key(p, &s[..n], v[2] as u64);
-    let outcome = dropped.outcome;
-    let after = dropped.pool;
+    let mut pool = p;
+    let answer = pool::drop_key(&mut pool, &s[..n], v[2] as u64);
     Ran {
-        pool: after,
-        number: number(outcome),
+        pool,
+        number: number(answer),
         start: 0,
         len: 0,
     }
