@@ -1,11 +1,12 @@
 -- What the C face reports of the calls on pools, on config.json and on safetensors files. Assumes nothing.
-use Rattle.std.specs.Prelude.{◌≡◌, List, ℕ}
+use Rattle.std.specs.Prelude.{◌≡◌, List, ℕ, Result}
 use Rattle.encoder_settings.specs.declared.EncoderSettings.{EncoderSettings}
 use Rattle.config.specs.Config as Conf
 use Rattle.config.specs.Config.{Config}
 use Rattle.config.specs.declared.Configured.{Configured}
-use Rattle.pool.specs.declared.Pooled.{Pooled}
-use Rattle.pool_books.specs.declared.Found.{Found}
+use Rattle.pool.specs.Pool.{Pooled}
+use Rattle.picture_limits.specs.declared.Refusal.{Refusal}
+use Rattle.pool_books.specs.declared.Place.{Place}
 use Rattle.pool.specs.Pool as Pl
 use Rattle.pool_books.specs.Lookup.{found_number, found_start, found_len}
 use Rattle.weights.specs.File as W
@@ -21,7 +22,7 @@ use Rattle.kyzgultam.specs.declared.weights_file.WeightsReport.{WeightsReport}
 abbrev pub pool_report : Pooled → PoolReport
 pool_report a = record { number = Pl.number a.outcome; pool = a.pool }
 
-abbrev pub pool_place : Found → PoolPlace
+abbrev pub pool_place : Result Place Refusal → PoolPlace
 pool_place a = record { number = found_number a; start = found_start a; len = found_len a }
 
 abbrev pub config_report : Configured → ConfigReport

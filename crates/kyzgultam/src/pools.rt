@@ -4,8 +4,8 @@ ghost use Rattle.pool.specs.Pool as P;
 ghost use Rattle.pool.specs.Pool.{new_pool, add_answer, add_slice, find_answer, drop_answer};
 ghost use Rattle.kyzgultam.specs.Face.{pool_report, pool_place};
 
-use pool::Outcome;
-use pool_books::{Found, Pool};
+use picture_limits::Refusal;
+use pool_books::Pool;
 
 // The pool after the call: the one that was lent, where it was refused.
 #[repr(C)]
@@ -24,12 +24,12 @@ pub struct PoolPlace {
     pub len: usize,
 }
 
-fn number(outcome: Outcome) -> u32
-    ensures { result ≡ P.number outcome }
+fn number(answer: Result<(), Refusal>) -> u32
+    ensures { result ≡ P.number answer }
 {
-    match outcome {
-        Outcome::Done => 0,
-        Outcome::Refused(r) => picture_limits::settings::number(r),
+    match answer {
+        Ok(()) => 0,
+        Err(r) => u32::from(r),
     }
 }
 
@@ -45,12 +45,11 @@ pub extern "C" fn kz_pool_add(p: Pool, slice: &mut [f32], key: u64, vectors: &[f
     ensures answer { result ≡ pool_report (add_answer p slice.old key vectors.now) }
     ensures output { slice.new ≡ add_slice p slice.old key vectors.now }
 {
-    let done = pool::add(p, slice, key, vectors);
-    let outcome = done.outcome;
-    let after = done.pool;
+    let mut pool = p;
+    let answer = pool::add(&mut pool, slice, key, vectors);
     PoolReport {
-        number: number(outcome),
-        pool: after,
+        number: number(answer),
+        pool,
     }
 }
 
@@ -58,15 +57,14 @@ pub extern "C" fn kz_pool_add(p: Pool, slice: &mut [f32], key: u64, vectors: &[f
 pub extern "C" fn kz_pool_find(p: Pool, slice: &[f32], key: u64) -> PoolPlace
     ensures { result ≡ pool_place (find_answer p (length slice.now) key) }
 {
-    let found = pool::find(p, slice, key);
-    match found {
-        Found::At { start, len } => PoolPlace {
+    match pool::find(&p, slice, key) {
+        Ok(place) => PoolPlace {
             number: 0,
-            start,
-            len,
+            start: place.start,
+            len: place.len,
         },
-        Found::Refused(r) => PoolPlace {
-            number: picture_limits::settings::number(r),
+        Err(r) => PoolPlace {
+            number: u32::from(r),
             start: 0,
             len: 0,
         },
@@ -77,11 +75,10 @@ pub extern "C" fn kz_pool_find(p: Pool, slice: &[f32], key: u64) -> PoolPlace
 pub extern "C" fn kz_pool_drop(p: Pool, slice: &[f32], key: u64) -> PoolReport
     ensures { result ≡ pool_report (drop_answer p (length slice.now) key) }
 {
-    let done = pool::drop_key(p, slice, key);
-    let outcome = done.outcome;
-    let after = done.pool;
+    let mut pool = p;
+    let answer = pool::drop_key(&mut pool, slice, key);
     PoolReport {
-        number: number(outcome),
-        pool: after,
+        number: number(answer),
+        pool,
     }
 }

@@ -6,6 +6,6 @@ use Rattle.kyzgultam.proofs.pools.kz_pool_add.Goals as goal
 
 pub returns : goal.returns
 returns c = record {
-  answer = ap (λ (n : ℕ). record { number = n; pool = c.add-done.result.pool }) c.number.ensures ∙ ap pool_report c.add-done.ensures.answer;
-  output = c.add-done.ensures.output;
+  answer = ap (λ (n : ℕ). record { number = n; pool = c.add-answer.new.p }) c.number.ensures ∙ ap pool_report c.add-answer.ensures.answer;
+  output = c.add-answer.ensures.output;
 }

@@ -6,4 +6,4 @@ use Rattle.kyzgultam.proofs.pools.kz_pool_drop.Goals as goal
 
 pub returns : goal.returns
 returns c =
-    ap (λ (n : ℕ). record { number = n; pool = c.drop_key-done.result.pool }) c.number.ensures ∙ ap pool_report c.drop_key-done.ensures
+    ap (λ (n : ℕ). record { number = n; pool = c.drop_key-answer.new.p }) c.number.ensures ∙ ap pool_report c.drop_key-answer.ensures

@@ -4,8 +4,8 @@ use Prim.Native.Nat.{ℕ}
 use Rattle.kyzgultam.specs.Face.{pool_place}
 use Rattle.kyzgultam.proofs.pools.kz_pool_find.Goals as goal
 
-pub returns-in-At : goal.returns-in-At
-returns-in-At c = sym (ap pool_place (sym c.find-found.ensures ∙ c.in-At.is))
+pub returns-in-Ok : goal.returns-in-Ok
+returns-in-Ok c = sym (ap pool_place (sym c.find.ensures ∙ c.in-Ok.is))
 
-pub returns-in-Refused : goal.returns-in-Refused
-returns-in-Refused c = ap (λ (n : ℕ). record { number = n; start = 0; len = 0 }) c.number.ensures ∙ sym (ap pool_place (sym c.find-found.ensures ∙ c.in-Refused.is))
+pub returns-in-Err : goal.returns-in-Err
+returns-in-Err c = ap (λ (n : ℕ). record { number = n; start = 0; len = 0 }) c.from.ensures ∙ sym (ap pool_place (sym c.find.ensures ∙ c.in-Err.is))
