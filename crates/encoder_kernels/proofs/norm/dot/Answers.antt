@@ -24,9 +24,6 @@ offset_bounds-w-k c = omega arith
 pub bounds-w-k : goal.bounds-w-k
 bounds-w-k c = omega arith
 
-pub overflow_add-k : goal.overflow_add-k
-overflow_add-k c = omega arith
-
 pub loop-k-smaller : goal.loop-k-smaller
 loop-k-smaller c = omega arith
 

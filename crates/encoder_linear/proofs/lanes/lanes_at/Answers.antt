@@ -84,9 +84,6 @@ bounds-third-i c = omega (arith, c.requires.rows, c.loop-i-test.true)
 pub bounds-fourth-i : goal.bounds-fourth-i
 bounds-fourth-i c = omega (arith, c.requires.rows, c.loop-i-test.true)
 
-pub overflow_add-i : goal.overflow_add-i
-overflow_add-i c = omega (arith, c.requires.rows, c.loop-i-test.true)
-
 pub loop-i-smaller : goal.loop-i-smaller
 loop-i-smaller c = omega (arith, c.loop-i-test.true)
 
