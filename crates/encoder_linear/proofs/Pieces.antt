@@ -138,29 +138,6 @@ module _ (r nin nout : ℕ) (w : List Float) where
       rw (g, e, linear-add i x)
       (put-append s y (linear_of i nin nout w x) (linear_of r nin nout w (region x (i * nin) (r * nin))) (y + i * nout) (ap (λ m. y + m) (sym (length-linear i nin nout w x))))
 
-  -- the same where the rows stand in s itself, apart from the sums
-  pub rows-turn-in : (s u v : List Float) (x y n i : ℕ) → Apart x (n * nin) y (n * nout) → i + r ≤ n → u ≡ put s y (linear_of i nin nout w (region s x (n * nin)))
-      → v ≡ put u (y + i * nout) (linear_of r nin nout w (region u (x + i * nin) (r * nin))) → v ≡ put s y (linear_of (i + r) nin nout w (region s x (n * nin)))
-  rows-turn-in s u v x y n i a h e g =
-      let X = region s x (n * nin) in
-      let L = linear_of i nin nout w X in
-      let f = fit-more i r nin h in
-      let f' = fit-more i r nout h in
-      let same : region u (x + i * nin) (r * nin) ≡ region X (i * nin) (r * nin) =
-      ap (λ t. region t (x + i * nin) (r * nin)) e
-      ∙ region-put s y L (x + i * nin) (r * nin) (rw (length-linear i nin nout w X) (apart-sub a (omega arith) (omega arith) (omega arith) (omega arith)))
-      ∙ sym (region-region s x (n * nin) (i * nin) (r * nin) f) in
-      rows-turn s u v X y i e (g ∙ ap (λ t. put u (y + i * nout) (linear_of r nin nout w t)) same)
-
-  pub block-turn-in : (s u v : List Float) (x y k n : ℕ) → Apart x (r * nin) y (r * nout) → y + r * nout ≤ length s → u ≡ put s y (begun k r nin nout w (region s x (r * nin)))
-      → v ≡ put u y (gone_on k n r nin nout w (region u x (r * nin)) (region u y (r * nout))) → v ≡ put s y (begun (k + n) r nin nout w (region s x (r * nin)))
-  block-turn-in s u v x y k n a h e g =
-      let X = region s x (r * nin) in
-      let B = begun k r nin nout w X in
-      let l : length B ≡ r * nout = length-grid r nout (λ l c. sum_of k (product nin w X l c)) in
-      let same : region u x (r * nin) ≡ X = ap (λ t. region t x (r * nin)) e ∙ region-put s y B x (r * nin) (rw l a) in
-      block-turn s u v X y k n h e (g ∙ ap (λ t. put u y (gone_on k n r nin nout w t (region u y (r * nout)))) same)
-
   -- u is s with the block cleared: no product is summed yet
   pub cleared-start : (s u x : List Float) (y : ℕ) → u ≡ blank zero32 y (r * nout) s → u ≡ put u y (begun 0 r nin nout w x)
   cleared-start s u x y e =

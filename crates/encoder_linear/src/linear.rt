@@ -6,26 +6,19 @@ ghost use Rattle.buffers.specs.Rows.{grid};
 ghost use Rattle.encoder_linear.specs.inner.Lanes.{gone_sum, gone_on};
 ghost use Rattle.buffers.specs.inner.Room.{where_fits};
 ghost use Rattle.encoder_linear.specs.inner.Room.{linear_fits, from_fits};
-ghost use Rattle.encoder_linear.specs.inner.Fits.{UpTo, ColumnsFits, PieceFits, BlockFits, LinearFits, FromPieceFits, FromBlockFits, FromFits};
+ghost use Rattle.encoder_linear.specs.inner.Fits.{UpTo, ColumnsFits, PieceFits, BlockFits, LinearFits, FromFits};
 
 use crate::few::four_columns;
 use crate::lanes::{one_column, pack, two_columns, wide_columns};
 use crate::level::wide;
 use crate::room::{from_fits, linear_fits};
-use buffers::clear_at;
-
-// The least of a and b.
-pub(crate) fn least(a: usize, b: usize) -> usize
-    ensures { UpTo a b result }
-{
-    if a < b { a } else { b }
-}
+use buffers::{clear_at, part};
 
 // How many of the n rows that are left are next: sixteen side by side, or four where few are left.
 pub(crate) fn next_rows(n: usize) -> usize
     ensures { UpTo n 16 result }
 {
-    if n < 9 { least(n, 4) } else { least(n, 16) }
+    n.min(if n < 9 { 4 } else { 16 })
 }
 
 // The r rows of sums at y go on by n products: a lane of xt by the floats from k on of each of the nout rows of w, of few
@@ -64,63 +57,8 @@ pub(crate) fn columns(
     }
 }
 
-// The sums of the r rows at y go on by the n products from k on.
+// The sums of the r rows at y go on by the n products from k on with the rows of x at xa.
 pub(crate) fn piece(
-    s: &mut [f32],
-    x: usize,
-    y: usize,
-    r: usize,
-    nin: usize,
-    nout: usize,
-    w: &[f32],
-    k: usize,
-    n: usize,
-)
-    requires { PieceFits (length s.old) (length w.now) x y r nin nout k n }
-    ensures { s.new ≡ put s.old y (gone_on k n r nin nout w.now (region s.old x (r * nin)) (region s.old y (r * nout))) }
-{
-    let mut xt = [0.0f32; 16384];
-    pack(&mut xt, 16, s, x + k, r, nin, n);
-    columns(s, y, r, nin, nout, w, k, n, &xt);
-}
-
-// Up to sixteen rows at x, from +0 on, piece after piece.
-pub(crate) fn block(s: &mut [f32], x: usize, y: usize, r: usize, nin: usize, nout: usize, w: &[f32])
-    requires { BlockFits (length s.old) (length w.now) x y r nin nout }
-    ensures { s.new ≡ put s.old y (linear_of r nin nout w.now (region s.old x (r * nin))) }
-{
-    clear_at(s, y, r * nout);
-    let mut k = 0usize;
-    while k < nin {
-        let n = least(nin - k, 1024);
-        piece(s, x, y, r, nin, nout, w, k, n);
-        k += n;
-    }
-}
-
-// The n rows at x, block after block.
-pub(crate) fn linear_rows(
-    s: &mut [f32],
-    x: usize,
-    y: usize,
-    n: usize,
-    nin: usize,
-    nout: usize,
-    w: &[f32],
-)
-    requires { LinearFits (length s.old) (length w.now) x y n nin nout }
-    ensures { s.new ≡ put s.old y (linear_of n nin nout w.now (region s.old x (n * nin))) }
-{
-    let mut i = 0usize;
-    while i < n {
-        let r = next_rows(n - i);
-        block(s, x + i * nin, y + i * nout, r, nin, nout, w);
-        i += r;
-    }
-}
-
-// The same with rows of another slice.
-pub(crate) fn from_piece(
     x: &[f32],
     xa: usize,
     s: &mut [f32],
@@ -132,7 +70,7 @@ pub(crate) fn from_piece(
     k: usize,
     n: usize,
 )
-    requires { FromPieceFits (length x.now) (length s.old) (length w.now) xa y r nin nout k n }
+    requires { PieceFits (length x.now) (length s.old) (length w.now) xa y r nin nout k n }
     ensures { s.new ≡ put s.old y (gone_on k n r nin nout w.now (region x.now xa (r * nin)) (region s.old y (r * nout))) }
 {
     let mut xt = [0.0f32; 16384];
@@ -140,7 +78,8 @@ pub(crate) fn from_piece(
     columns(s, y, r, nin, nout, w, k, n, &xt);
 }
 
-pub(crate) fn from_block(
+// Up to sixteen rows of x at xa, from +0 on, piece after piece.
+pub(crate) fn block(
     x: &[f32],
     xa: usize,
     s: &mut [f32],
@@ -150,18 +89,19 @@ pub(crate) fn from_block(
     nout: usize,
     w: &[f32],
 )
-    requires { FromBlockFits (length x.now) (length s.old) (length w.now) xa y r nin nout }
+    requires { BlockFits (length x.now) (length s.old) (length w.now) xa y r nin nout }
     ensures { s.new ≡ put s.old y (linear_of r nin nout w.now (region x.now xa (r * nin))) }
 {
     clear_at(s, y, r * nout);
     let mut k = 0usize;
     while k < nin {
-        let n = least(nin - k, 1024);
-        from_piece(x, xa, s, y, r, nin, nout, w, k, n);
+        let n = (nin - k).min(1024);
+        piece(x, xa, s, y, r, nin, nout, w, k, n);
         k += n;
     }
 }
 
+// The n rows of x, block after block. The last blocks are smaller, so no range counts the turns.
 pub(crate) fn from_rows(
     x: &[f32],
     s: &mut [f32],
@@ -177,8 +117,31 @@ pub(crate) fn from_rows(
     let mut i = 0usize;
     while i < n {
         let r = next_rows(n - i);
-        from_block(x, i * nin, s, y + i * nout, r, nin, nout, w);
+        block(x, i * nin, s, y + i * nout, r, nin, nout, w);
         i += r;
+    }
+}
+
+// The n rows at x: what holds them is lent apart from what holds their sums.
+pub(crate) fn linear_rows(
+    s: &mut [f32],
+    x: usize,
+    y: usize,
+    n: usize,
+    nin: usize,
+    nout: usize,
+    w: &[f32],
+)
+    requires { LinearFits (length s.old) (length w.now) x y n nin nout }
+    ensures { s.new ≡ put s.old y (linear_of n nin nout w.now (region s.old x (n * nin))) }
+{
+    let many = n * nin;
+    if x + many <= y {
+        let (rows, sums) = s.split_at_mut(y);
+        from_rows(part(rows, x, many), sums, 0, n, nin, nout, w);
+    } else {
+        let (sums, rows) = s.split_at_mut(x);
+        from_rows(part(rows, 0, many), sums, y, n, nin, nout, w);
     }
 }
 

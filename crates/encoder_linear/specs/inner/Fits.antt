@@ -111,32 +111,22 @@ pub record RowsFit (lens lenb y n d : ℕ) : Type 0 where
   pub yin : y + n * d ≤ lens
   pub long : lenb ≡ d
 
--- up to sixteen of them, and n of the products of each sum
-pub record BlockFits (lens lenw x y r nin nout : ℕ) : Type 0 where
-  pub some : 0 < r
-  pub lanes : r ≤ 16
-  pub all : LinearFits lens lenw x y r nin nout
-
-pub record PieceFits (lens lenw x y r nin nout k n : ℕ) : Type 0 where
-  pub block : BlockFits lens lenw x y r nin nout
-  pub kin : k + n ≤ nin
-  pub short : n ≤ 1024
-
 -- the same with rows of another slice
 pub record FromFits (lenx lens lenw y n nin nout : ℕ) : Type 0 where
   pub xin : n * nin ≤ lenx
   pub yin : y + n * nout ≤ lens
   pub win : nout * nin ≤ lenw
 
-pub record FromBlockFits (lenx lens lenw x y r nin nout : ℕ) : Type 0 where
+-- up to sixteen of them, and n of the products of each sum
+pub record BlockFits (lenx lens lenw x y r nin nout : ℕ) : Type 0 where
   pub some : 0 < r
   pub lanes : r ≤ 16
   pub xin : x + r * nin ≤ lenx
   pub yin : y + r * nout ≤ lens
   pub win : nout * nin ≤ lenw
 
-pub record FromPieceFits (lenx lens lenw x y r nin nout k n : ℕ) : Type 0 where
-  pub block : FromBlockFits lenx lens lenw x y r nin nout
+pub record PieceFits (lenx lens lenw x y r nin nout k n : ℕ) : Type 0 where
+  pub block : BlockFits lenx lens lenw x y r nin nout
   pub kin : k + n ≤ nin
   pub short : n ≤ 1024
 

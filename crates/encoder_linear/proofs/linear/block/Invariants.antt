@@ -8,7 +8,7 @@ use Rattle.encoder_linear.proofs.linear.block.Given as goal
 
 abbrev pub invariant-loop-k : goal.invariant-loop-k
 invariant-loop-k l =
-    (l.k ≤ l.nin) × (length l.s ≡ length l.initial.s) × (l.s ≡ put l.initial.s l.y (begun l.k l.r l.nin l.nout l.w (region l.initial.s l.x (l.r * l.nin))))
+    (l.k ≤ l.nin) × (length l.s ≡ length l.initial.s) × (l.s ≡ put l.initial.s l.y (begun l.k l.r l.nin l.nout l.w (region l.x l.xa (l.r * l.nin))))
 
 abbrev pub decreases-loop-k : goal.decreases-loop-k
 decreases-loop-k l = l.nin - l.k

@@ -42,8 +42,8 @@ overflow_add-y c =
     (h, fit-more i c.next_rows-r.result c.args.nin h, fit-more i c.next_rows-r.result c.args.nout h) in
     omega (arith, room, c.requires.yin)
 
-pub from_block-requires : goal.from_block-requires
-from_block-requires c =
+pub block-requires : goal.block-requires
+block-requires c =
     let room : (let a = c.args in
     (c.loop-i.i + c.next_rows-r.result ≤ c.args.n) × (c.loop-i.i * c.args.nin + c.next_rows-r.result * c.args.nin ≤ c.args.n * c.args.nin)
     × (c.loop-i.i * c.args.nout + c.next_rows-r.result * c.args.nout ≤ c.args.n * c.args.nout)) = let a = c.args in
@@ -82,8 +82,8 @@ loop-i-preserved c =
     (h, fit-more i c.next_rows-r.result c.args.nin h, fit-more i c.next_rows-r.result c.args.nout h) in
     let a = c.args in (
       room.0,
-      c.from_block.auto.s ∙ c.loop-i.invariant.1,
-      rows-turn c.next_rows-r.result c.args.nin c.args.nout c.args.w.now c.args.s.now c.loop-i.s c.from_block.new.s c.args.x.now c.args.y c.loop-i.i c.loop-i.invariant.2 c.from_block.ensures,
+      c.block.auto.s ∙ c.loop-i.invariant.1,
+      rows-turn c.next_rows-r.result c.args.nin c.args.nout c.args.w.now c.args.s.now c.loop-i.s c.block.new.s c.args.x.now c.args.y c.loop-i.i c.loop-i.invariant.2 c.block.ensures,
     )
 
 pub shape_of-s : goal.shape_of-s

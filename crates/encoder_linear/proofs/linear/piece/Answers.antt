@@ -8,15 +8,15 @@ use Rattle.buffers.proofs.Lists.{fit}
 use Rattle.encoder_linear.proofs.Pieces.{piece-lanes}
 use Rattle.encoder_linear.proofs.linear.piece.Goals as goal
 
-pub overflow_add-x : goal.overflow_add-x
-overflow_add-x c = let f = fit c.args.nin c.requires.block.some in omega (arith, c.requires.block.all.xin, c.requires.kin)
+pub overflow_add-xa : goal.overflow_add-xa
+overflow_add-xa c = let f = fit c.args.nin c.requires.block.some in omega (arith, c.requires.block.xin, c.requires.kin)
 
 pub pack-requires : goal.pack-requires
 pack-requires c =
     record {
       rows = c.requires.block.lanes;
       tin = simp length-replicate (omega (arith, c.requires.short));
-      xin = λ l h. let f = fit c.args.nin h in omega (arith, c.requires.block.all.xin, c.requires.kin);
+      xin = λ l h. let f = fit c.args.nin h in omega (arith, c.requires.block.xin, c.requires.kin);
     }
 
 pub returns : goal.returns
@@ -24,4 +24,4 @@ returns c =
     let t : length (replicate 16384 zero32) ≡ 16384 = simp length-replicate in
     c.columns.ensures
     ∙ ap (λ l. put c.args.s.now c.args.y l)
-    (piece-lanes c.args.r c.args.nin c.args.nout c.args.w.now c.args.s.now (replicate 16384 zero32) c.pack.new.xt c.args.s.now c.args.x c.args.y c.args.k c.args.n c.requires.block.lanes (omega (arith, c.requires.short)) c.requires.kin c.pack.ensures)
+    (piece-lanes c.args.r c.args.nin c.args.nout c.args.w.now c.args.s.now (replicate 16384 zero32) c.pack.new.xt c.args.x.now c.args.xa c.args.y c.args.k c.args.n c.requires.block.lanes (omega (arith, c.requires.short)) c.requires.kin c.pack.ensures)
