@@ -38,13 +38,13 @@ fn gate_wide(s: &mut [f32], y: usize, z: usize, n: usize) -> usize
     requires { PairFits (length s.old) y z n }
     ensures { (result ≤ n) × (s.new ≡ put s.old y (gated result (region s.old y n) (region s.old z n))) }
 {
-    let mut i = 0usize;
-    while 16 <= n - i {
+    let turns = n / 16;
+    for k in 0..turns {
+        let i = k * 16;
         let x = sixteen_negated(s, y + i);
         gate_sixteen(s, y + i, z + i, exp_sixteen(x));
-        i += 16;
     }
-    i
+    turns * 16
 }
 
 // One after another.

@@ -56,13 +56,13 @@ pub(crate) fn weigh_wide(
     ensures { (result ≤ hd) × (s.new ≡ put s.old out (weighed_row t dim result o (region s.old row t) (region s.old v (t * dim)))) }
 {
     let n = t * dim;
-    let mut d = 0usize;
-    while 16 <= hd - d {
+    let turns = hd / 16;
+    for k in 0..turns {
+        let d = k * 16;
         let b = wide(part(s, row, t), part(s, v, n), o + d, dim);
         copy_spread(s, out + d, 1, &b, 0, 1, 16);
-        d += 16;
     }
-    d
+    turns * 16
 }
 
 // The sums of a head, one after another.

@@ -35,13 +35,13 @@ fn exp_wide(s: &mut [f32], y: usize, n: usize, m: f32) -> usize
     requires { y + n ≤ length s.old }
     ensures { (result ≤ n) × (s.new ≡ put s.old y (exp_less result m (region s.old y n))) }
 {
-    let mut i = 0usize;
-    while 16 <= n - i {
+    let turns = n / 16;
+    for k in 0..turns {
+        let i = k * 16;
         let x = sixteen_less(s, y + i, m);
         store_sixteen(s, y + i, exp_sixteen(x));
-        i += 16;
     }
-    i
+    turns * 16
 }
 
 // One after another.

@@ -1,7 +1,7 @@
 -- `encoder_elements::silus::gate_wide` meets its contract. Assumes nothing.
 use mathlib.Core.Path.{◌≡◌, ap, ◌∙◌}
 use mathlib.Core.List.{List}
-use Prim.Native.Nat.{ℕ, ◌+◌}
+use Prim.Native.Nat.{ℕ, ◌+◌, ◌*◌}
 use native.Mathlib.Omega.{arith}
 use borrow.Author.Rules.{rules}
 use lib.ListN.{length, get_or}
@@ -27,24 +27,25 @@ each u x e a b ex ee =
     let p : get_or e l nan ≡ E (get_or x l nan) = ap (λ (t : List Float). get_or t l nan) ee ∙ get_or-tab 16 l (λ j. E (get_or x j nan)) nan h in
     rw (get_or-region u a 16 l nan h, get_or-region u b 16 l nan h, p, q))
 
-pub loop-i-init : goal.loop-i-init
+pub loop-k-init : goal.loop-k-init
 unfolding put tab gated
-loop-i-init c = search rules
+loop-k-init c = search rules
 
 pub gate_sixteen-requires : goal.gate_sixteen-requires
 gate_sixteen-requires c =
-    rw c.loop-i.invariant.1 (part-fits c.loop-i.i 16 c.requires (omega arith))
+    rw c.loop-k.invariant.0 (part-fits (c.loop-k.k * 16) 16 c.requires (omega arith))
 
-pub loop-i-preserved : goal.loop-i-preserved
-loop-i-preserved c = (
-  omega arith,
-  ap length c.gate_sixteen.ensures ∙ length-put _ _ _ ∙ c.loop-i.invariant.1,
+pub loop-k-preserved : goal.loop-k-preserved
+loop-k-preserved c = (
+  ap length c.gate_sixteen.ensures ∙ length-put _ _ _ ∙ c.loop-k.invariant.0,
   c.gate_sixteen.ensures
-      ∙ more c.args.s.now c.loop-i.s _ c.args.y c.args.z c.args.n c.loop-i.i 16 (omega arith) c.requires.apart c.loop-i.invariant.2 (each c.loop-i.s c.sixteen_negated-x.result c.exp_sixteen.result (c.args.y + c.loop-i.i) (c.args.z + c.loop-i.i) c.sixteen_negated-x.ensures c.exp_sixteen.ensures),
+      ∙ more c.args.s.now c.loop-k.s _ c.args.y c.args.z c.args.n (c.loop-k.k * 16) 16 (omega arith) c.requires.apart c.loop-k.invariant.1 (each c.loop-k.s c.sixteen_negated-x.result c.exp_sixteen.result (c.args.y + (c.loop-k.k * 16)) (c.args.z + (c.loop-k.k * 16)) c.sixteen_negated-x.ensures c.exp_sixteen.ensures)
+      ∙ ap (λ (j : ℕ). put c.args.s.now c.args.y (gated j (region c.args.s.now c.args.y c.args.n) (region c.args.s.now c.args.z c.args.n))) (omega arith),
 )
 
 pub shape_of-s : goal.shape_of-s
-shape_of-s c = c.loop-i.invariant.1
+shape_of-s c = c.loop-k.invariant.0
 
 pub returns : goal.returns
-returns c = (c.loop-i.invariant.0, c.loop-i.invariant.2)
+returns c =
+    (omega arith, c.loop-k.invariant.1 ∙ ap (λ (j : ℕ). put c.args.s.now c.args.y (gated (j * 16) (region c.args.s.now c.args.y c.args.n) (region c.args.s.now c.args.z c.args.n))) (omega arith))

@@ -30,11 +30,9 @@ both s u z row v out t dim hd o d g h eu ez =
     ez ∙ rw (ep, eq, eu)
     (put-append s out W (weighed_row t dim (hd - d) (o + d) p q) (out + d) (rw n refl) ∙ ap (put s out) (weighed-add t dim o d (hd - d) p q ∙ ap (λ m. weighed_row t dim m o p q) k))
 
--- src/attention.rt:214:5
 pub weigh_rest-requires : goal.weigh_rest-requires
 weigh_rest-requires c = rw c.weigh_wide-d.auto.s (rest-fits c.weigh_wide-d.result c.requires c.weigh_wide-d.ensures.0)
 
--- src/attention.rt:200:1
 pub returns : goal.returns
 returns c =
     both c.args.s.now c.weigh_wide-d.new.s _ c.args.row c.args.v c.args.out c.args.t c.args.dim c.args.hd c.args.o c.weigh_wide-d.result c.requires c.weigh_wide-d.ensures.0 c.weigh_wide-d.ensures.1 c.weigh_rest.ensures

@@ -44,39 +44,34 @@ turn s u z b p q row v out t dim hd o d g h eu ep eq el eb ez =
     ∙ ap (λ x. tab 16 (λ l. column_of t dim (o + d + l) (region (put s out (weighed_row t dim d o (region s row t) (region s v (t * dim)))) row t) x)) (eq ∙ ap (λ x. region x v (t * dim)) eu) in
     ez ∙ ap (λ x. spread x (out + d) 1 16 (λ i. get_or b (0 + i * 1) nan)) eu ∙ step s b row v out t dim hd o d g h e
 
--- src/attention.rt:169:5
-pub loop-d-init : goal.loop-d-init
+pub loop-k-init : goal.loop-k-init
 unfolding put tab weighed_row
-loop-d-init c = search rules
+loop-k-init c = search rules
 
--- src/attention.rt:170:17
 pub wide-b-requires : goal.wide-b-requires
 wide-b-requires c =
-    let u = c.loop-d.s in
+    let u = c.loop-k.s in
     let e : length c.part.result.now ≡ c.args.t = ap length c.part.ensures ∙ length-region u c.args.row c.args.t (omega arith) in
-    (ap length c.part-in-loop-d.ensures ∙ length-region u c.args.v (c.args.t * c.args.dim) (omega arith) ∙ ap (λ m. m * c.args.dim) (sym e), omega arith)
+    (ap length c.part-in-loop-k.ensures ∙ length-region u c.args.v (c.args.t * c.args.dim) (omega arith) ∙ ap (λ m. m * c.args.dim) (sym e), omega arith)
 
--- src/attention.rt:171:9
 pub copy_spread-requires : goal.copy_spread-requires
 copy_spread-requires c = record {
   to = λ i h. omega (arith, mul-one i);
   from = λ i h. rw (c.wide-b.ensures, length-tab 16 _) (omega (arith, mul-one i));
 }
 
--- src/attention.rt:169:5
-pub loop-d-preserved : goal.loop-d-preserved
-loop-d-preserved c =
-    let e : length c.part.result.now ≡ c.args.t = ap length c.part.ensures ∙ length-region c.loop-d.s c.args.row c.args.t (omega arith) in
+pub loop-k-preserved : goal.loop-k-preserved
+loop-k-preserved c =
+    let e : length c.part.result.now ≡ c.args.t = ap length c.part.ensures ∙ length-region c.loop-k.s c.args.row c.args.t (omega arith) in
     let x = c.copy_spread.ensures in (
-      omega arith,
-      ap length x ∙ ap length (spread-one _ _ _ _) ∙ length-put _ _ _ ∙ c.loop-d.invariant.1,
-      turn c.args.s.now c.loop-d.s _ c.wide-b.result c.part.result.now c.part-in-loop-d.result.now c.args.row c.args.v c.args.out c.args.t c.args.dim c.args.hd c.args.o c.loop-d.d c.requires (omega arith) c.loop-d.invariant.2 c.part.ensures c.part-in-loop-d.ensures e c.wide-b.ensures x,
+      ap length x ∙ ap length (spread-one _ _ _ _) ∙ length-put _ _ _ ∙ c.loop-k.invariant.0,
+      turn c.args.s.now c.loop-k.s _ c.wide-b.result c.part.result.now c.part-in-loop-k.result.now c.args.row c.args.v c.args.out c.args.t c.args.dim c.args.hd c.args.o (c.loop-k.k * 16) c.requires (omega arith) c.loop-k.invariant.1 c.part.ensures c.part-in-loop-k.ensures e c.wide-b.ensures x
+          ∙ ap (λ j. put c.args.s.now c.args.out (weighed_row c.args.t c.args.dim j c.args.o (region c.args.s.now c.args.row c.args.t) (region c.args.s.now c.args.v (c.args.t * c.args.dim)))) (omega arith),
     )
 
--- src/attention.rt:154:1
 pub shape_of-s : goal.shape_of-s
-shape_of-s c = c.loop-d.invariant.1
+shape_of-s c = c.loop-k.invariant.0
 
--- src/attention.rt:154:1
 pub returns : goal.returns
-returns c = (c.loop-d.invariant.0, c.loop-d.invariant.2)
+returns c =
+    (omega arith, c.loop-k.invariant.1 ∙ ap (λ j. put c.args.s.now c.args.out (weighed_row c.args.t c.args.dim (j * 16) c.args.o (region c.args.s.now c.args.row c.args.t) (region c.args.s.now c.args.v (c.args.t * c.args.dim)))) (omega arith))

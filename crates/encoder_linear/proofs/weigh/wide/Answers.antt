@@ -10,20 +10,16 @@ use Rattle.encoder_linear.proofs.Columns.{begun_column, column-step}
 use lib.ListN.{length}
 use Rattle.encoder_linear.proofs.weigh.wide.Goals as goal
 
--- src/attention.rt:143:5
 pub loop-j-init : goal.loop-j-init
 unfolding sum_of tab
 loop-j-init c = (omega arith, omega arith, refl)
 
--- src/attention.rt:145:13
 pub add_products-next-requires : goal.add_products-next-requires
 add_products-next-requires c = (ap length c.loop-j.invariant.2 ∙ length-tab 16 _, omega (arith, fit c.args.dim c.loop-j-test.true))
 
--- src/attention.rt:147:9
 pub overflow_add-a : goal.overflow_add-a
 overflow_add-a c = omega (arith, fit c.args.dim c.loop-j-test.true)
 
--- src/attention.rt:143:5
 pub loop-j-preserved : goal.loop-j-preserved
 loop-j-preserved c = (
   omega arith,
@@ -31,7 +27,6 @@ loop-j-preserved c = (
   column-step c.loop-j.j c.args.dim c.args.o c.loop-j.a c.args.p.now c.args.v.now c.loop-j.b c.add_products-next.result c.loop-j.invariant.1 c.loop-j.invariant.2 c.add_products-next.ensures,
 )
 
--- src/attention.rt:136:1
 pub returns : goal.returns
 unfolding column_of
 returns c =
