@@ -9,6 +9,7 @@ ghost use Rattle.encoder_elements.specs.inner.Fits.{PairFits};
 
 use crate::room::pair_fits;
 use crate::silus::gate_values;
+use crate::values::{map_pairs, map_values};
 use buffers::room::inside;
 use number_bf16_half_root::bf16::bf16_f32;
 use number_exp_tanh::exp::exp_f32;
@@ -26,39 +27,12 @@ pub(crate) fn gelu_quick(x: f32) -> f32
     0.5 * x * (1.0 + tanh_f32(0.7978845f32 * (x + 0.044715 * x * x * x)))
 }
 
-pub(crate) fn add_values(s: &mut [f32], y: usize, z: usize, n: usize)
-    requires { PairFits (length s.old) y z n }
-    ensures { s.new ≡ put s.old y (added n (region s.old y n) (region s.old z n)) }
-{
-    for i in 0..n {
-        s[y + i] = s[y + i] + s[z + i];
-    }
-}
-
-pub(crate) fn round_values(s: &mut [f32], y: usize, n: usize)
-    requires { y + n ≤ length s.old }
-    ensures { s.new ≡ put s.old y (rounded n (region s.old y n)) }
-{
-    for i in 0..n {
-        s[y + i] = bf16_f32(s[y + i]);
-    }
-}
-
-pub(crate) fn gelu_values(s: &mut [f32], y: usize, n: usize)
-    requires { y + n ≤ length s.old }
-    ensures { s.new ≡ put s.old y (gelued n (region s.old y n)) }
-{
-    for i in 0..n {
-        s[y + i] = gelu_quick(s[y + i]);
-    }
-}
-
 // s[y + i] + s[z + i] at y + i, for each of n.
 pub fn add_into(s: &mut [f32], y: usize, z: usize, n: usize)
     ensures { s.new ≡ where_fits (pair_fits (length s.old) y z n) s.old y (added n (region s.old y n) (region s.old z n)) }
 {
     if pair_fits(s.len(), y, z, n) {
-        add_values(s, y, z, n);
+        map_pairs(s, y, z, n, |a, b| a + b);
     }
 }
 
@@ -76,7 +50,7 @@ pub fn truncate_to_bf16_inplace(s: &mut [f32], y: usize, n: usize)
     ensures { s.new ≡ where_fits (R.inside (length s.old) y n) s.old y (rounded n (region s.old y n)) }
 {
     if inside(s.len(), y, n) {
-        round_values(s, y, n);
+        map_values(s, y, n, bf16_f32);
     }
 }
 
@@ -85,6 +59,6 @@ pub fn gelu_inplace(s: &mut [f32], y: usize, n: usize)
     ensures { s.new ≡ where_fits (R.inside (length s.old) y n) s.old y (gelued n (region s.old y n)) }
 {
     if inside(s.len(), y, n) {
-        gelu_values(s, y, n);
+        map_values(s, y, n, gelu_quick);
     }
 }

@@ -5,3 +5,4 @@
 pub mod element;
 mod room;
 mod silus;
+mod values;

@@ -9,6 +9,7 @@ ghost use Rattle.encoder_elements.specs.Element.{gated};
 ghost use Rattle.encoder_elements.specs.inner.Fits.{PairFits};
 
 use crate::element::silu;
+use crate::values::map_pairs;
 use number_exp_lanes::lanes::exp_sixteen;
 
 fn sixteen_negated(s: &[f32], y: usize) -> [f32; 16]
@@ -52,9 +53,7 @@ fn gate_rest(s: &mut [f32], y: usize, z: usize, n: usize)
     requires { PairFits (length s.old) y z n }
     ensures { s.new ≡ put s.old y (gated n (region s.old y n) (region s.old z n)) }
 {
-    for i in 0..n {
-        s[y + i] = silu(s[y + i]) * s[z + i];
-    }
+    map_pairs(s, y, z, n, |a, b| silu(a) * b);
 }
 
 pub(crate) fn gate_values(s: &mut [f32], y: usize, z: usize, n: usize)

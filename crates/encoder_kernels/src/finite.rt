@@ -8,9 +8,8 @@ pub fn finite(x: &[f32]) -> bool
 {
     let inf = 1.0f32 / 0.0;
     let mut ok = true;
-    for i in 0..x.len() {
-        let v = x[i];
-        ok = ok & ((v < inf) & (-inf < v));
+    for v in x {
+        ok = ok & ((*v < inf) & (-inf < *v));
     }
     ok
 }

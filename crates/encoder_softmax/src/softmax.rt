@@ -21,8 +21,8 @@ pub fn row_max(x: &[f32]) -> f32
     ensures { result ≡ max_of x.now }
 {
     let mut m = -1.0f32 / 0.0;
-    for i in 0..x.len() {
-        m = larger(m, x[i]);
+    for v in x {
+        m = larger(m, *v);
     }
     m
 }
@@ -31,8 +31,8 @@ pub(crate) fn total(x: &[f32]) -> f32
     ensures { result ≡ total_of x.now }
 {
     let mut acc = 0.0f32;
-    for i in 0..x.len() {
-        acc = acc + x[i];
+    for v in x {
+        acc = acc + *v;
     }
     acc
 }

@@ -1,15 +1,9 @@
 -- `encoder_elements::element::truncate_to_bf16_inplace` meets its contract. Assumes nothing.
-use mathlib.Core.Path.{sym, ◌∙◌}
-use Prim.Native.Nat.{◌+◌}
-use borrow.Author.Tests.{leb-true}
-use lib.ListN.{length}
+use borrow.Author.Rules.{rules}
+use Rattle.number_bf16_half_root.specs.Bf16.{bf16_of}
+use Rattle.encoder_elements.specs.Element.{rounded}
 use Rattle.encoder_elements.proofs.element.truncate_to_bf16_inplace.Goals as goal
 
-pub round_values-requires : goal.round_values-requires
-round_values-requires c = leb-true (c.args.y + c.args.n) (length c.args.s.now) (sym c.inside.ensures ∙ c.if-inside.true)
-
 pub returns-then-inside : goal.returns-then-inside
-returns-then-inside c = rw (← c.inside.ensures, c.if-inside.true) c.round_values.ensures
-
-pub returns-else-inside : goal.returns-else-inside
-returns-else-inside c = rw (← c.inside.ensures, c.if-inside.false)
+unfolding rounded
+returns-then-inside c = rw (← c.inside.ensures, c.if-inside.true) (c.map_values.ensures bf16_of (λ x r p. search rules))

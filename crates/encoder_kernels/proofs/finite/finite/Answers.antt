@@ -10,15 +10,15 @@ use Rattle.encoder_kernels.specs.Kernels.{all_finite}
 use Rattle.encoder_kernels.proofs.Finites.{all-finite-take}
 use Rattle.encoder_kernels.proofs.finite.finite.Goals as goal
 
-pub loop-i-init : goal.loop-i-init
+pub loop-v-init : goal.loop-v-init
 unfolding all_finite
-loop-i-init c = (omega arith, refl)
+loop-v-init c = (omega arith, refl)
 
-pub loop-i-preserved : goal.loop-i-preserved
+pub loop-v-preserved : goal.loop-v-preserved
 unfolding div neg of_bits
-loop-i-preserved c =
-    (omega arith, rw (add-one, all-finite-take c.args.x.now c.loop-i.i (omega arith), ← finite-tests (get_or c.args.x.now c.loop-i.i nan), ← c.loop-i.invariant.1) refl)
+loop-v-preserved c =
+    (omega arith, rw (add-one, all-finite-take c.args.x.now c.loop-v.v-index (omega arith), ← finite-tests (get_or c.args.x.now c.loop-v.v-index nan), ← c.loop-v.invariant.1) refl)
 
 pub returns : goal.returns
 returns c =
-    c.loop-i.invariant.1 ∙ ap all_finite (take_all c.loop-i.i c.args.x.now (omega arith))
+    c.loop-v.invariant.1 ∙ ap all_finite (take_all c.loop-v.v-index c.args.x.now (omega arith))

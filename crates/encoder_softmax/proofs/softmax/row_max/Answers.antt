@@ -7,13 +7,13 @@ use lib.Ieee.{nan, div, neg, of_bits}
 use Rattle.encoder_softmax.specs.Softmax.{largest}
 use Rattle.encoder_softmax.proofs.softmax.row_max.Goals as goal
 
-pub loop-i-init : goal.loop-i-init
+pub loop-v-init : goal.loop-v-init
 unfolding largest div neg of_bits
-loop-i-init c = (omega arith, refl)
+loop-v-init c = (omega arith, refl)
 
-pub loop-i-preserved : goal.loop-i-preserved
+pub loop-v-preserved : goal.loop-v-preserved
 unfolding largest
-loop-i-preserved c = (omega arith, rw add-one (cc))
+loop-v-preserved c = (omega arith, rw add-one (cc))
 
 pub returns : goal.returns
-returns c = c.loop-i.invariant.1 ∙ ap (λ n. largest n (λ k. get_or c.args.x.now k nan)) (omega arith)
+returns c = c.loop-v.invariant.1 ∙ ap (λ n. largest n (λ k. get_or c.args.x.now k nan)) (omega arith)

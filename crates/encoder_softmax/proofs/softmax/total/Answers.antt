@@ -7,13 +7,13 @@ use lib.Ieee.{nan}
 use Rattle.encoder_linear.specs.Linear.{sum_of}
 use Rattle.encoder_softmax.proofs.softmax.total.Goals as goal
 
-pub loop-i-init : goal.loop-i-init
+pub loop-v-init : goal.loop-v-init
 unfolding sum_of
-loop-i-init c = (omega arith, refl)
+loop-v-init c = (omega arith, refl)
 
-pub loop-i-preserved : goal.loop-i-preserved
+pub loop-v-preserved : goal.loop-v-preserved
 unfolding sum_of
-loop-i-preserved c = (omega arith, rw (add-one, ← c.loop-i.invariant.1))
+loop-v-preserved c = (omega arith, rw (add-one, ← c.loop-v.invariant.1))
 
 pub returns : goal.returns
-returns c = c.loop-i.invariant.1 ∙ ap (λ n. sum_of n (λ k. get_or c.args.x.now k nan)) (omega arith)
+returns c = c.loop-v.invariant.1 ∙ ap (λ n. sum_of n (λ k. get_or c.args.x.now k nan)) (omega arith)

@@ -6,5 +6,5 @@ use lib.Ieee.{nan}
 use Rattle.encoder_linear.specs.Linear.{sum_of}
 use Rattle.encoder_softmax.proofs.softmax.total.Given as goal
 
-abbrev pub invariant-loop-i : goal.invariant-loop-i
-invariant-loop-i l = (l.i ≤ length l.x) × (l.acc ≡ sum_of l.i (λ k. get_or l.x k nan))
+abbrev pub invariant-loop-v : goal.invariant-loop-v
+invariant-loop-v l = (l.v-index ≤ length l.x) × (l.acc ≡ sum_of l.v-index (λ k. get_or l.x k nan))
