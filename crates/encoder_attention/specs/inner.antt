@@ -1,4 +1,5 @@
 pub mod Fits
 pub mod Room
 pub mod Keys
+pub mod Places
 pub mod Values

@@ -7,15 +7,11 @@ ghost use Rattle.buffers.specs.Rows.{tab, rows};
 ghost use Rattle.buffers.specs.Each.{blank};
 ghost use Rattle.number_floats.specs.Constants.{zero32};
 ghost use Rattle.encoder_kernels.specs.Kernels.{all_finite};
-ghost use Rattle.encoder_linear.specs.Linear.{weighed_row};
-ghost use Rattle.encoder_attention.specs.Attention.{head_scores, scores_of, attention_of};
-ghost use Rattle.encoder_softmax.specs.Softmax.{softmax_of};
-ghost use Rattle.encoder_attention.specs.inner.Keys.{keys_of};
 ghost use Rattle.encoder_attention.specs.inner.Values.{head_values};
-ghost use Rattle.encoder_attention.specs.inner.Fits.{CopyFits, GatherFits, QueriesAt, HeadsFit};
+ghost use Rattle.encoder_attention.specs.inner.Fits.{CopyFits, GatherFits};
+ghost use Rattle.encoder_attention.specs.inner.Places as P;
 
-use crate::attention::attend_head;
-use crate::pair::attend_pair;
+use crate::places::Places;
 
 // The n floats at x, over those at y.
 fn copy_floats(s: &mut [f32], x: usize, y: usize, n: usize)
@@ -37,66 +33,44 @@ pub(crate) fn gather(s: &mut [f32], v: usize, g: usize, t: usize, dim: usize, hd
     }
 }
 
-// Every query of head h, whose values lie together at v: two at once, and the last by itself where their count is odd.
-pub(crate) fn attend_queries(
-    s: &mut [f32],
-    q: usize,
-    k: usize,
-    v: usize,
-    row: usize,
-    out: usize,
-    t: usize,
-    heads: usize,
-    hd: usize,
-    h: usize,
-    scaling: f32,
-) -> bool
-    requires { QueriesAt (length s.old) q k v row out t heads hd h }
-    ensures value { result ≡ all_finite (rows t (λ i. head_scores t (heads * hd) hd scaling (region s.old q (t * (heads * hd))) (keys_of t (heads * hd) (region s.old k (t * (heads * hd)))) i (h * hd))) }
-    ensures s_after { blank zero32 row (t + t) s.new ≡ put_rows (blank zero32 row (t + t) s.old) t (λ i. out + (i * (heads * hd) + h * hd))
-        (λ i. weighed_row t hd hd 0 (softmax_of t (head_scores t (heads * hd) hd scaling (region s.old q (t * (heads * hd))) (keys_of t (heads * hd) (region s.old k (t * (heads * hd)))) i (h * hd))) (region s.old v (t * hd))) }
-{
-    let mut ok = true;
-    let mut i = 0usize;
-    while i < t {
-        if 2 <= t - i {
-            let here = attend_pair(s, q, k, v, row, out, t, heads, hd, i, h, scaling);
+impl Places {
+    // Every query of head h, whose values lie together: two at once, and the last by itself where their count is odd.
+    pub(crate) fn attend_queries(self, s: &mut [f32], h: usize) -> bool
+        requires { P.QueriesAt (length s.old) self h }
+        ensures value { result ≡ all_finite (rows self.t (λ i. P.head_scores self s.old i h)) }
+        ensures s_after { blank zero32 self.row (self.t + self.t) s.new ≡ put_rows (blank zero32 self.row (self.t + self.t) s.old) self.t
+            (λ i. P.sums_place self i h) (λ i. P.head_sums self s.old i h self.hd 0) }
+    {
+        let mut ok = true;
+        for j in 0..self.t / 2 {
+            let here = self.attend_pair(s, j * 2, h);
             ok = ok & here;
-            i += 2;
-        } else {
-            let here = attend_head(s, q, k, v, row, out, t, heads, hd, i, h, scaling, hd, 0);
-            ok = ok & here;
-            i += 1;
         }
+        if self.t % 2 == 0 {
+            return ok;
+        }
+        let last = self.attend_head(s, self.t - 1, h, self.hd, 0);
+        ok & last
     }
-    ok
-}
 
-// Every head: its values together at g, the scores of two queries behind them.
-pub(crate) fn attend_heads(
-    s: &mut [f32],
-    q: usize,
-    k: usize,
-    v: usize,
-    g: usize,
-    out: usize,
-    t: usize,
-    heads: usize,
-    hd: usize,
-    scaling: f32,
-) -> bool
-    requires { HeadsFit (length s.old) q k v g out t heads hd }
-    ensures value { result ≡ all_finite (scores_of t heads hd scaling (region s.old q (t * (heads * hd))) (keys_of t (heads * hd) (region s.old k (t * (heads * hd))))) }
-    ensures s_after { blank zero32 g (t * (heads * hd)) s.new ≡ put (blank zero32 g (t * (heads * hd)) s.old) out
-        (attention_of t heads hd scaling (region s.old q (t * (heads * hd))) (keys_of t (heads * hd) (region s.old k (t * (heads * hd)))) (region s.old v (t * (heads * hd)))) }
-{
-    let dim = heads * hd;
-    let row = g + t * hd;
-    let mut ok = true;
-    for h in 0..heads {
-        gather(s, v, g, t, dim, hd, h * hd);
-        let here = attend_queries(s, q, k, g, row, out, t, heads, hd, h, scaling);
-        ok = ok & here;
+    // Every head: its values together at g, the scores of two queries behind them.
+    pub(crate) fn attend_heads(self, s: &mut [f32], g: usize) -> bool
+        requires { P.HeadsFit (length s.old) self g }
+        ensures value { result ≡ all_finite (P.scores self s.old) }
+        ensures s_after { blank zero32 g (P.floats self) s.new ≡ put (blank zero32 g (P.floats self) s.old) self.out (P.sums self s.old) }
+    {
+        let dim = self.heads * self.hd;
+        let together = Places {
+            v: g,
+            row: g + self.t * self.hd,
+            ..self
+        };
+        let mut ok = true;
+        for h in 0..self.heads {
+            gather(s, self.v, g, self.t, dim, self.hd, h * self.hd);
+            let here = together.attend_queries(s, h);
+            ok = ok & here;
+        }
+        ok
     }
-    ok
 }

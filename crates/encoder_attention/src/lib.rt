@@ -4,4 +4,5 @@
 pub mod attention;
 mod heads;
 mod pair;
+mod places;
 mod room;

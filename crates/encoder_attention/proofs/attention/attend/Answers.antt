@@ -8,19 +8,19 @@ use Rattle.encoder_attention.proofs.Rooms.{attend-says}
 use Rattle.encoder_attention.proofs.attention.attend.Goals as goal
 
 pub overflow_mul-heads : goal.overflow_mul-heads
-overflow_mul-heads c = omega (arith, (attend-says (sym c.attend_fits.ensures ∙ c.if-attend_fits.true)).turned.dim_in)
+overflow_mul-heads c = omega (arith, (attend-says (sym c.fits.ensures ∙ c.if-fits.true)).turned.dim_in)
 
 pub turn_keys-requires : goal.turn_keys-requires
-turn_keys-requires c = (attend-says (sym c.attend_fits.ensures ∙ c.if-attend_fits.true)).turn
+turn_keys-requires c = (attend-says (sym c.fits.ensures ∙ c.if-fits.true)).turn
 
 pub attend_turned-ok-requires : goal.attend_turned-ok-requires
 attend_turned-ok-requires c =
-    let f = attend-says (sym c.attend_fits.ensures ∙ c.if-attend_fits.true) in
+    let f = attend-says (sym c.fits.ensures ∙ c.if-fits.true) in
     (rw c.turn_keys.auto.s f, stands c.args.s.now c.turn_keys.new.s c.args.q c.args.k c.args.v c.args.kt c.args.row c.args.out c.args.t c.args.heads c.args.hd f c.turn_keys.ensures)
 
-pub returns-then-attend_fits : goal.returns-then-attend_fits
-returns-then-attend_fits c =
-    let t = sym c.attend_fits.ensures ∙ c.if-attend_fits.true in
+pub returns-then-fits : goal.returns-then-fits
+returns-then-fits c =
+    let t = sym c.fits.ensures ∙ c.if-fits.true in
     let f = attend-says t in
     let S = same-scores c.args.s.now c.turn_keys.new.s c.args.q c.args.k c.args.v c.args.kt c.args.row c.args.out c.args.t c.args.heads c.args.hd f c.turn_keys.ensures c.args.scaling in
     let x = written c.attend_turned-ok.new.s c.clear_at.new.s _ c.args.row c.args.t (rw (c.attend_turned-ok.auto.s ∙ c.turn_keys.auto.s) f.turned.row_in) c.clear_at.ensures in
@@ -31,6 +31,6 @@ returns-then-attend_fits c =
 
 pub returns : goal.returns
 returns c = record {
-  value = rw (← c.attend_fits.ensures, c.if-attend_fits.false);
-  s_after = rw (← c.attend_fits.ensures, c.if-attend_fits.false);
+  value = rw (← c.fits.ensures, c.if-fits.false);
+  s_after = rw (← c.fits.ensures, c.if-fits.false);
 }

@@ -1,4 +1,4 @@
--- `encoder_attention::attention::scores` meets its contract. Assumes nothing.
+-- `encoder_attention::places::Places::scores` meets its contract. Assumes nothing.
 use mathlib.Core.Path.{◌≡◌, sym, ap, ◌∙◌}
 use mathlib.Core.List.{List}
 use Prim.Native.Nat.{ℕ, ◌+◌, ◌*◌, ◌≤◌}
@@ -13,7 +13,7 @@ use Rattle.encoder_linear.specs.Linear.{weighed_row}
 use Rattle.encoder_linear.proofs.Sums.{length-weighed}
 use Rattle.encoder_linear.proofs.Rooms.{weigh-fits}
 use Rattle.encoder_softmax.specs.Softmax.{scaled}
-use Rattle.encoder_attention.proofs.attention.scores.Goals as goal
+use Rattle.encoder_attention.proofs.places.Places.scores.Goals as goal
 
 -- sums written, then scaled where they stand
 both : (s u z W : List Float) (row t : ℕ) (sc : Float) → row + t ≤ length s → length W ≡ t → u ≡ put s row W
@@ -25,5 +25,5 @@ both s u z W row t sc h l eu ez =
 
 pub returns : goal.returns
 returns c =
-    both c.args.s.now c.weigh.new.s _ (weighed_row c.args.hd c.args.t c.args.t 0 (region c.args.s.now c.args.q c.args.hd) (region c.args.s.now c.args.k (c.args.hd * c.args.t))) c.args.row c.args.t c.args.scaling c.requires.out_in (length-weighed _ _ _ _ _ _)
-    (rw (weigh-fits c.requires) at c.weigh.ensures) (written c.weigh.new.s c.scale_row.new.s _ c.args.row c.args.t (omega (arith, c.weigh.auto.s, c.requires.out_in)) c.scale_row.ensures)
+    both c.args.s.now c.weigh.new.s _ (weighed_row c.args.self.hd c.args.self.t c.args.self.t 0 (region c.args.s.now c.args.q c.args.self.hd) (region c.args.s.now c.args.k (c.args.self.hd * c.args.self.t))) c.args.self.row c.args.self.t c.args.self.scaling c.requires.out_in (length-weighed _ _ _ _ _ _)
+    (rw (weigh-fits c.requires) at c.weigh.ensures) (written c.weigh.new.s c.scale_row.new.s _ c.args.self.row c.args.self.t (omega (arith, c.weigh.auto.s, c.requires.out_in)) c.scale_row.ensures)

@@ -1,4 +1,4 @@
--- `encoder_attention::attention::attend_head` meets its contract. Assumes nothing.
+-- `encoder_attention::places::Places::attend_head` meets its contract. Assumes nothing.
 use mathlib.Core.Path.{◌≡◌, ap, ◌∙◌}
 use Prim.Native.Nat.{ℕ, ◌+◌, ◌*◌}
 use native.Mathlib.Omega.{arith}
@@ -11,34 +11,13 @@ use Rattle.encoder_attention.proofs.Attends.{head-run, head_rows}
 use Rattle.encoder_linear.specs.inner.Fits.{WeighFits}
 use Rattle.encoder_linear.proofs.Rooms.{weigh-fits}
 use Rattle.encoder_attention.specs.inner.Fits.{HeadAt}
-use Rattle.encoder_attention.proofs.attention.attend_head.Goals as goal
-
-pub overflow_mul-dim : goal.overflow_mul-dim
-overflow_mul-dim c = omega (arith, c.requires.fits)
-
-pub overflow_mul-o : goal.overflow_mul-o
-overflow_mul-o c = omega (arith, fit c.args.hd c.requires.head, c.requires.fits)
-
-pub overflow_mul-at : goal.overflow_mul-at
-overflow_mul-at c = omega (arith, fit (c.args.heads * c.args.hd) c.requires.token, c.requires.fits)
-
-pub overflow_add-at : goal.overflow_add-at
-overflow_add-at c = omega (arith, fit (c.args.heads * c.args.hd) c.requires.token, fit c.args.hd c.requires.head, c.requires.fits)
-
-pub overflow_add-q : goal.overflow_add-q
-overflow_add-q c = omega (arith, fit (c.args.heads * c.args.hd) c.requires.token, fit c.args.hd c.requires.head, c.requires.fits)
-
-pub overflow_mul-o-2 : goal.overflow_mul-o-2
-overflow_mul-o-2 c = omega (arith, head_rows c.args.t c.args.heads c.args.hd c.args.h c.requires.head, c.requires.fits)
-
-pub overflow_add-k : goal.overflow_add-k
-overflow_add-k c = omega (arith, head_rows c.args.t c.args.heads c.args.hd c.args.h c.requires.head, c.requires.fits)
+use Rattle.encoder_attention.proofs.places.Places.attend_head.Goals as goal
 
 pub scores-requires : goal.scores-requires
 scores-requires c =
-    let f = fit c.args.hd c.requires.head in
-    let f' = fit (c.args.heads * c.args.hd) c.requires.token in
-    let r = head_rows c.args.t c.args.heads c.args.hd c.args.h c.requires.head in
+    let f = fit c.args.self.hd c.requires.head in
+    let f' = fit (c.args.self.heads * c.args.self.hd) c.requires.token in
+    let r = head_rows c.args.self.t c.args.self.heads c.args.self.hd c.args.h c.requires.head in
     record {
       v_in = omega arith;
       row_in = omega arith;
@@ -47,9 +26,6 @@ scores-requires c =
       rowout = apart-sub c.requires.fits.qrow (omega arith) (omega arith) (omega arith) (omega arith);
       vout = apart-sub c.requires.fits.krow (omega arith) (omega arith) (omega arith) (omega arith);
     }
-
-pub overflow_add-out : goal.overflow_add-out
-overflow_add-out c = omega (arith, fit (c.args.heads * c.args.hd) c.requires.token, fit c.args.hd c.requires.head, c.requires.fits)
 
 -- the values and the place of the sums, as `weigh` asks
 weighed : {len q k v row out t heads hd i h w e : ℕ} → HeadAt len q k v row out t heads hd i h w e
@@ -74,8 +50,8 @@ pub returns : goal.returns
 returns c =
     let l : length c.softmax.new.s ≡ length c.args.s.now = c.softmax.auto.s ∙ c.scores.auto.s in
     let f = weigh-fits (weighed c.requires) in
-    let r = head-run c.args.s.now c.args.q c.args.k c.args.v c.args.row c.args.out c.args.t c.args.heads c.args.hd c.args.scaling c.args.w c.args.e c.args.i c.args.h c.requires
-    c.scores.new.s c.softmax.new.s c.weigh.new.s c.scores.ensures (written c.scores.new.s c.softmax.new.s _ c.args.row c.args.t (omega (arith, c.scores.auto.s, c.requires.fits.row_in)) c.softmax.ensures) (rw (l, f) at c.weigh.ensures) in record {
+    let r = head-run c.args.s.now c.args.self.q c.args.self.k c.args.self.v c.args.self.row c.args.self.out c.args.self.t c.args.self.heads c.args.self.hd c.args.self.scaling c.args.w c.args.e c.args.i c.args.h c.requires
+    c.scores.new.s c.softmax.new.s c.weigh.new.s c.scores.ensures (written c.scores.new.s c.softmax.new.s _ c.args.self.row c.args.self.t (omega (arith, c.scores.auto.s, c.requires.fits.row_in)) c.softmax.ensures) (rw (l, f) at c.weigh.ensures) in record {
       value = c.finite-ok.ensures ∙ ap all_finite (c.part.ensures ∙ r.0);
       s_after = r.1;
     }

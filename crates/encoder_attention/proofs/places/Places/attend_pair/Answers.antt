@@ -1,4 +1,4 @@
--- `encoder_attention::pair::attend_pair` meets its contract. Assumes nothing.
+-- `encoder_attention::places::Places::attend_pair` meets its contract. Assumes nothing.
 use mathlib.Core.Path.{◌≡◌, ap, ◌∙◌}
 use Prim.Native.Nat.{ℕ, ◌+◌, ◌*◌, ◌≤◌, ◌<◌}
 use native.Mathlib.Omega.{arith}
@@ -9,7 +9,7 @@ use Rattle.encoder_linear.proofs.Rooms.{weigh-pair-fits}
 use Rattle.encoder_attention.specs.inner.Fits.{PairAt}
 use Rattle.encoder_attention.proofs.Attends.{head_rows}
 use Rattle.encoder_attention.proofs.Pairs.{pair-run, scores-fit, sums-fit}
-use Rattle.encoder_attention.proofs.pair.attend_pair.Goals as goal
+use Rattle.encoder_attention.proofs.places.Places.attend_pair.Goals as goal
 
 -- the places that are worked out lie inside the scratch
 record Places (len : ℕ) (q k out t dim hd i h : ℕ) : Type 0 where
@@ -39,56 +39,14 @@ places {len} {q} {k} {v} {row} {out} {t} {heads} {hd} {i} {h} g =
       out_in = x.out_in;
     }
 
-pub overflow_mul-dim : goal.overflow_mul-dim
-overflow_mul-dim c = omega (arith, places c.requires)
-
-pub overflow_mul-o : goal.overflow_mul-o
-overflow_mul-o c = omega (arith, places c.requires)
-
-pub overflow_mul-at : goal.overflow_mul-at
-overflow_mul-at c = omega (arith, places c.requires)
-
-pub overflow_add-at : goal.overflow_add-at
-overflow_add-at c = omega (arith, places c.requires)
-
-pub overflow_add-to : goal.overflow_add-to
-overflow_add-to c = omega (arith, c.requires.token, c.ranges)
-
-pub overflow_mul-to : goal.overflow_mul-to
-overflow_mul-to c = omega (arith, places c.requires)
-
-pub overflow_add-to-2 : goal.overflow_add-to-2
-overflow_add-to-2 c = omega (arith, places c.requires)
-
-pub overflow_add-next : goal.overflow_add-next
-overflow_add-next c = omega (arith, c.requires.queries.rows_in)
-
-pub overflow_add-q : goal.overflow_add-q
-overflow_add-q c = omega (arith, places c.requires)
-
-pub overflow_add-q-2 : goal.overflow_add-q-2
-overflow_add-q-2 c = omega (arith, places c.requires)
-
-pub overflow_mul-o-2 : goal.overflow_mul-o-2
-overflow_mul-o-2 c = omega (arith, places c.requires)
-
-pub overflow_add-k : goal.overflow_add-k
-overflow_add-k c = omega (arith, places c.requires)
-
 pub scores_pair-requires : goal.scores_pair-requires
 scores_pair-requires c = scores-fit c.requires
-
-pub overflow_add-t : goal.overflow_add-t
-overflow_add-t c = omega (arith, c.requires.queries.rows_in)
 
 pub softmax_pair-requires : goal.softmax_pair-requires
 softmax_pair-requires c = omega (arith, c.scores_pair.auto.s, c.requires.queries.rows_in)
 
-pub overflow_add-out : goal.overflow_add-out
-overflow_add-out c = omega (arith, places c.requires)
-
-pub overflow_add-out-2 : goal.overflow_add-out-2
-overflow_add-out-2 c = omega (arith, places c.requires)
+pub overflow_add-there : goal.overflow_add-there
+overflow_add-there c = omega (arith, places c.requires)
 
 pub shape_of-s : goal.shape_of-s
 shape_of-s c = c.weigh_pair.auto.s ∙ c.softmax_pair.auto.s ∙ c.scores_pair.auto.s
@@ -97,7 +55,7 @@ pub returns : goal.returns
 returns c =
     let g = c.requires in
     let l : length c.softmax_pair.new.s ≡ length c.args.s.now = c.softmax_pair.auto.s ∙ c.scores_pair.auto.s in
-    let r = pair-run c.args.s.now c.args.q c.args.k c.args.v c.args.row c.args.out c.args.t c.args.heads c.args.hd c.args.h c.args.scaling c.requires.queries c.args.i c.requires.token
+    let r = pair-run c.args.s.now c.args.self.q c.args.self.k c.args.self.v c.args.self.row c.args.self.out c.args.self.t c.args.self.heads c.args.self.hd c.args.h c.args.self.scaling c.requires.queries c.args.i c.requires.token
     c.scores_pair.new.s c.softmax_pair.new.s c.weigh_pair.new.s c.scores_pair.ensures c.softmax_pair.ensures (rw (l, weigh-pair-fits (sums-fit g)) at c.weigh_pair.ensures) in record {
       value = c.finite-ok.ensures ∙ ap all_finite (c.part.ensures ∙ r.0);
       s_after = r.1;

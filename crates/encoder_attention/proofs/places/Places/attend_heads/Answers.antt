@@ -1,4 +1,4 @@
--- `encoder_attention::heads::attend_heads` meets its contract. Assumes nothing.
+-- `encoder_attention::places::Places::attend_heads` meets its contract. Assumes nothing.
 use mathlib.Core.Path.{◌≡◌, refl, sym, ap, ◌∙◌}
 use Prim.Native.Nat.{ℕ, ◌+◌, ◌*◌, ◌<◌}
 use native.Mathlib.Omega.{arith}
@@ -15,7 +15,7 @@ use Rattle.encoder_attention.specs.inner.Fits.{GatherFits, HeadsFit}
 use Rattle.encoder_attention.proofs.Attends.{sums_at, scores_at, length-sums_at}
 use Rattle.encoder_attention.proofs.Bands.{puts_none, all-finite-turned}
 use Rattle.encoder_attention.proofs.Values.{queries-fit, heads-turn}
-use Rattle.encoder_attention.proofs.heads.attend_heads.Goals as goal
+use Rattle.encoder_attention.proofs.places.Places.attend_heads.Goals as goal
 
 -- a head's values, as `gather` asks
 gathers : {len q k v g out t heads hd : ℕ} (h : ℕ) → HeadsFit len q k v g out t heads hd → h < heads → GatherFits len v g t (heads * hd) hd (h * hd)
@@ -23,22 +23,10 @@ gathers {len} {q} {k} {v} {g} {out} {t} {heads} {hd} h w l =
     let r = w.spare in
     record { v_in = w.v_in; g_in = omega (arith, w.g_in); o_in = fit hd l; apart = apart-sub w.vg (omega arith) (omega arith) (omega arith) (omega arith) }
 
-pub overflow_mul-dim : goal.overflow_mul-dim
-overflow_mul-dim c = omega (arith, c.requires.dim_in)
-
-pub overflow_mul-row : goal.overflow_mul-row
-overflow_mul-row c = omega (arith, c.requires.g_in, c.requires.spare)
-
-pub overflow_add-row : goal.overflow_add-row
-overflow_add-row c = omega (arith, c.requires.g_in, c.requires.spare)
-
 pub loop-h-init : goal.loop-h-init
 unfolding rows all_finite
 loop-h-init c =
-    (omega arith, refl, refl, sym (puts_none (blank zero32 c.args.g (c.args.t * (c.args.heads * c.args.hd)) c.args.s.now) (λ i. c.args.out + i * (c.args.heads * c.args.hd)) c.args.t))
-
-pub overflow_mul-h : goal.overflow_mul-h
-overflow_mul-h c = omega (arith, fit c.args.hd c.loop-h-test.true, c.requires.dim_in)
+    (omega arith, refl, refl, sym (puts_none (blank zero32 c.args.g (c.args.self.t * (c.args.self.heads * c.args.self.hd)) c.args.s.now) (λ i. c.args.self.out + i * (c.args.self.heads * c.args.self.hd)) c.args.self.t))
 
 pub gather-requires : goal.gather-requires
 gather-requires c = rw c.loop-h.invariant.1 (gathers c.loop-h.h c.requires c.loop-h-test.true)
@@ -48,7 +36,7 @@ attend_queries-here-requires c = rw (c.gather.auto.s ∙ c.loop-h.invariant.1) (
 
 pub loop-h-preserved : goal.loop-h-preserved
 loop-h-preserved c =
-    let r = heads-turn c.args.s.now c.args.q c.args.k c.args.v c.args.g c.args.out c.args.t c.args.heads c.args.hd c.args.scaling c.requires c.loop-h.h c.loop-h-test.true
+    let r = heads-turn c.args.s.now c.args.self.q c.args.self.k c.args.self.v c.args.g c.args.self.out c.args.self.t c.args.self.heads c.args.self.hd c.args.self.scaling c.requires c.loop-h.h c.loop-h-test.true
     c.loop-h.s c.gather.new.s c.attend_queries-here.new.s c.loop-h.ok c.attend_queries-here.result c.loop-h.invariant.2 c.loop-h.invariant.3 c.loop-h.invariant.1 c.gather.ensures c.attend_queries-here.ensures.value c.attend_queries-here.ensures.s_after in
     (omega arith, c.attend_queries-here.auto.s ∙ c.gather.auto.s ∙ c.loop-h.invariant.1, r.0, r.1)
 
@@ -58,12 +46,12 @@ shape_of-s c = c.loop-h.invariant.1
 pub returns : goal.returns
 unfolding scores_of attention_of token_scores token_sums
 returns c =
-    let z : c.loop-h.h ≡ c.args.heads = omega arith in
-    let n = c.args.t * (c.args.heads * c.args.hd) in
-    let S = scores_at c.args.s.now c.args.q c.args.k c.args.v c.args.g c.args.out c.args.t c.args.heads c.args.hd c.args.scaling in
-    let F = sums_at c.args.s.now c.args.q c.args.k c.args.v c.args.g c.args.out c.args.t c.args.heads c.args.hd c.args.scaling in record {
-      value = c.loop-h.invariant.2 ∙ ap (λ m. all_finite (rows m (λ j. rows c.args.t (λ i. S i j)))) z ∙ all-finite-turned c.args.t c.args.heads S;
-      s_after = c.loop-h.invariant.3 ∙ ap (λ m. put_rows (blank zero32 c.args.g n c.args.s.now) c.args.t (λ i. c.args.out + i * (c.args.heads * c.args.hd)) (λ i. rows m (F i))) z
-          ∙ puts-joined (blank zero32 c.args.g n c.args.s.now) (λ i. c.args.out + i * (c.args.heads * c.args.hd)) (λ i. rows c.args.heads (F i)) (c.args.heads * c.args.hd) c.args.out c.args.t
-          (λ i. length-rows (F i) c.args.hd (length-sums_at c.args.s.now c.args.q c.args.k c.args.v c.args.g c.args.out c.args.t c.args.heads c.args.hd c.args.scaling i) c.args.heads) (λ i _. refl);
+    let z : c.loop-h.h ≡ c.args.self.heads = omega arith in
+    let n = c.args.self.t * (c.args.self.heads * c.args.self.hd) in
+    let S = scores_at c.args.s.now c.args.self.q c.args.self.k c.args.self.v c.args.g c.args.self.out c.args.self.t c.args.self.heads c.args.self.hd c.args.self.scaling in
+    let F = sums_at c.args.s.now c.args.self.q c.args.self.k c.args.self.v c.args.g c.args.self.out c.args.self.t c.args.self.heads c.args.self.hd c.args.self.scaling in record {
+      value = c.loop-h.invariant.2 ∙ ap (λ m. all_finite (rows m (λ j. rows c.args.self.t (λ i. S i j)))) z ∙ all-finite-turned c.args.self.t c.args.self.heads S;
+      s_after = c.loop-h.invariant.3 ∙ ap (λ m. put_rows (blank zero32 c.args.g n c.args.s.now) c.args.self.t (λ i. c.args.self.out + i * (c.args.self.heads * c.args.self.hd)) (λ i. rows m (F i))) z
+          ∙ puts-joined (blank zero32 c.args.g n c.args.s.now) (λ i. c.args.self.out + i * (c.args.self.heads * c.args.self.hd)) (λ i. rows c.args.self.heads (F i)) (c.args.self.heads * c.args.self.hd) c.args.self.out c.args.self.t
+          (λ i. length-rows (F i) c.args.self.hd (length-sums_at c.args.s.now c.args.self.q c.args.self.k c.args.self.v c.args.g c.args.self.out c.args.self.t c.args.self.heads c.args.self.hd c.args.self.scaling i) c.args.self.heads) (λ i _. refl);
     }
