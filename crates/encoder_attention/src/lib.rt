@@ -4,5 +4,5 @@
 pub mod attention;
 mod heads;
 mod pair;
-mod places;
+pub mod places;
 mod room;

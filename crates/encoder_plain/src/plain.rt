@@ -1,5 +1,5 @@
-// The loops of the source's `pixtral_attention_forward` over one head after another, in its order and by its names. q, k, v,
-// scores and attn_output are places in the scratch; the matrix of scores serves one head and then the next.
+// The loops of the source's `pixtral_attention_forward` over one head after another, in its order and by its names. Its q, k, v,
+// scores and attn_output are places in the scratch, q, k, v, row and out; the matrix of scores serves one head and then the next.
 ghost use Rattle.std.specs.Prelude.{◌≡◌, ◌&&◌, cond, ◌+◌, ◌*◌, ◌≤◌, ◌<◌, length, get_or};
 ghost use Rattle.std.specs.Float.{nan, binary32};
 ghost use Rattle.std.specs.Float.Ieee.{mul};
@@ -13,9 +13,11 @@ ghost use Rattle.encoder_softmax.specs.Softmax.{total_of, exp_less, softmax_of};
 ghost use Rattle.encoder_plain.specs.Plain.{floats, off, score, scores, soft_rows, sums, all_scores, plain_of};
 ghost use Rattle.encoder_plain.specs.inner.Fits.{ScoresFit, SumsFit, PlainFits};
 ghost use Rattle.encoder_plain.specs.inner.Room.{plain_fits};
+ghost use Rattle.encoder_attention.specs.inner.Places as P;
 
 use crate::room::plain_fits;
 use buffers::{clear_at, part};
+use encoder_attention::places::Places;
 use encoder_kernels::finite::finite;
 use encoder_softmax::softmax::{inverse, row_max, scale_row};
 use number_exp_tanh::exp::exp_f32;
@@ -33,48 +35,27 @@ pub(crate) fn dot(s: &[f32], a: usize, b: usize, n: usize) -> f32
 }
 
 // Row qi of head h's matrix: for each ki the dot product, times the scaling.
-pub(crate) fn score_row(
-    s: &mut [f32],
-    q: usize,
-    k: usize,
-    m: usize,
-    t: usize,
-    heads: usize,
-    hd: usize,
-    h: usize,
-    qi: usize,
-    scaling: f32,
-)
-    requires { ScoresFit (length s.old) q k m t heads hd × (h < heads) × (qi < t) }
-    ensures { s.new ≡ put s.old (m + qi * t) (tab t (score t heads hd scaling (region s.old q (floats t heads hd)) (region s.old k (floats t heads hd)) h qi)) }
+pub(crate) fn score_row(s: &mut [f32], p: Places, h: usize, qi: usize)
+    requires { ScoresFit (length s.old) p.q p.k p.row p.t p.heads p.hd × (h < p.heads) × (qi < p.t) }
+    ensures { s.new ≡ put s.old (p.row + qi * p.t) (tab p.t (score p.t p.heads p.hd p.scaling (P.queries p s.old) (region s.old p.k (P.floats p)) h qi)) }
 {
-    let dim = heads * hd;
-    let o = h * hd;
-    let row = m + qi * t;
-    let q_off = q + (qi * dim + o);
-    for ki in 0..t {
-        let k_off = k + (ki * dim + o);
-        s[row + ki] = dot(s, q_off, k_off, hd) * scaling;
+    let dim = p.heads * p.hd;
+    let o = h * p.hd;
+    let row = p.row + qi * p.t;
+    let q_off = p.q + (qi * dim + o);
+    for ki in 0..p.t {
+        let k_off = p.k + (ki * dim + o);
+        s[row + ki] = dot(s, q_off, k_off, p.hd) * p.scaling;
     }
 }
 
 // Head h's matrix, row after row.
-pub(crate) fn score_rows(
-    s: &mut [f32],
-    q: usize,
-    k: usize,
-    m: usize,
-    t: usize,
-    heads: usize,
-    hd: usize,
-    h: usize,
-    scaling: f32,
-)
-    requires { ScoresFit (length s.old) q k m t heads hd × (h < heads) }
-    ensures { s.new ≡ put s.old m (scores t heads hd scaling (region s.old q (floats t heads hd)) (region s.old k (floats t heads hd)) h) }
+pub(crate) fn score_rows(s: &mut [f32], p: Places, h: usize)
+    requires { ScoresFit (length s.old) p.q p.k p.row p.t p.heads p.hd × (h < p.heads) }
+    ensures { s.new ≡ put s.old p.row (scores p.t p.heads p.hd p.scaling (P.queries p s.old) (region s.old p.k (P.floats p)) h) }
 {
-    for qi in 0..t {
-        score_row(s, q, k, m, t, heads, hd, h, qi, scaling);
+    for qi in 0..p.t {
+        score_row(s, p, h, qi);
     }
 }
 
@@ -128,95 +109,53 @@ pub(crate) fn weighed(s: &[f32], p: usize, v: usize, t: usize, dim: usize, e: us
 }
 
 // The weighted sums of query qi in head h.
-pub(crate) fn sum_row(
-    s: &mut [f32],
-    v: usize,
-    m: usize,
-    out: usize,
-    t: usize,
-    heads: usize,
-    hd: usize,
-    h: usize,
-    qi: usize,
-)
-    requires { SumsFit (length s.old) v m out t heads hd × (h < heads) × (qi < t) }
-    ensures { s.new ≡ put s.old (out + off t heads hd qi h) (sums t heads hd (region s.old v (floats t heads hd)) (region s.old m (t * t)) h qi) }
+pub(crate) fn sum_row(s: &mut [f32], p: Places, h: usize, qi: usize)
+    requires { SumsFit (length s.old) p.v p.row p.out p.t p.heads p.hd × (h < p.heads) × (qi < p.t) }
+    ensures { s.new ≡ put s.old (p.out + off p.t p.heads p.hd qi h) (sums p.t p.heads p.hd (P.values p s.old) (region s.old p.row (p.t * p.t)) h qi) }
 {
-    let dim = heads * hd;
-    let o = h * hd;
-    let row = m + qi * t;
-    let out_off = out + (qi * dim + o);
-    for d in 0..hd {
-        s[out_off + d] = weighed(s, row, v, t, dim, o + d);
+    let dim = p.heads * p.hd;
+    let o = h * p.hd;
+    let row = p.row + qi * p.t;
+    let out_off = p.out + (qi * dim + o);
+    for d in 0..p.hd {
+        s[out_off + d] = weighed(s, row, p.v, p.t, dim, o + d);
     }
 }
 
 // And of every query.
-pub(crate) fn sum_rows(
-    s: &mut [f32],
-    v: usize,
-    m: usize,
-    out: usize,
-    t: usize,
-    heads: usize,
-    hd: usize,
-    h: usize,
-)
-    requires { SumsFit (length s.old) v m out t heads hd × (h < heads) }
-    ensures { s.new ≡ put_rows s.old t (λ qi. out + off t heads hd qi h) (sums t heads hd (region s.old v (floats t heads hd)) (region s.old m (t * t)) h) }
+pub(crate) fn sum_rows(s: &mut [f32], p: Places, h: usize)
+    requires { SumsFit (length s.old) p.v p.row p.out p.t p.heads p.hd × (h < p.heads) }
+    ensures { s.new ≡ put_rows s.old p.t (λ qi. p.out + off p.t p.heads p.hd qi h) (sums p.t p.heads p.hd (P.values p s.old) (region s.old p.row (p.t * p.t)) h) }
 {
-    for qi in 0..t {
-        sum_row(s, v, m, out, t, heads, hd, h, qi);
+    for qi in 0..p.t {
+        sum_row(s, p, h, qi);
     }
 }
 
 // One head: its matrix of scores, softmax per row, weighted sums. Says whether every score was finite.
-pub(crate) fn one_head(
-    s: &mut [f32],
-    q: usize,
-    k: usize,
-    v: usize,
-    m: usize,
-    out: usize,
-    t: usize,
-    heads: usize,
-    hd: usize,
-    h: usize,
-    scaling: f32,
-) -> bool
-    requires { PlainFits (length s.old) q k v m out t heads hd × (h < heads) }
-    ensures value { result ≡ all_finite (scores t heads hd scaling (region s.old q (floats t heads hd)) (region s.old k (floats t heads hd)) h) }
-    ensures s_after { blank zero32 m (t * t) s.new ≡ put_rows (blank zero32 m (t * t) s.old) t (λ qi. out + off t heads hd qi h)
-        (sums t heads hd (region s.old v (floats t heads hd)) (soft_rows t (scores t heads hd scaling (region s.old q (floats t heads hd)) (region s.old k (floats t heads hd)) h)) h) }
+pub(crate) fn one_head(s: &mut [f32], p: Places, h: usize) -> bool
+    requires { PlainFits (length s.old) p.q p.k p.v p.row p.out p.t p.heads p.hd × (h < p.heads) }
+    ensures value { result ≡ all_finite (scores p.t p.heads p.hd p.scaling (P.queries p s.old) (region s.old p.k (P.floats p)) h) }
+    ensures s_after { blank zero32 p.row (p.t * p.t) s.new ≡ put_rows (blank zero32 p.row (p.t * p.t) s.old) p.t (λ qi. p.out + off p.t p.heads p.hd qi h)
+        (sums p.t p.heads p.hd (P.values p s.old) (soft_rows p.t (scores p.t p.heads p.hd p.scaling (P.queries p s.old) (region s.old p.k (P.floats p)) h)) h) }
 {
-    score_rows(s, q, k, m, t, heads, hd, h, scaling);
-    let ok = finite(part(s, m, t * t));
-    softmax_rows(s, m, t);
-    sum_rows(s, v, m, out, t, heads, hd, h);
+    score_rows(s, p, h);
+    let ok = finite(part(s, p.row, p.t * p.t));
+    softmax_rows(s, p.row, p.t);
+    sum_rows(s, p, h);
     ok
 }
 
 // Every head, one after another.
-pub(crate) fn every_head(
-    s: &mut [f32],
-    q: usize,
-    k: usize,
-    v: usize,
-    m: usize,
-    out: usize,
-    t: usize,
-    heads: usize,
-    hd: usize,
-    scaling: f32,
-) -> bool
-    requires { PlainFits (length s.old) q k v m out t heads hd }
-    ensures value { result ≡ all_finite (all_scores t heads hd scaling (region s.old q (floats t heads hd)) (region s.old k (floats t heads hd))) }
-    ensures s_after { blank zero32 m (t * t) s.new ≡ put (blank zero32 m (t * t) s.old) out
-        (plain_of t heads hd scaling (region s.old q (floats t heads hd)) (region s.old k (floats t heads hd)) (region s.old v (floats t heads hd))) }
+pub(crate) fn every_head(s: &mut [f32], p: Places) -> bool
+    requires { PlainFits (length s.old) p.q p.k p.v p.row p.out p.t p.heads p.hd }
+    ensures value { result ≡ all_finite (all_scores p.t p.heads p.hd p.scaling (P.queries p s.old) (region s.old p.k (P.floats p))) }
+    ensures s_after { blank zero32 p.row (p.t * p.t) s.new ≡ put (blank zero32 p.row (p.t * p.t) s.old) p.out
+        (plain_of p.t p.heads p.hd p.scaling (P.queries p s.old) (region s.old p.k (P.floats p)) (P.values p s.old)) }
 {
     let mut ok = true;
-    for h in 0..heads {
-        let here = one_head(s, q, k, v, m, out, t, heads, hd, h, scaling);
+    for h in 0..p.heads {
+        let here = one_head(s, p, h);
         ok = ok & here;
     }
     ok
@@ -242,8 +181,19 @@ pub fn attend_plain(
         (plain_of t heads hd scaling (region s.old q (floats t heads hd)) (region s.old k (floats t heads hd)) (region s.old v (floats t heads hd))))
         s.old }
 {
-    if plain_fits(s.len(), q, k, v, m, out, t, heads, hd) {
-        let ok = every_head(s, q, k, v, m, out, t, heads, hd, scaling);
+    let p = Places {
+        q,
+        k,
+        v,
+        row: m,
+        out,
+        t,
+        heads,
+        hd,
+        scaling,
+    };
+    if plain_fits(s.len(), p) {
+        let ok = every_head(s, p);
         clear_at(s, m, t * t);
         return ok;
     }

@@ -12,6 +12,6 @@ use Rattle.encoder_plain.proofs.plain.every_head.Given as goal
 
 abbrev pub invariant-loop-h : goal.invariant-loop-h
 invariant-loop-h l =
-    (l.h ≤ l.heads) × (length l.s ≡ length l.initial.s) × (l.ok ≡ all_finite (rows l.h (scores l.t l.heads l.hd l.scaling (region l.initial.s l.q (floats l.t l.heads l.hd)) (region l.initial.s l.k (floats l.t l.heads l.hd)))))
-    × (blank zero32 l.m (l.t * l.t) l.s ≡ put_rows (blank zero32 l.m (l.t * l.t) l.initial.s) l.t (λ i. l.out + i * (l.heads * l.hd))
-    (λ i. rows l.h (λ j. sums l.t l.heads l.hd (region l.initial.s l.v (floats l.t l.heads l.hd)) (soft_rows l.t (scores l.t l.heads l.hd l.scaling (region l.initial.s l.q (floats l.t l.heads l.hd)) (region l.initial.s l.k (floats l.t l.heads l.hd)) j)) j i)))
+    (l.h ≤ l.p.heads) × (length l.s ≡ length l.initial.s) × (l.ok ≡ all_finite (rows l.h (scores l.p.t l.p.heads l.p.hd l.p.scaling (region l.initial.s l.p.q (floats l.p.t l.p.heads l.p.hd)) (region l.initial.s l.p.k (floats l.p.t l.p.heads l.p.hd)))))
+    × (blank zero32 l.p.row (l.p.t * l.p.t) l.s ≡ put_rows (blank zero32 l.p.row (l.p.t * l.p.t) l.initial.s) l.p.t (λ i. l.p.out + i * (l.p.heads * l.p.hd))
+    (λ i. rows l.h (λ j. sums l.p.t l.p.heads l.p.hd (region l.initial.s l.p.v (floats l.p.t l.p.heads l.p.hd)) (soft_rows l.p.t (scores l.p.t l.p.heads l.p.hd l.p.scaling (region l.initial.s l.p.q (floats l.p.t l.p.heads l.p.hd)) (region l.initial.s l.p.k (floats l.p.t l.p.heads l.p.hd)) j)) j i)))

@@ -9,4 +9,4 @@ use Rattle.encoder_plain.proofs.plain.score_row.Given as goal
 
 abbrev pub invariant-loop-ki : goal.invariant-loop-ki
 invariant-loop-ki l =
-    (l.ki ≤ l.t) × (length l.s ≡ length l.initial.s) × (l.s ≡ put l.initial.s (l.m + l.qi * l.t) (tab l.ki (score l.t l.heads l.hd l.scaling (region l.initial.s l.q (floats l.t l.heads l.hd)) (region l.initial.s l.k (floats l.t l.heads l.hd)) l.h l.qi)))
+    (l.ki ≤ l.p.t) × (length l.s ≡ length l.initial.s) × (l.s ≡ put l.initial.s (l.p.row + l.qi * l.p.t) (tab l.ki (score l.p.t l.p.heads l.p.hd l.p.scaling (region l.initial.s l.p.q (floats l.p.t l.p.heads l.p.hd)) (region l.initial.s l.p.k (floats l.p.t l.p.heads l.p.hd)) l.h l.qi)))

@@ -9,4 +9,4 @@ use Rattle.encoder_plain.proofs.plain.score_rows.Given as goal
 
 abbrev pub invariant-loop-qi : goal.invariant-loop-qi
 invariant-loop-qi l =
-    (l.qi ≤ l.t) × (length l.s ≡ length l.initial.s) × (l.s ≡ put l.initial.s l.m (rows l.qi (λ i. tab l.t (score l.t l.heads l.hd l.scaling (region l.initial.s l.q (floats l.t l.heads l.hd)) (region l.initial.s l.k (floats l.t l.heads l.hd)) l.h i))))
+    (l.qi ≤ l.p.t) × (length l.s ≡ length l.initial.s) × (l.s ≡ put l.initial.s l.p.row (rows l.qi (λ i. tab l.p.t (score l.p.t l.p.heads l.p.hd l.p.scaling (region l.initial.s l.p.q (floats l.p.t l.p.heads l.p.hd)) (region l.initial.s l.p.k (floats l.p.t l.p.heads l.p.hd)) l.h i))))

@@ -11,5 +11,5 @@ use Rattle.encoder_plain.proofs.plain.sum_row.Given as goal
 
 abbrev pub invariant-loop-d : goal.invariant-loop-d
 invariant-loop-d l =
-    (l.d ≤ l.hd) × (length l.s ≡ length l.initial.s) × (l.s ≡ put l.initial.s (l.out + off l.t l.heads l.hd l.qi l.h)
-    (tab l.d (λ j. sum_of l.t (λ vi. mul binary32 (get_or (region l.initial.s l.m (l.t * l.t)) (l.qi * l.t + vi) nan) (get_or (region l.initial.s l.v (floats l.t l.heads l.hd)) (off l.t l.heads l.hd vi l.h + j) nan)))))
+    (l.d ≤ l.p.hd) × (length l.s ≡ length l.initial.s) × (l.s ≡ put l.initial.s (l.p.out + off l.p.t l.p.heads l.p.hd l.qi l.h)
+    (tab l.d (λ j. sum_of l.p.t (λ vi. mul binary32 (get_or (region l.initial.s l.p.row (l.p.t * l.p.t)) (l.qi * l.p.t + vi) nan) (get_or (region l.initial.s l.p.v (floats l.p.t l.p.heads l.p.hd)) (off l.p.t l.p.heads l.p.hd vi l.h + j) nan)))))

@@ -16,10 +16,10 @@ sum_row-requires c = (rw c.loop-qi.invariant.1 c.requires.0, c.requires.1, c.loo
 
 pub loop-qi-preserved : goal.loop-qi-preserved
 loop-qi-preserved c =
-    (omega arith, c.sum_row.auto.s ∙ c.loop-qi.invariant.1, sums-step c.args.s.now c.args.v c.args.m c.args.out c.args.t c.args.heads c.args.hd c.args.h c.requires.0 c.requires.1 c.loop-qi.s c.sum_row.new.s c.loop-qi.qi c.loop-qi-test.true c.loop-qi.invariant.2 c.sum_row.ensures)
+    (omega arith, c.sum_row.auto.s ∙ c.loop-qi.invariant.1, sums-step c.args.s.now c.args.p.v c.args.p.row c.args.p.out c.args.p.t c.args.p.heads c.args.p.hd c.args.h c.requires.0 c.requires.1 c.loop-qi.s c.sum_row.new.s c.loop-qi.qi c.loop-qi-test.true c.loop-qi.invariant.2 c.sum_row.ensures)
 
 pub shape_of-s : goal.shape_of-s
 shape_of-s c = c.loop-qi.invariant.1
 
 pub returns : goal.returns
-returns c = c.loop-qi.invariant.2 ∙ ap (λ n. put_rows c.args.s.now n (λ i. c.args.out + off c.args.t c.args.heads c.args.hd i c.args.h) (sums c.args.t c.args.heads c.args.hd (region c.args.s.now c.args.v (floats c.args.t c.args.heads c.args.hd)) (region c.args.s.now c.args.m (c.args.t * c.args.t)) c.args.h)) (omega arith)
+returns c = c.loop-qi.invariant.2 ∙ ap (λ n. put_rows c.args.s.now n (λ i. c.args.p.out + off c.args.p.t c.args.p.heads c.args.p.hd i c.args.h) (sums c.args.p.t c.args.p.heads c.args.p.hd (region c.args.s.now c.args.p.v (floats c.args.p.t c.args.p.heads c.args.p.hd)) (region c.args.s.now c.args.p.row (c.args.p.t * c.args.p.t)) c.args.h)) (omega arith)

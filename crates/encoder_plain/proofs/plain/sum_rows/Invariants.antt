@@ -8,4 +8,4 @@ use Rattle.encoder_plain.proofs.plain.sum_rows.Given as goal
 
 abbrev pub invariant-loop-qi : goal.invariant-loop-qi
 invariant-loop-qi l =
-    (l.qi ≤ l.t) × (length l.s ≡ length l.initial.s) × (l.s ≡ put_rows l.initial.s l.qi (λ i. l.out + off l.t l.heads l.hd i l.h) (sums l.t l.heads l.hd (region l.initial.s l.v (floats l.t l.heads l.hd)) (region l.initial.s l.m (l.t * l.t)) l.h))
+    (l.qi ≤ l.p.t) × (length l.s ≡ length l.initial.s) × (l.s ≡ put_rows l.initial.s l.qi (λ i. l.p.out + off l.p.t l.p.heads l.p.hd i l.h) (sums l.p.t l.p.heads l.p.hd (region l.initial.s l.p.v (floats l.p.t l.p.heads l.p.hd)) (region l.initial.s l.p.row (l.p.t * l.p.t)) l.h))

@@ -6,15 +6,6 @@ use borrow.Author.Tests.{leb-true}
 use Rattle.encoder_plain.specs.inner.Room.{plain_fits}
 use Rattle.encoder_plain.proofs.room.plain_fits.Goals as goal
 
-pub overflow_mul-dim : goal.overflow_mul-dim
-overflow_mul-dim c = omega (arith, leb-true (0 + c.args.heads * c.args.hd) c.args.len (sym c.rows_inside.ensures ∙ c.if-rows_inside.true))
-
-pub overflow_mul-t : goal.overflow_mul-t
-overflow_mul-t c = omega (arith, leb-true (c.args.q + c.args.t * (c.args.heads * c.args.hd)) c.args.len (sym c.rows_inside-then-rows_inside.ensures ∙ c.if-rows_inside-2.true))
-
-pub overflow_mul-t-then-rows_inside-3 : goal.overflow_mul-t-then-rows_inside-3
-overflow_mul-t-then-rows_inside-3 c = omega (arith, leb-true (c.args.scores + c.args.t * c.args.t) c.args.len (sym c.rows_inside-then-rows_inside-2.ensures ∙ c.if-rows_inside-3.true))
-
 pub returns-then-rows_inside-3 : goal.returns-then-rows_inside-3
 unfolding plain_fits
 returns-then-rows_inside-3 c = rw (← c.rows_inside.ensures, c.if-rows_inside.true, ← c.rows_inside-then-rows_inside.ensures, c.if-rows_inside-2.true, ← c.rows_inside-then-rows_inside-2.ensures, c.if-rows_inside-3.true) c.places_fit.ensures
