@@ -2,3 +2,4 @@ pub mod Fits
 pub mod Lanes
 pub mod Room
 pub mod Weighed
+pub mod Strip

@@ -4,10 +4,12 @@ ghost use Rattle.std.specs.Prelude.{◌≡◌, ◌+◌, ◌*◌, ◌/◌, ◌%�
 ghost use Rattle.std.specs.Float.{nan, binary32};
 ghost use Rattle.std.specs.Float.Ieee.{add, mul};
 ghost use Rattle.buffers.specs.Rows.{tab};
-ghost use Rattle.encoder_linear.specs.inner.Lanes.{cell_of, gone_sum, filled};
-ghost use Rattle.encoder_linear.specs.inner.Fits.{CellFits, CellsFit, UnpackFits, FourAt};
+ghost use Rattle.encoder_linear.specs.inner.Lanes.{cell_of, filled};
+ghost use Rattle.encoder_linear.specs.inner.Fits.{CellFits, CellsFit, UnpackFits};
+ghost use Rattle.encoder_linear.specs.inner.Strip as P;
 
 use crate::lanes::{copy_spread, pack};
+use crate::strip::Strip;
 
 // Each cell and its product.
 pub(crate) fn add_cells(
@@ -58,25 +60,16 @@ pub(crate) fn unpack(s: &mut [f32], at: usize, nout: usize, r: usize, b: &[f32])
     }
 }
 
-// Columns c to c + 3 of the r rows of sums at y go on by n products.
-pub(crate) fn four_columns(
-    s: &mut [f32],
-    y: usize,
-    r: usize,
-    nin: usize,
-    nout: usize,
-    w: &[f32],
-    k: usize,
-    n: usize,
-    xt: &[f32],
-    c: usize,
-)
-    requires { FourAt (length s.old) (length w.now) (length xt.now) y r nin nout k n c }
-    ensures { s.new ≡ filled s.old (y + c) nout r 4 (λ l o. gone_sum s.old w.now xt.now y nin nout k n l (c + o)) }
-{
-    let to = y + c;
-    let mut a = [0.0f32; 16];
-    pack(&mut a, 4, s, to, r, nout, 4);
-    let b = cells(a, xt, w, c * nin + k, nin, n);
-    unpack(s, to, nout, r, &b);
+impl Strip {
+    // Columns c to c + 3 of the r rows of sums at y go on by n products.
+    pub(crate) fn four_columns(self, s: &mut [f32], w: &[f32], xt: &[f32], c: usize)
+        requires { P.Four (length s.old) (length w.now) (length xt.now) self c }
+        ensures { s.new ≡ filled s.old (self.y + c) self.nout self.r 4 (λ l o. P.gone self s.old w.now xt.now l (c + o)) }
+    {
+        let to = self.y + c;
+        let mut a = [0.0f32; 16];
+        pack(&mut a, 4, s, to, self.r, self.nout, 4);
+        let b = cells(a, xt, w, c * self.nin + self.k, self.nin, self.n);
+        unpack(s, to, self.nout, self.r, &b);
+    }
 }

@@ -5,9 +5,11 @@ ghost use Rattle.std.specs.Float.Ieee.{add, mul};
 ghost use Rattle.number_floats.specs.Constants.{zero32};
 ghost use Rattle.buffers.specs.Rows.{tab};
 ghost use Rattle.buffers.specs.Region.{put};
-ghost use Rattle.encoder_linear.specs.inner.Lanes.{lane_of, gone_sum, spread, filled};
-ghost use Rattle.encoder_linear.specs.inner.Fits.{TwoFit, FourFit, LanesAt, StrideFits, PackFits, ColumnAt, WideAt, SpreadFits};
+ghost use Rattle.encoder_linear.specs.inner.Lanes.{lane_of, spread, filled};
+ghost use Rattle.encoder_linear.specs.inner.Fits.{TwoFit, FourFit, LanesAt, StrideFits, PackFits, SpreadFits};
+ghost use Rattle.encoder_linear.specs.inner.Strip as P;
 
+use crate::strip::Strip;
 use buffers::part;
 
 // Each lane and its product with t.
@@ -153,59 +155,6 @@ pub(crate) fn pack(xt: &mut [f32], m: usize, x: &[f32], at: usize, r: usize, nin
     }
 }
 
-// Column c of the r rows of sums at y goes on by n products: gathered into lanes, and spread again.
-pub(crate) fn one_column(
-    s: &mut [f32],
-    y: usize,
-    r: usize,
-    nin: usize,
-    nout: usize,
-    w: &[f32],
-    k: usize,
-    n: usize,
-    xt: &[f32],
-    c: usize,
-)
-    requires { ColumnAt (length s.old) (length w.now) (length xt.now) y r nin nout k n c }
-    ensures { s.new ≡ spread s.old (y + c) nout r (λ l. gone_sum s.old w.now xt.now y nin nout k n l c) }
-{
-    let mut a = [0.0f32; 16];
-    copy_spread(&mut a, 0, 1, s, y + c, nout, r);
-    let b = lanes(a, xt, part(w, c * nin + k, n));
-    copy_spread(s, y + c, nout, &b, 0, 1, r);
-}
-
-// Columns c and c + 1.
-pub(crate) fn two_columns(
-    s: &mut [f32],
-    y: usize,
-    r: usize,
-    nin: usize,
-    nout: usize,
-    w: &[f32],
-    k: usize,
-    n: usize,
-    xt: &[f32],
-    c: usize,
-)
-    requires { ColumnAt (length s.old) (length w.now) (length xt.now) y r nin nout k n (c + 1) }
-    ensures { s.new ≡ spread (spread s.old (y + c) nout r (λ l. gone_sum s.old w.now xt.now y nin nout k n l c))
-        (y + (c + 1)) nout r (λ l. gone_sum s.old w.now xt.now y nin nout k n l (c + 1)) }
-{
-    let d = c + 1;
-    let at = y + c;
-    let to = y + d;
-    let mut a = [0.0f32; 16];
-    let mut b = [0.0f32; 16];
-    copy_spread(&mut a, 0, 1, s, at, nout, r);
-    copy_spread(&mut b, 0, 1, s, to, nout, r);
-    let both = two_lanes(a, b, xt, part(w, c * nin + k, n), part(w, d * nin + k, n));
-    let f = both.first;
-    let g = both.second;
-    copy_spread(s, at, nout, &f, 0, 1, r);
-    copy_spread(s, to, nout, &g, 0, 1, r);
-}
-
 // Sixteen lanes with the first r floats at a, a + m, .., and as many at b, c and d: row by row, since four columns of a row
 // lie together, and rows whose stride is a power of two drive each other out of the cache.
 pub(crate) fn lanes_at(
@@ -267,39 +216,67 @@ pub(crate) fn spread_four(
     copy_spread(s, at + 3, m, &i, 0, 1, r);
 }
 
-// Columns c to c + 3: all are gathered before one is spread.
-pub(crate) fn wide_columns(
-    s: &mut [f32],
-    y: usize,
-    r: usize,
-    nin: usize,
-    nout: usize,
-    w: &[f32],
-    k: usize,
-    n: usize,
-    xt: &[f32],
-    c: usize,
-)
-    requires { WideAt (length s.old) (length w.now) (length xt.now) y r nin nout k n c }
-    ensures { s.new ≡ filled s.old (y + c) nout r 4 (λ l o. gone_sum s.old w.now xt.now y nin nout k n l (c + o)) }
-{
-    let at = y + c;
-    let d = c + 1;
-    let e = c + 2;
-    let f = c + 3;
-    let w0 = part(w, c * nin + k, n);
-    let w1 = part(w, d * nin + k, n);
-    let w2 = part(w, e * nin + k, n);
-    let w3 = part(w, f * nin + k, n);
-    let from = lanes_at(s, at, y + d, y + e, y + f, nout, r);
-    let a0 = from.first;
-    let a1 = from.second;
-    let a2 = from.third;
-    let a3 = from.fourth;
-    let all = four_lanes(a0, a1, a2, a3, xt, w0, w1, w2, w3);
-    let b0 = all.first;
-    let b1 = all.second;
-    let b2 = all.third;
-    let b3 = all.fourth;
-    spread_four(s, at, nout, r, b0, b1, b2, b3);
+impl Strip {
+    // Column c of the r rows of sums at y goes on by n products: gathered into lanes, and spread again.
+    pub(crate) fn one_column(self, s: &mut [f32], w: &[f32], xt: &[f32], c: usize)
+        requires { P.Column (length s.old) (length w.now) (length xt.now) self c }
+        ensures { s.new ≡ spread s.old (self.y + c) self.nout self.r (λ l. P.gone self s.old w.now xt.now l c) }
+    {
+        let mut a = [0.0f32; 16];
+        copy_spread(&mut a, 0, 1, s, self.y + c, self.nout, self.r);
+        let b = lanes(a, xt, part(w, c * self.nin + self.k, self.n));
+        copy_spread(s, self.y + c, self.nout, &b, 0, 1, self.r);
+    }
+
+    // Columns c and c + 1.
+    pub(crate) fn two_columns(self, s: &mut [f32], w: &[f32], xt: &[f32], c: usize)
+        requires { P.Column (length s.old) (length w.now) (length xt.now) self (c + 1) }
+        ensures { s.new ≡ spread (spread s.old (self.y + c) self.nout self.r (λ l. P.gone self s.old w.now xt.now l c))
+            (self.y + (c + 1)) self.nout self.r (λ l. P.gone self s.old w.now xt.now l (c + 1)) }
+    {
+        let d = c + 1;
+        let at = self.y + c;
+        let to = self.y + d;
+        let mut a = [0.0f32; 16];
+        let mut b = [0.0f32; 16];
+        copy_spread(&mut a, 0, 1, s, at, self.nout, self.r);
+        copy_spread(&mut b, 0, 1, s, to, self.nout, self.r);
+        let both = two_lanes(
+            a,
+            b,
+            xt,
+            part(w, c * self.nin + self.k, self.n),
+            part(w, d * self.nin + self.k, self.n),
+        );
+        let f = both.first;
+        let g = both.second;
+        copy_spread(s, at, self.nout, &f, 0, 1, self.r);
+        copy_spread(s, to, self.nout, &g, 0, 1, self.r);
+    }
+
+    // Columns c to c + 3: all are gathered before one is spread.
+    pub(crate) fn wide_columns(self, s: &mut [f32], w: &[f32], xt: &[f32], c: usize)
+        requires { P.Wide (length s.old) (length w.now) (length xt.now) self c }
+        ensures { s.new ≡ filled s.old (self.y + c) self.nout self.r 4 (λ l o. P.gone self s.old w.now xt.now l (c + o)) }
+    {
+        let at = self.y + c;
+        let d = c + 1;
+        let e = c + 2;
+        let f = c + 3;
+        let w0 = part(w, c * self.nin + self.k, self.n);
+        let w1 = part(w, d * self.nin + self.k, self.n);
+        let w2 = part(w, e * self.nin + self.k, self.n);
+        let w3 = part(w, f * self.nin + self.k, self.n);
+        let from = lanes_at(s, at, self.y + d, self.y + e, self.y + f, self.nout, self.r);
+        let a0 = from.first;
+        let a1 = from.second;
+        let a2 = from.third;
+        let a3 = from.fourth;
+        let all = four_lanes(a0, a1, a2, a3, xt, w0, w1, w2, w3);
+        let b0 = all.first;
+        let b1 = all.second;
+        let b2 = all.third;
+        let b3 = all.fourth;
+        spread_four(s, at, self.nout, self.r, b0, b1, b2, b3);
+    }
 }

@@ -8,4 +8,5 @@ mod level;
 pub mod linear;
 pub mod pair;
 mod room;
+mod strip;
 pub mod weigh;

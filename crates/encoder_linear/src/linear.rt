@@ -3,15 +3,16 @@ ghost use Rattle.std.specs.Prelude.{◌≡◌, ◌*◌, length};
 ghost use Rattle.buffers.specs.Region.{region, put};
 ghost use Rattle.encoder_linear.specs.Linear.{linear_of};
 ghost use Rattle.buffers.specs.Rows.{grid};
-ghost use Rattle.encoder_linear.specs.inner.Lanes.{gone_sum, gone_on};
+ghost use Rattle.encoder_linear.specs.inner.Lanes.{gone_on};
 ghost use Rattle.buffers.specs.inner.Room.{where_fits};
 ghost use Rattle.encoder_linear.specs.inner.Room.{linear_fits, from_fits};
-ghost use Rattle.encoder_linear.specs.inner.Fits.{UpTo, ColumnsFits, PieceFits, BlockFits, LinearFits, FromFits};
+ghost use Rattle.encoder_linear.specs.inner.Fits.{UpTo, BlockFits, LinearFits, FromFits};
+ghost use Rattle.encoder_linear.specs.inner.Strip as P;
 
-use crate::few::four_columns;
-use crate::lanes::{one_column, pack, two_columns, wide_columns};
+use crate::lanes::pack;
 use crate::level::wide;
 use crate::room::{from_fits, linear_fits};
+use crate::strip::Strip;
 use buffers::{clear_at, part};
 
 // How many of the n rows that are left are next: sixteen side by side, or four where few are left.
@@ -21,61 +22,42 @@ pub(crate) fn next_rows(n: usize) -> usize
     n.min(if n < 9 { 4 } else { 16 })
 }
 
-// The r rows of sums at y go on by n products: a lane of xt by the floats from k on of each of the nout rows of w, of few
-// rows four columns at a time, of more two, or four where registers are wide.
-pub(crate) fn columns(
-    s: &mut [f32],
-    y: usize,
-    r: usize,
-    nin: usize,
-    nout: usize,
-    w: &[f32],
-    k: usize,
-    n: usize,
-    xt: &[f32],
-)
-    requires { ColumnsFits (length s.old) (length w.now) (length xt.now) y r nin nout k n }
-    ensures { s.new ≡ put s.old y (grid r nout (gone_sum s.old w.now xt.now y nin nout k n)) }
-{
-    let mut c = 0usize;
-    while c < nout {
-        if 4 <= nout - c {
-            if r < 5 {
-                four_columns(s, y, r, nin, nout, w, k, n, xt, c);
-                c += 4;
-            } else if wide() {
-                wide_columns(s, y, r, nin, nout, w, k, n, xt, c);
-                c += 4;
+impl Strip {
+    // The r rows of sums at y go on by n products: a lane of xt by the floats from k on of each of the nout rows of w, of few
+    // rows four columns at a time, of more two, or four where registers are wide.
+    pub(crate) fn columns(self, s: &mut [f32], w: &[f32], xt: &[f32])
+        requires { P.Columns (length s.old) (length w.now) (length xt.now) self }
+        ensures { s.new ≡ put s.old self.y (grid self.r self.nout (P.gone self s.old w.now xt.now)) }
+    {
+        let mut c = 0usize;
+        while c < self.nout {
+            if 4 <= self.nout - c {
+                if self.r < 5 {
+                    self.four_columns(s, w, xt, c);
+                    c += 4;
+                } else if wide() {
+                    self.wide_columns(s, w, xt, c);
+                    c += 4;
+                } else {
+                    self.two_columns(s, w, xt, c);
+                    c += 2;
+                }
             } else {
-                two_columns(s, y, r, nin, nout, w, k, n, xt, c);
-                c += 2;
+                self.one_column(s, w, xt, c);
+                c += 1;
             }
-        } else {
-            one_column(s, y, r, nin, nout, w, k, n, xt, c);
-            c += 1;
         }
     }
-}
 
-// The sums of the r rows at y go on by the n products from k on with the rows of x at xa.
-pub(crate) fn piece(
-    x: &[f32],
-    xa: usize,
-    s: &mut [f32],
-    y: usize,
-    r: usize,
-    nin: usize,
-    nout: usize,
-    w: &[f32],
-    k: usize,
-    n: usize,
-)
-    requires { PieceFits (length x.now) (length s.old) (length w.now) xa y r nin nout k n }
-    ensures { s.new ≡ put s.old y (gone_on k n r nin nout w.now (region x.now xa (r * nin)) (region s.old y (r * nout))) }
-{
-    let mut xt = [0.0f32; 16384];
-    pack(&mut xt, 16, x, xa + k, r, nin, n);
-    columns(s, y, r, nin, nout, w, k, n, &xt);
+    // The sums of the r rows at y go on by the n products from k on with the rows of x at xa.
+    pub(crate) fn piece(self, x: &[f32], xa: usize, s: &mut [f32], w: &[f32])
+        requires { P.Piece (length x.now) (length s.old) (length w.now) self xa }
+        ensures { s.new ≡ put s.old self.y (gone_on self.k self.n self.r self.nin self.nout w.now (region x.now xa (self.r * self.nin)) (region s.old self.y (self.r * self.nout))) }
+    {
+        let mut xt = [0.0f32; 16384];
+        pack(&mut xt, 16, x, xa + self.k, self.r, self.nin, self.n);
+        self.columns(s, w, &xt);
+    }
 }
 
 // Up to sixteen rows of x at xa, from +0 on, piece after piece.
@@ -96,7 +78,15 @@ pub(crate) fn block(
     let mut k = 0usize;
     while k < nin {
         let n = (nin - k).min(1024);
-        piece(x, xa, s, y, r, nin, nout, w, k, n);
+        let strip = Strip {
+            y,
+            r,
+            nin,
+            nout,
+            k,
+            n,
+        };
+        strip.piece(x, xa, s, w);
         k += n;
     }
 }

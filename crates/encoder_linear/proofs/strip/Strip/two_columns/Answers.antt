@@ -1,4 +1,4 @@
--- `encoder_linear::lanes::two_columns` meets its contract: both are gathered before either is spread. Assumes nothing.
+-- `encoder_linear::strip::Strip::two_columns` meets its contract: both are gathered before either is spread. Assumes nothing.
 use mathlib.Core.Path.{◌≡◌, refl, ap, ◌∙◌}
 use mathlib.Core.List.{List}
 use Prim.Native.Nat.{ℕ, ◌+◌, ◌*◌, ◌<◌}
@@ -12,16 +12,7 @@ use Rattle.buffers.proofs.Regions.{length-region}
 use Rattle.encoder_linear.specs.inner.Lanes.{lane_of, gone_sum, spread}
 use Rattle.encoder_linear.proofs.Fills.{spread-ext}
 use Rattle.encoder_linear.proofs.Pieces.{cell, room, before-it, column-lane}
-use Rattle.encoder_linear.proofs.lanes.two_columns.Goals as goal
-
-pub overflow_add-d : goal.overflow_add-d
-overflow_add-d c = omega (arith, cell c.requires 0 c.requires.fits.some)
-
-pub overflow_add-at : goal.overflow_add-at
-overflow_add-at c = let p = before-it c.requires refl in omega (arith, cell p 0 p.fits.some)
-
-pub overflow_add-to : goal.overflow_add-to
-overflow_add-to c = let p = c.requires in omega (arith, cell p 0 c.requires.fits.some)
+use Rattle.encoder_linear.proofs.strip.Strip.two_columns.Goals as goal
 
 pub copy_spread-requires : goal.copy_spread-requires
 copy_spread-requires c =
@@ -31,23 +22,11 @@ pub copy_spread-requires-2 : goal.copy_spread-requires-2
 copy_spread-requires-2 c =
     record { to = λ i h. simp length-replicate (omega (arith, c.requires.fits.rows)); from = cell c.requires }
 
-pub overflow_mul-c : goal.overflow_mul-c
-overflow_mul-c c = omega (arith, room (before-it c.requires refl))
-
-pub overflow_add-c : goal.overflow_add-c
-overflow_add-c c = omega (arith, room (before-it c.requires refl))
-
-pub overflow_mul-d : goal.overflow_mul-d
-overflow_mul-d c = omega (arith, room c.requires)
-
-pub overflow_add-d-2 : goal.overflow_add-d-2
-overflow_add-d-2 c = omega (arith, room c.requires)
-
 pub two_lanes-both-requires : goal.two_lanes-both-requires
 two_lanes-both-requires c =
     let p = c.requires in
-    let l : length c.part.result.now ≡ c.args.n = ap length c.part.ensures ∙ length-region c.args.w.now (c.args.c * c.args.nin + c.args.k) c.args.n (room (before-it p refl)) in
-    let m : length c.part-2.result.now ≡ c.args.n = ap length c.part-2.ensures ∙ length-region c.args.w.now ((c.args.c + 1) * c.args.nin + c.args.k) c.args.n (room p) in
+    let l : length c.part.result.now ≡ c.args.self.n = ap length c.part.ensures ∙ length-region c.args.w.now (c.args.c * c.args.self.nin + c.args.self.k) c.args.self.n (room (before-it p refl)) in
+    let m : length c.part-2.result.now ≡ c.args.self.n = ap length c.part-2.ensures ∙ length-region c.args.w.now ((c.args.c + 1) * c.args.self.nin + c.args.self.k) c.args.self.n (room p) in
     record {
       first = c.copy_spread.auto.d ∙ simp length-replicate;
       second = c.copy_spread-2.auto.d ∙ simp length-replicate;
@@ -75,13 +54,13 @@ pub returns : goal.returns
 returns c =
     let p = c.requires in
     let q = before-it p refl in
-    let lv : length c.part.result.now ≡ c.args.n = ap length c.part.ensures ∙ length-region c.args.w.now (c.args.c * c.args.nin + c.args.k) c.args.n (room q) in
-    both c.args.s.now c.copy_spread-3.new.d c.copy_spread-4.new.d c.args.y c.args.nout c.args.r c.args.c (c.args.c + 1)
+    let lv : length c.part.result.now ≡ c.args.self.n = ap length c.part.ensures ∙ length-region c.args.w.now (c.args.c * c.args.self.nin + c.args.self.k) c.args.self.n (room q) in
+    both c.args.s.now c.copy_spread-3.new.d c.copy_spread-4.new.d c.args.self.y c.args.self.nout c.args.self.r c.args.c (c.args.c + 1)
     (λ i. get_or c.two_lanes-both.result.first (0 + i * 1) nan) (λ i. get_or c.two_lanes-both.result.second (0 + i * 1) nan)
-    (λ l. gone_sum c.args.s.now c.args.w.now c.args.xt.now c.args.y c.args.nin c.args.nout c.args.k c.args.n l c.args.c)
-    (λ l. gone_sum c.args.s.now c.args.w.now c.args.xt.now c.args.y c.args.nin c.args.nout c.args.k c.args.n l (c.args.c + 1))
+    (λ l. gone_sum c.args.s.now c.args.w.now c.args.xt.now c.args.self.y c.args.self.nin c.args.self.nout c.args.self.k c.args.self.n l c.args.c)
+    (λ l. gone_sum c.args.s.now c.args.w.now c.args.xt.now c.args.self.y c.args.self.nin c.args.self.nout c.args.self.k c.args.self.n l (c.args.c + 1))
     c.copy_spread-3.ensures c.copy_spread-4.ensures
-    (column-lane c.args.w.now c.args.xt.now c.args.y c.args.r c.args.nin c.args.nout c.args.k c.args.n c.args.s.now (replicate 16 zero32) c.copy_spread.new.d c.part.result.now c.two_lanes-both.result.first c.args.c
+    (column-lane c.args.w.now c.args.xt.now c.args.self.y c.args.self.r c.args.self.nin c.args.self.nout c.args.self.k c.args.self.n c.args.s.now (replicate 16 zero32) c.copy_spread.new.d c.part.result.now c.two_lanes-both.result.first c.args.c
     c.requires.fits.rows (simp length-replicate) (room q) c.copy_spread.ensures c.part.ensures (c.two_lanes-both.ensures.0 ∙ ap (λ n. tab 16 (lane_of n c.copy_spread.new.d c.args.xt.now c.part.result.now)) lv))
-    (column-lane c.args.w.now c.args.xt.now c.args.y c.args.r c.args.nin c.args.nout c.args.k c.args.n c.args.s.now (replicate 16 zero32) c.copy_spread-2.new.d c.part-2.result.now c.two_lanes-both.result.second (c.args.c + 1)
+    (column-lane c.args.w.now c.args.xt.now c.args.self.y c.args.self.r c.args.self.nin c.args.self.nout c.args.self.k c.args.self.n c.args.s.now (replicate 16 zero32) c.copy_spread-2.new.d c.part-2.result.now c.two_lanes-both.result.second (c.args.c + 1)
     c.requires.fits.rows (simp length-replicate) (room p) c.copy_spread-2.ensures c.part-2.ensures (c.two_lanes-both.ensures.1 ∙ ap (λ n. tab 16 (lane_of n c.copy_spread-2.new.d c.args.xt.now c.part-2.result.now)) lv))

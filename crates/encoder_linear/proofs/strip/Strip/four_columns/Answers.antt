@@ -1,4 +1,4 @@
--- `encoder_linear::few::four_columns` meets its contract: all four are gathered before any is spread. Assumes nothing.
+-- `encoder_linear::strip::Strip::four_columns` meets its contract: all four are gathered before any is spread. Assumes nothing.
 use mathlib.Core.Path.{◌≡◌, ap, ◌∙◌}
 use Prim.Native.Nat.{ℕ, ◌+◌, ◌*◌, ◌≤◌, ◌<◌}
 use native.Mathlib.Omega.{arith}
@@ -10,7 +10,7 @@ use Rattle.encoder_linear.specs.inner.Lanes.{gone_sum}
 use Rattle.encoder_linear.specs.inner.Fits.{FourAt}
 use Rattle.encoder_linear.proofs.Fills.{filled-ext}
 use Rattle.encoder_linear.proofs.Pieces.{fit-more, four-cells}
-use Rattle.encoder_linear.proofs.few.four_columns.Goals as goal
+use Rattle.encoder_linear.proofs.strip.Strip.four_columns.Goals as goal
 
 -- the four columns of row l are inside s, and the next floats of their weights are inside w
 module _ {lens lenw lent y r nin nout k n c : ℕ} (f : FourAt lens lenw lent y r nin nout k n c) where
@@ -20,17 +20,8 @@ module _ {lens lenw lent y r nin nout k n c : ℕ} (f : FourAt lens lenw lent y 
   room : c * nin + k + 3 * nin + n ≤ lenw
   room = omega (arith, fit-more c 4 nin f.columns, f.fits.win, f.fits.kin)
 
-pub overflow_add-to : goal.overflow_add-to
-overflow_add-to c = omega (arith, row c.requires 0 c.requires.fits.some)
-
 pub pack-requires : goal.pack-requires
 pack-requires c = let p = c.requires in record { rows = c.requires.few; tin = simp length-replicate (omega arith); xin = row p }
-
-pub overflow_mul-c : goal.overflow_mul-c
-overflow_mul-c c = omega (arith, room c.requires)
-
-pub overflow_add-c : goal.overflow_add-c
-overflow_add-c c = omega (arith, room c.requires)
 
 pub cells-b-requires : goal.cells-b-requires
 cells-b-requires c = let p = c.requires in record { cells = c.pack.auto.xt ∙ simp length-replicate; tin = c.requires.fits.tin; win = room p }
@@ -44,5 +35,5 @@ unpack-requires c =
 pub returns : goal.returns
 returns c =
     c.unpack.ensures
-    ∙ filled-ext c.args.s.now (c.args.y + c.args.c) c.args.nout c.args.r 4 (λ l o. get_or c.cells-b.result (l + o * 4) nan) (λ l o. gone_sum c.args.s.now c.args.w.now c.args.xt.now c.args.y c.args.nin c.args.nout c.args.k c.args.n l (c.args.c + o))
-    (four-cells c.args.w.now c.args.xt.now c.args.y c.args.r c.args.nin c.args.nout c.args.k c.args.n c.args.s.now (replicate 16 zero32) c.pack.new.xt c.cells-b.result c.args.c c.requires.few (simp length-replicate) c.pack.ensures c.cells-b.ensures)
+    ∙ filled-ext c.args.s.now (c.args.self.y + c.args.c) c.args.self.nout c.args.self.r 4 (λ l o. get_or c.cells-b.result (l + o * 4) nan) (λ l o. gone_sum c.args.s.now c.args.w.now c.args.xt.now c.args.self.y c.args.self.nin c.args.self.nout c.args.self.k c.args.self.n l (c.args.c + o))
+    (four-cells c.args.w.now c.args.xt.now c.args.self.y c.args.self.r c.args.self.nin c.args.self.nout c.args.self.k c.args.self.n c.args.s.now (replicate 16 zero32) c.pack.new.xt c.cells-b.result c.args.c c.requires.few (simp length-replicate) c.pack.ensures c.cells-b.ensures)
