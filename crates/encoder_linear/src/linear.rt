@@ -75,8 +75,8 @@ pub(crate) fn block(
     ensures { s.new ≡ put s.old y (linear_of r nin nout w.now (region x.now xa (r * nin))) }
 {
     clear_at(s, y, r * nout);
-    let mut k = 0usize;
-    while k < nin {
+    for i in 0..nin.div_ceil(1024) {
+        let k = i * 1024;
         let n = (nin - k).min(1024);
         let strip = Strip {
             y,
@@ -87,7 +87,6 @@ pub(crate) fn block(
             n,
         };
         strip.piece(x, xa, s, w);
-        k += n;
     }
 }
 
