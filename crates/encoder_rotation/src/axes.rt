@@ -7,7 +7,7 @@ ghost use Rattle.buffers.specs.inner.Room.{where_fits};
 ghost use Rattle.encoder_rotation.specs.inner.Room.{axes_fit};
 ghost use Rattle.encoder_rotation.specs.inner.Fits.{BuildFits, QuartersFit, AxesIn};
 
-use crate::room::axes_fit;
+use crate::places::Places;
 use crate::rotate::rotate_token;
 use buffers::part;
 
@@ -58,41 +58,39 @@ pub(crate) fn rotate_token_axes(
     rotate_token(s, x, heads, half, part(&cos, 0, hd), part(&sin, 0, hd));
 }
 
-// Every token, one after another.
-pub(crate) fn rotate_tokens_axes(
-    s: &mut [f32],
-    x: usize,
-    tokens: usize,
-    heads: usize,
-    q: usize,
-    gw: usize,
-    side: usize,
-    row_cos: &[f32],
-    row_sin: &[f32],
-    column_cos: &[f32],
-    column_sin: &[f32],
-)
-    requires { AxesIn (length s.old) (length row_cos.now) (length row_sin.now) (length column_cos.now) (length column_sin.now) x tokens heads q gw side }
-    ensures { s.new ≡ put s.old x (rotate_of tokens heads (q + q) gw side (expand side q row_cos.now column_cos.now) (expand side q row_sin.now column_sin.now)
-        (region s.old x (tokens * (heads * (q + q + (q + q)))))) }
-{
-    let half = q + q;
-    let dim = heads * (half + half);
-    let mut xa = x;
-    for i in 0..tokens {
-        let h = i / gw * q;
-        let w = i % gw * q;
-        rotate_token_axes(
-            s,
-            xa,
-            heads,
-            q,
-            part(row_cos, h, q),
-            part(row_sin, h, q),
-            part(column_cos, w, q),
-            part(column_sin, w, q),
-        );
-        xa += dim;
+impl Places {
+    // Every token, one after another, by the quarter q of a head.
+    pub(crate) fn rotate_tokens_axes(
+        self,
+        s: &mut [f32],
+        q: usize,
+        row_cos: &[f32],
+        row_sin: &[f32],
+        column_cos: &[f32],
+        column_sin: &[f32],
+    )
+        requires { AxesIn (length s.old) (length row_cos.now) (length row_sin.now) (length column_cos.now) (length column_sin.now) self.x self.tokens self.heads q self.gw self.side }
+        ensures { s.new ≡ put s.old self.x (rotate_of self.tokens self.heads (q + q) self.gw self.side (expand self.side q row_cos.now column_cos.now) (expand self.side q row_sin.now column_sin.now)
+            (region s.old self.x (self.tokens * (self.heads * (q + q + (q + q)))))) }
+    {
+        let half = q + q;
+        let dim = self.heads * (half + half);
+        let mut xa = self.x;
+        for i in 0..self.tokens {
+            let h = i / self.gw * q;
+            let w = i % self.gw * q;
+            rotate_token_axes(
+                s,
+                xa,
+                self.heads,
+                q,
+                part(row_cos, h, q),
+                part(row_sin, h, q),
+                part(column_cos, w, q),
+                part(column_sin, w, q),
+            );
+            xa += dim;
+        }
     }
 }
 
@@ -114,22 +112,22 @@ pub fn rotate_axes(
         s.old x (rotate_of tokens heads half gw side (expand side (half / 2) row_cos.now column_cos.now) (expand side (half / 2) row_sin.now column_sin.now)
         (region s.old x (tokens * (heads * (half + half))))) }
 {
-    if axes_fit(
-        s.len(),
-        row_cos.len(),
-        row_sin.len(),
-        column_cos.len(),
-        column_sin.len(),
+    let places = Places {
         x,
         tokens,
         heads,
         half,
         gw,
         side,
+    };
+    if places.axes_fit(
+        s.len(),
+        row_cos.len(),
+        row_sin.len(),
+        column_cos.len(),
+        column_sin.len(),
     ) {
         let q = half / 2;
-        rotate_tokens_axes(
-            s, x, tokens, heads, q, gw, side, row_cos, row_sin, column_cos, column_sin,
-        );
+        places.rotate_tokens_axes(s, q, row_cos, row_sin, column_cos, column_sin);
     }
 }

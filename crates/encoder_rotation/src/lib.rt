@@ -2,5 +2,6 @@
 #![tactic(auto)]
 
 pub mod axes;
+mod places;
 mod room;
 pub mod rotate;

@@ -6,7 +6,7 @@ ghost use Rattle.buffers.specs.inner.Room.{where_fits};
 ghost use Rattle.encoder_rotation.specs.inner.Room.{rotate_fits};
 ghost use Rattle.encoder_rotation.specs.inner.Fits.{HeadFits, TokenFits, RotateFits};
 
-use crate::room::rotate_fits;
+use crate::places::Places;
 use buffers::part;
 
 // One head vector, in place.
@@ -43,28 +43,27 @@ pub(crate) fn rotate_token(
     }
 }
 
-// Every token, one after another.
-pub(crate) fn rotate_tokens(
-    s: &mut [f32],
-    x: usize,
-    tokens: usize,
-    heads: usize,
-    half: usize,
-    gw: usize,
-    side: usize,
-    cos: &[f32],
-    sin: &[f32],
-)
-    requires { RotateFits (length s.old) (length cos.now) (length sin.now) x tokens heads half gw side }
-    ensures { s.new ≡ put s.old x (rotate_of tokens heads half gw side cos.now sin.now (region s.old x (tokens * (heads * (half + half))))) }
-{
-    let hd = half + half;
-    let dim = heads * hd;
-    let mut xa = x;
-    for i in 0..tokens {
-        let p = (i / gw * side + i % gw) * hd;
-        rotate_token(s, xa, heads, half, part(cos, p, hd), part(sin, p, hd));
-        xa += dim;
+impl Places {
+    // Every token, one after another.
+    pub(crate) fn rotate_tokens(self, s: &mut [f32], cos: &[f32], sin: &[f32])
+        requires { RotateFits (length s.old) (length cos.now) (length sin.now) self.x self.tokens self.heads self.half self.gw self.side }
+        ensures { s.new ≡ put s.old self.x (rotate_of self.tokens self.heads self.half self.gw self.side cos.now sin.now (region s.old self.x (self.tokens * (self.heads * (self.half + self.half))))) }
+    {
+        let hd = self.half + self.half;
+        let dim = self.heads * hd;
+        let mut xa = self.x;
+        for i in 0..self.tokens {
+            let p = (i / self.gw * self.side + i % self.gw) * hd;
+            rotate_token(
+                s,
+                xa,
+                self.heads,
+                self.half,
+                part(cos, p, hd),
+                part(sin, p, hd),
+            );
+            xa += dim;
+        }
     }
 }
 
@@ -83,17 +82,15 @@ pub fn rotate(
     ensures { s.new ≡ where_fits (rotate_fits (length s.old) (length cos.now) (length sin.now) x tokens heads half gw side)
         s.old x (rotate_of tokens heads half gw side cos.now sin.now (region s.old x (tokens * (heads * (half + half))))) }
 {
-    if rotate_fits(
-        s.len(),
-        cos.len(),
-        sin.len(),
+    let places = Places {
         x,
         tokens,
         heads,
         half,
         gw,
         side,
-    ) {
-        rotate_tokens(s, x, tokens, heads, half, gw, side, cos, sin);
+    };
+    if places.rotate_fits(s.len(), cos.len(), sin.len()) {
+        places.rotate_tokens(s, cos, sin);
     }
 }

@@ -12,21 +12,6 @@ pub loop-k-init : goal.loop-k-init
 unfolding sum_of
 loop-k-init c = (search rules, refl)
 
-pub offset_bounds-x-k : goal.offset_bounds-x-k
-offset_bounds-x-k c = omega arith
-
-pub bounds-x-k : goal.bounds-x-k
-bounds-x-k c = omega arith
-
-pub offset_bounds-w-k : goal.offset_bounds-w-k
-offset_bounds-w-k c = omega arith
-
-pub bounds-w-k : goal.bounds-w-k
-bounds-w-k c = omega arith
-
-pub loop-k-smaller : goal.loop-k-smaller
-loop-k-smaller c = omega arith
-
 pub loop-k-preserved : goal.loop-k-preserved
 unfolding sum_of
 loop-k-preserved c = (omega arith, rw (add-one, ← c.loop-k.invariant.1))

@@ -30,12 +30,6 @@ norm_row-requires c =
       apart = apart-sub c.requires.apart (omega arith) (omega arith) (omega arith) (omega arith);
     }
 
-pub overflow_add-xa : goal.overflow_add-xa
-overflow_add-xa c = omega (arith, fit c.args.dim c.loop-r-test.true)
-
-pub overflow_add-ya : goal.overflow_add-ya
-overflow_add-ya c = omega (arith, fit c.args.dim c.loop-r-test.true)
-
 pub loop-r-preserved : goal.loop-r-preserved
 loop-r-preserved c =
     let f = fit c.args.dim c.loop-r-test.true in (

@@ -7,22 +7,6 @@ use Rattle.encoder_kernels.specs.inner.Room.{norm_fits}
 use borrow.Author.Tests.{leb-true}
 use Rattle.encoder_kernels.proofs.room.norm_fits.Goals as goal
 
-pub overflow_mul-n : goal.overflow_mul-n
-overflow_mul-n c =
-    let held : (let a = c.args in (c.args.x + c.args.n * c.args.dim ≤ c.args.lens) × (c.args.y + c.args.n * c.args.dim ≤ c.args.lens)) = let a = c.args in (
-      leb-true (c.args.x + c.args.n * c.args.dim) c.args.lens (sym c.rows_inside.ensures ∙ and_left c.rows_inside.result c.rows_inside-2.result c.if-rows_inside.true),
-      leb-true (c.args.y + c.args.n * c.args.dim) c.args.lens (sym c.rows_inside-2.ensures ∙ and_right c.rows_inside.result c.rows_inside-2.result c.if-rows_inside.true),
-    ) in
-    omega (arith, held)
-
-pub overflow_mul-n-then-rows_inside : goal.overflow_mul-n-then-rows_inside
-overflow_mul-n-then-rows_inside c =
-    let held : (let a = c.args in (c.args.x + c.args.n * c.args.dim ≤ c.args.lens) × (c.args.y + c.args.n * c.args.dim ≤ c.args.lens)) = let a = c.args in (
-      leb-true (c.args.x + c.args.n * c.args.dim) c.args.lens (sym c.rows_inside.ensures ∙ and_left c.rows_inside.result c.rows_inside-2.result c.if-rows_inside.true),
-      leb-true (c.args.y + c.args.n * c.args.dim) c.args.lens (sym c.rows_inside-2.ensures ∙ and_right c.rows_inside.result c.rows_inside-2.result c.if-rows_inside.true),
-    ) in
-    omega (arith, held)
-
 pub returns-then-rows_inside : goal.returns-then-rows_inside
 unfolding norm_fits
 returns-then-rows_inside c = rw (← c.rows_inside.ensures, ← c.rows_inside-2.ensures, c.if-rows_inside.true, c.aside.ensures)
