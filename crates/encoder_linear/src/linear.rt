@@ -29,6 +29,7 @@ impl Strip {
         requires { P.Columns (length s.old) (length w.now) (length xt.now) self }
         ensures { s.new ≡ put s.old self.y (grid self.r self.nout (P.gone self s.old w.now xt.now)) }
     {
+        // The steps are of four columns, of two and of one: no range or chunk counts so.
         let mut c = 0usize;
         while c < self.nout {
             if 4 <= self.nout - c {

@@ -138,6 +138,7 @@ pub(crate) fn pair_wide(
     requires { WeighPairFits (length s.old) a b v x y t dim hd o }
     ensures { (result ≤ hd) × (s.new ≡ weighed_pair s.old a b v x y t dim result o) }
 {
+    // The steps are of thirty-two and of sixteen: no range or chunk counts so.
     let mut d = 0usize;
     while 16 <= hd - d {
         if 32 <= hd - d && wide() {

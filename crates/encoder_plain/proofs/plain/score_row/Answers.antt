@@ -18,12 +18,6 @@ pub dot-requires : goal.dot-requires
 dot-requires c =
     (omega (arith, bounds c.args.p.t c.args.p.heads c.args.p.hd c.args.h c.args.qi c.requires.1 c.requires.2, c.requires.0, c.loop-ki.invariant.1), omega (arith, bounds c.args.p.t c.args.p.heads c.args.p.hd c.args.h c.loop-ki.ki c.requires.1 c.loop-ki-test.true, c.requires.0, c.loop-ki.invariant.1))
 
-pub offset_bounds-s-row : goal.offset_bounds-s-row
-offset_bounds-s-row c = omega (arith, bounds c.args.p.t c.args.p.heads c.args.p.hd c.args.h c.args.qi c.requires.1 c.requires.2, c.requires.0, c.loop-ki-test.true)
-
-pub bounds-s-row : goal.bounds-s-row
-bounds-s-row c = omega (arith, bounds c.args.p.t c.args.p.heads c.args.p.hd c.args.h c.args.qi c.requires.1 c.requires.2, c.requires.0, c.loop-ki-test.true, c.loop-ki.invariant.1)
-
 pub loop-ki-preserved : goal.loop-ki-preserved
 loop-ki-preserved c = (
   omega arith,

@@ -17,12 +17,6 @@ pub loop-qi-init : goal.loop-qi-init
 unfolding put rows
 loop-qi-init c = (omega arith, refl, refl)
 
-pub overflow_mul-qi : goal.overflow_mul-qi
-overflow_mul-qi c = omega (arith, fit c.args.t c.loop-qi-test.true, c.requires)
-
-pub overflow_add-m : goal.overflow_add-m
-overflow_add-m c = omega (arith, fit c.args.t c.loop-qi-test.true, c.requires)
-
 pub softmax_row-requires : goal.softmax_row-requires
 softmax_row-requires c = omega (arith, fit c.args.t c.loop-qi-test.true, c.requires, c.loop-qi.invariant.1)
 

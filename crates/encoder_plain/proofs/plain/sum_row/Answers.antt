@@ -21,12 +21,6 @@ weighed-requires c =
     let e = c.loop-d.invariant.1 in
     (omega (arith, z, c.requires.0, e), omega (arith, z, c.requires.0, e), omega (arith, z, c.requires.0, c.loop-d-test.true))
 
-pub offset_bounds-s-out_off : goal.offset_bounds-s-out_off
-offset_bounds-s-out_off c = omega (arith, bounds c.args.p.t c.args.p.heads c.args.p.hd c.args.h c.args.qi c.requires.1 c.requires.2, c.requires.0, c.loop-d-test.true)
-
-pub bounds-s-out_off : goal.bounds-s-out_off
-bounds-s-out_off c = omega (arith, bounds c.args.p.t c.args.p.heads c.args.p.hd c.args.h c.args.qi c.requires.1 c.requires.2, c.requires.0, c.loop-d-test.true, c.loop-d.invariant.1)
-
 pub loop-d-preserved : goal.loop-d-preserved
 loop-d-preserved c = (
   omega arith,

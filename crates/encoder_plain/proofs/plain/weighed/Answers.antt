@@ -13,21 +13,6 @@ pub loop-vi-init : goal.loop-vi-init
 unfolding sum_of
 loop-vi-init c = (omega arith, refl)
 
-pub overflow_mul-sum : goal.overflow_mul-sum
-overflow_mul-sum c = omega (arith, fit c.args.dim c.loop-vi-test.true, c.requires)
-
-pub overflow_add-sum-in-loop-vi : goal.overflow_add-sum-in-loop-vi
-overflow_add-sum-in-loop-vi c = omega (arith, fit c.args.dim c.loop-vi-test.true, c.requires)
-
-pub overflow_add-sum-in-loop-vi-2 : goal.overflow_add-sum-in-loop-vi-2
-overflow_add-sum-in-loop-vi-2 c = omega (arith, fit c.args.dim c.loop-vi-test.true, c.requires)
-
-pub offset_bounds-s-v : goal.offset_bounds-s-v
-offset_bounds-s-v c = omega (arith, fit c.args.dim c.loop-vi-test.true, c.requires)
-
-pub bounds-s-v : goal.bounds-s-v
-bounds-s-v c = omega (arith, fit c.args.dim c.loop-vi-test.true, c.requires)
-
 pub loop-vi-preserved : goal.loop-vi-preserved
 unfolding sum_of
 loop-vi-preserved c = (omega arith, rw (add-one, ← c.loop-vi.invariant.1))

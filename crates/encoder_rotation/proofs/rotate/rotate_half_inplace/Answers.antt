@@ -12,9 +12,6 @@ pub loop-j-init : goal.loop-j-init
 unfolding put tab
 loop-j-init c = search rules
 
-pub bounds-s-z-in-loop-j : goal.bounds-s-z-in-loop-j
-bounds-s-z-in-loop-j c = simp length-set (omega (arith, c.requires))
-
 pub loop-j-preserved : goal.loop-j-preserved
 loop-j-preserved c = (
   omega arith,

@@ -28,12 +28,6 @@ rotate_half_inplace-requires c =
       sin' = search rules;
     }
 
-pub overflow_add-xa : goal.overflow_add-xa
-overflow_add-xa c = omega (arith, fit (c.args.half + c.args.half) c.loop-r-test.true)
-
-pub overflow_add-xa-in-loop-r : goal.overflow_add-xa-in-loop-r
-overflow_add-xa-in-loop-r c = omega (arith, fit (c.args.half + c.args.half) c.loop-r-test.true)
-
 pub loop-r-preserved : goal.loop-r-preserved
 loop-r-preserved c =
     let hd = c.args.half + c.args.half in

@@ -19,24 +19,6 @@ pub returns-then-self : goal.returns-then-self
 unfolding places_fit
 returns-then-self c = simp (le-leb c.args.self.half 128 c.if-self-gt128.false, le-leb c.args.self.side 2048 c.if-self-gt2048.false, lt-leb c.args.self.gw c.args.self.side c.if-self.true)
 
-pub overflow_mul-most : goal.overflow_mul-most
-overflow_mul-most c =
-    let held : (let a = c.args in
-    (c.args.self.side * c.args.self.gw ≤ 4194304) × (0 + c.args.self.heads * (c.args.self.half + c.args.self.half) ≤ c.args.lens)) = let a = c.args in
-    let s : c.args.self.side ≤ 2048 = c.if-self-gt2048.false in
-    let g : c.args.self.gw ≤ 2048 = omega (arith, c.if-self.false) in
-    (mul-le-mul s g, leb-true (0 + c.args.self.heads * (c.args.self.half + c.args.self.half)) c.args.lens (sym c.rows_inside.ensures ∙ c.if-rows_inside.true)) in
-    omega (arith, held)
-
-pub overflow_mul-self : goal.overflow_mul-self
-overflow_mul-self c =
-    let held : (let a = c.args in
-    (c.args.self.side * c.args.self.gw ≤ 4194304) × (0 + c.args.self.heads * (c.args.self.half + c.args.self.half) ≤ c.args.lens)) = let a = c.args in
-    let s : c.args.self.side ≤ 2048 = c.if-self-gt2048.false in
-    let g : c.args.self.gw ≤ 2048 = omega (arith, c.if-self.false) in
-    (mul-le-mul s g, leb-true (0 + c.args.self.heads * (c.args.self.half + c.args.self.half)) c.args.lens (sym c.rows_inside.ensures ∙ c.if-rows_inside.true)) in
-    omega (arith, held)
-
 pub returns-then-rows_inside : goal.returns-then-rows_inside
 unfolding places_fit
 returns-then-rows_inside c =

@@ -21,23 +21,6 @@ pub loop-i-init : goal.loop-i-init
 unfolding put rows
 loop-i-init c = search rules
 
-pub overflow_mul-p : goal.overflow_mul-p
-overflow_mul-p c =
-    let inside : position c.args.self.gw c.args.self.side c.loop-i.i < c.args.self.side * c.args.self.side = position-lt c.loop-i.i c.args.self.gw c.args.self.side c.requires.places.some c.requires.places.wide (omega arith) in
-    let squared : c.args.self.side * c.args.self.side ≤ 4194304 = let h = c.requires.places.tables in mul-le-mul h h in
-    omega (arith, inside, squared)
-
-pub overflow_add-p : goal.overflow_add-p
-overflow_add-p c =
-    let inside : position c.args.self.gw c.args.self.side c.loop-i.i < c.args.self.side * c.args.self.side = position-lt c.loop-i.i c.args.self.gw c.args.self.side c.requires.places.some c.requires.places.wide (omega arith) in
-    let squared : c.args.self.side * c.args.self.side ≤ 4194304 = let h = c.requires.places.tables in mul-le-mul h h in
-    omega (arith, inside, squared)
-
-pub overflow_mul-p-in-loop-i : goal.overflow_mul-p-in-loop-i
-overflow_mul-p-in-loop-i c =
-    let inside : position c.args.self.gw c.args.self.side c.loop-i.i < c.args.self.side * c.args.self.side = position-lt c.loop-i.i c.args.self.gw c.args.self.side c.requires.places.some c.requires.places.wide (omega arith) in
-    omega (arith, fit (c.args.self.half + c.args.self.half) (inside))
-
 pub rotate_token-requires : goal.rotate_token-requires
 rotate_token-requires c =
     let inside : position c.args.self.gw c.args.self.side c.loop-i.i < c.args.self.side * c.args.self.side = let g = c.requires.places in position-lt c.loop-i.i c.args.self.gw c.args.self.side c.requires.places.some c.requires.places.wide (omega arith) in
@@ -50,9 +33,6 @@ rotate_token-requires c =
       cin = ap length c.part.ensures ∙ length-region c.args.cos.now p hd (omega arith);
       sin' = ap length c.part-in-loop-i.ensures ∙ length-region c.args.sin.now p hd (omega arith);
     }
-
-pub overflow_add-xa : goal.overflow_add-xa
-overflow_add-xa c = omega (arith, fit (c.args.self.heads * (c.args.self.half + c.args.self.half)) c.loop-i-test.true)
 
 pub loop-i-preserved : goal.loop-i-preserved
 loop-i-preserved c =

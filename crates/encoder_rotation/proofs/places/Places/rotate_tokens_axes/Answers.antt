@@ -16,26 +16,9 @@ use Rattle.encoder_rotation.specs.Axes.{expand}
 use Rattle.encoder_rotation.proofs.Expanded.{row_lt, column-lt, axes-step}
 use Rattle.encoder_rotation.proofs.places.Places.rotate_tokens_axes.Goals as goal
 
-pub overflow_mul-dim : goal.overflow_mul-dim
-overflow_mul-dim c = omega (arith, c.requires.places.dimin)
-
 pub loop-i-init : goal.loop-i-init
 unfolding put rows
 loop-i-init c = search rules
-
-pub overflow_mul-h : goal.overflow_mul-h
-overflow_mul-h c =
-    let inside : (let a = c.args in let i = c.loop-i.i in (i / c.args.self.gw < c.args.self.side) × (i % c.args.self.gw < c.args.self.side)) = let a = c.args in
-    (row_lt c.loop-i.i c.args.self.gw c.args.self.side c.requires.places.some (omega (arith, c.requires.places.high, c.loop-i-test.true)), column-lt c.loop-i.i c.args.self.gw c.args.self.side c.requires.places.some c.requires.places.wide) in
-    let short : (let a = c.args in let i = c.loop-i.i in (i / c.args.self.gw * c.args.q + c.args.q ≤ c.args.self.side * c.args.q) × (i % c.args.self.gw * c.args.q + c.args.q ≤ c.args.self.side * c.args.q)) = let q = c.args.q in (fit q inside.0, fit q inside.1) in
-    omega (arith, short, c.requires.rows-cos)
-
-pub overflow_mul-w : goal.overflow_mul-w
-overflow_mul-w c =
-    let inside : (let a = c.args in let i = c.loop-i.i in (i / c.args.self.gw < c.args.self.side) × (i % c.args.self.gw < c.args.self.side)) = let a = c.args in
-    (row_lt c.loop-i.i c.args.self.gw c.args.self.side c.requires.places.some (omega (arith, c.requires.places.high, c.loop-i-test.true)), column-lt c.loop-i.i c.args.self.gw c.args.self.side c.requires.places.some c.requires.places.wide) in
-    let short : (let a = c.args in let i = c.loop-i.i in (i / c.args.self.gw * c.args.q + c.args.q ≤ c.args.self.side * c.args.q) × (i % c.args.self.gw * c.args.q + c.args.q ≤ c.args.self.side * c.args.q)) = let q = c.args.q in (fit q inside.0, fit q inside.1) in
-    omega (arith, short, c.requires.rows-cos)
 
 pub rotate_token_axes-requires : goal.rotate_token_axes-requires
 rotate_token_axes-requires c =
@@ -56,9 +39,6 @@ rotate_token_axes-requires c =
       columns-cos = ap length c.part-in-loop-i-2.ensures ∙ length-region c.args.column_cos.now (i % c.args.self.gw * c.args.q) c.args.q (omega (arith, p, c.requires.columns-cos));
       columns-sin = ap length c.part-in-loop-i-3.ensures ∙ length-region c.args.column_sin.now (i % c.args.self.gw * c.args.q) c.args.q (omega (arith, p, c.requires.columns-sin));
     }
-
-pub overflow_add-xa : goal.overflow_add-xa
-overflow_add-xa c = omega (arith, fit (c.args.self.heads * (c.args.q + c.args.q + (c.args.q + c.args.q))) c.loop-i-test.true, c.requires.places.xin)
 
 pub loop-i-preserved : goal.loop-i-preserved
 loop-i-preserved c =
