@@ -3,3 +3,4 @@ pub mod Lanes
 pub mod Room
 pub mod Weighed
 pub mod Strip
+pub mod Values

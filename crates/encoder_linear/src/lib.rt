@@ -9,4 +9,5 @@ pub mod linear;
 pub mod pair;
 mod room;
 mod strip;
+mod values;
 pub mod weigh;

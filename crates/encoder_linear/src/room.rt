@@ -1,7 +1,9 @@
 // Whether what a sum is handed fits. No test forms a number that could wrap.
 ghost use Rattle.std.specs.Prelude.{◌≡◌};
-ghost use Rattle.encoder_linear.specs.inner.Room.{linear_fits, bias_fits, from_fits, weigh_fits, weigh_pair_fits};
+ghost use Rattle.encoder_linear.specs.inner.Room.{linear_fits, bias_fits, from_fits};
+ghost use Rattle.encoder_linear.specs.inner.Room as R;
 
+use crate::values::Values;
 use buffers::room::{aside, inside, rows_inside};
 
 pub(crate) fn linear_fits(
@@ -51,39 +53,24 @@ pub(crate) fn from_fits(
     rows & rows_inside(lenw, 0, nout, nin)
 }
 
-pub(crate) fn weigh_fits(
-    len: usize,
-    row: usize,
-    v: usize,
-    out: usize,
-    t: usize,
-    dim: usize,
-    hd: usize,
-    o: usize,
-) -> bool
-    ensures { result ≡ weigh_fits len row v out t dim hd o }
-{
-    if inside(dim, o, hd) & rows_inside(len, v, t, dim) {
-        let held = inside(len, row, t) & inside(len, out, hd);
-        return held & (aside(row, t, out, hd) & aside(v, t * dim, out, hd));
+impl Values {
+    pub(crate) fn weigh_fits(self, len: usize, row: usize, out: usize) -> bool
+        ensures { result ≡ R.weigh_fits len row self.v out self.t self.dim self.hd self.o }
+    {
+        if inside(self.dim, self.o, self.hd) & rows_inside(len, self.v, self.t, self.dim) {
+            let held = inside(len, row, self.t) & inside(len, out, self.hd);
+            return held
+                & (aside(row, self.t, out, self.hd)
+                    & aside(self.v, self.t * self.dim, out, self.hd));
+        }
+        false
     }
-    false
-}
 
-pub(crate) fn weigh_pair_fits(
-    len: usize,
-    a: usize,
-    b: usize,
-    v: usize,
-    x: usize,
-    y: usize,
-    t: usize,
-    dim: usize,
-    hd: usize,
-    o: usize,
-) -> bool
-    ensures { result ≡ weigh_pair_fits len a b v x y t dim hd o }
-{
-    let each = weigh_fits(len, a, v, x, t, dim, hd, o) & weigh_fits(len, b, v, y, t, dim, hd, o);
-    each & ((aside(a, t, y, hd) & aside(b, t, x, hd)) & aside(x, hd, y, hd))
+    pub(crate) fn weigh_pair_fits(self, len: usize, a: usize, b: usize, x: usize, y: usize) -> bool
+        ensures { result ≡ R.weigh_pair_fits len a b self.v x y self.t self.dim self.hd self.o }
+    {
+        let each = self.weigh_fits(len, a, x) & self.weigh_fits(len, b, y);
+        each & ((aside(a, self.t, y, self.hd) & aside(b, self.t, x, self.hd))
+            & aside(x, self.hd, y, self.hd))
+    }
 }

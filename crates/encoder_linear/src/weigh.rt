@@ -5,10 +5,10 @@ ghost use Rattle.buffers.specs.Region.{region, put};
 ghost use Rattle.buffers.specs.inner.Room.{where_fits};
 ghost use Rattle.encoder_linear.specs.Linear.{column_of, weighed_row};
 ghost use Rattle.encoder_linear.specs.inner.Room.{weigh_fits};
-ghost use Rattle.encoder_linear.specs.inner.Fits.{WeighFits};
+ghost use Rattle.encoder_linear.specs.inner.Values as P;
 
 use crate::lanes::{add_products, copy_spread};
-use crate::room::weigh_fits;
+use crate::values::Values;
 use buffers::part;
 
 // The weighted sum of the values at place o of each row of dim.
@@ -41,66 +41,56 @@ pub(crate) fn wide(p: &[f32], v: &[f32], o: usize, dim: usize) -> [f32; 16]
     b
 }
 
-// The sums of a head, sixteen by sixteen while there are as many; how many were written.
-pub(crate) fn weigh_wide(
-    s: &mut [f32],
-    row: usize,
-    v: usize,
-    out: usize,
-    t: usize,
-    dim: usize,
-    hd: usize,
-    o: usize,
-) -> usize
-    requires { WeighFits (length s.old) row v out t dim hd o }
-    ensures { (result ≤ hd) × (s.new ≡ put s.old out (weighed_row t dim result o (region s.old row t) (region s.old v (t * dim)))) }
-{
-    let n = t * dim;
-    let turns = hd / 16;
-    for k in 0..turns {
-        let d = k * 16;
-        let b = wide(part(s, row, t), part(s, v, n), o + d, dim);
-        copy_spread(s, out + d, 1, &b, 0, 1, 16);
+impl Values {
+    // The sums of a head, sixteen by sixteen while there are as many; how many were written.
+    pub(crate) fn weigh_wide(self, s: &mut [f32], row: usize, out: usize) -> usize
+        requires { P.WeighFits (length s.old) self row out }
+        ensures { (result ≤ self.hd) × (s.new ≡ put s.old out (P.sums self s.old row result)) }
+    {
+        let n = self.t * self.dim;
+        let turns = self.hd / 16;
+        for k in 0..turns {
+            let d = k * 16;
+            let b = wide(
+                part(s, row, self.t),
+                part(s, self.v, n),
+                self.o + d,
+                self.dim,
+            );
+            copy_spread(s, out + d, 1, &b, 0, 1, 16);
+        }
+        turns * 16
     }
-    turns * 16
-}
 
-// The sums of a head, one after another.
-pub(crate) fn weigh_rest(
-    s: &mut [f32],
-    row: usize,
-    v: usize,
-    out: usize,
-    t: usize,
-    dim: usize,
-    hd: usize,
-    o: usize,
-)
-    requires { WeighFits (length s.old) row v out t dim hd o }
-    ensures { s.new ≡ put s.old out (weighed_row t dim hd o (region s.old row t) (region s.old v (t * dim))) }
-{
-    let n = t * dim;
-    for d in 0..hd {
-        let x = column(part(s, row, t), part(s, v, n), o + d, dim);
-        s[out + d] = x;
+    // The sums of a head, one after another.
+    pub(crate) fn weigh_rest(self, s: &mut [f32], row: usize, out: usize)
+        requires { P.WeighFits (length s.old) self row out }
+        ensures { s.new ≡ put s.old out (P.sums self s.old row self.hd) }
+    {
+        let n = self.t * self.dim;
+        for d in 0..self.hd {
+            let x = column(
+                part(s, row, self.t),
+                part(s, self.v, n),
+                self.o + d,
+                self.dim,
+            );
+            s[out + d] = x;
+        }
     }
-}
 
-pub(crate) fn weigh_all(
-    s: &mut [f32],
-    row: usize,
-    v: usize,
-    out: usize,
-    t: usize,
-    dim: usize,
-    hd: usize,
-    o: usize,
-)
-    requires { WeighFits (length s.old) row v out t dim hd o }
-    ensures { s.new ≡ put s.old out (weighed_row t dim hd o (region s.old row t) (region s.old v (t * dim))) }
-{
-    let d = weigh_wide(s, row, v, out, t, dim, hd, o);
-    weigh_rest(s, row, v, out + d, t, dim, hd - d, o + d);
+    pub(crate) fn weigh_all(self, s: &mut [f32], row: usize, out: usize)
+        requires { P.WeighFits (length s.old) self row out }
+        ensures { s.new ≡ put s.old out (P.sums self s.old row self.hd) }
+    {
+        let d = self.weigh_wide(s, row, out);
+        let rest = Values {
+            hd: self.hd - d,
+            o: self.o + d,
+            ..self
+        };
+        rest.weigh_rest(s, row, out + d);
+    }
 }
 
 // The t weights at row by the t rows of dim at v: the sums at the hd places from o on, written at out.
@@ -117,7 +107,8 @@ pub fn weigh(
     ensures { s.new ≡ where_fits (weigh_fits (length s.old) row v out t dim hd o)
         s.old out (weighed_row t dim hd o (region s.old row t) (region s.old v (t * dim))) }
 {
-    if weigh_fits(s.len(), row, v, out, t, dim, hd, o) {
-        weigh_all(s, row, v, out, t, dim, hd, o);
+    let values = Values { v, t, dim, hd, o };
+    if values.weigh_fits(s.len(), row, out) {
+        values.weigh_all(s, row, out);
     }
 }

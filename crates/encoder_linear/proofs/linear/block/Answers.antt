@@ -17,9 +17,11 @@ pub loop-i-init : goal.loop-i-init
 loop-i-init c =
     let u = c.clear_at.new.s in
     let X = region c.args.x.now c.args.xa (c.args.r * c.args.nin) in
-    let z : 0 ≡ min (0 * 1024) c.args.nin = omega arith in
-    (refl, cleared-start c.args.r c.args.nin c.args.nout c.args.w.now c.args.s.now u X c.args.y (written c.args.s.now _ _ c.args.y (c.args.r * c.args.nout) c.requires.yin c.clear_at.ensures)
-        ∙ ap (λ k. put u c.args.y (begun k c.args.r c.args.nin c.args.nout c.args.w.now X)) z)
+    let z : 0 ≡ min (0 * 1024) c.args.nin = omega arith in (
+      refl,
+      cleared-start c.args.r c.args.nin c.args.nout c.args.w.now c.args.s.now u X c.args.y (written c.args.s.now _ _ c.args.y (c.args.r * c.args.nout) c.requires.yin c.clear_at.ensures)
+          ∙ ap (λ k. put u c.args.y (begun k c.args.r c.args.nin c.args.nout c.args.w.now X)) z,
+    )
 
 pub piece-requires : goal.piece-requires
 piece-requires c =

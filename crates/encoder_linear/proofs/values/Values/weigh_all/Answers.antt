@@ -1,4 +1,4 @@
--- `encoder_linear::weigh::weigh_all` meets its contract: the sums sixteen by sixteen, and the rest behind them. Assumes nothing.
+-- `encoder_linear::values::Values::weigh_all` meets its contract: the sums sixteen by sixteen, and the rest behind them. Assumes nothing.
 use Prim.Native.Nat.{ℕ, ◌+◌, ◌*◌, ◌-◌, ◌≤◌}
 use native.Mathlib.Omega.{arith}
 use mathlib.Core.Path.{◌≡◌, refl, ap, ◌∙◌}
@@ -12,7 +12,7 @@ use Rattle.encoder_linear.specs.Linear.{weighed_row}
 use Rattle.encoder_linear.proofs.Sums.{length-weighed}
 use Rattle.encoder_linear.proofs.Rooms.{rest-fits}
 use Rattle.encoder_linear.proofs.Columns.{weighed-add}
-use Rattle.encoder_linear.proofs.weigh.weigh_all.Goals as goal
+use Rattle.encoder_linear.proofs.values.Values.weigh_all.Goals as goal
 
 -- the first d sums, and the others behind them, read past the first
 both : (s u z : List Float) (row v out t dim hd o d : ℕ) → WeighFits (length s) row v out t dim hd o → d ≤ hd
@@ -35,4 +35,4 @@ weigh_rest-requires c = rw c.weigh_wide-d.auto.s (rest-fits c.weigh_wide-d.resul
 
 pub returns : goal.returns
 returns c =
-    both c.args.s.now c.weigh_wide-d.new.s _ c.args.row c.args.v c.args.out c.args.t c.args.dim c.args.hd c.args.o c.weigh_wide-d.result c.requires c.weigh_wide-d.ensures.0 c.weigh_wide-d.ensures.1 c.weigh_rest.ensures
+    both c.args.s.now c.weigh_wide-d.new.s _ c.args.row c.args.self.v c.args.out c.args.self.t c.args.self.dim c.args.self.hd c.args.self.o c.weigh_wide-d.result c.requires c.weigh_wide-d.ensures.0 c.weigh_wide-d.ensures.1 c.weigh_rest.ensures

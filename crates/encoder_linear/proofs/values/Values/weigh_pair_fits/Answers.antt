@@ -1,6 +1,6 @@
--- `encoder_linear::room::weigh_pair_fits` meets its contract. Assumes nothing.
+-- `encoder_linear::values::Values::weigh_pair_fits` meets its contract. Assumes nothing.
 use Rattle.encoder_linear.specs.inner.Room.{weigh_pair_fits}
-use Rattle.encoder_linear.proofs.room.weigh_pair_fits.Goals as goal
+use Rattle.encoder_linear.proofs.values.Values.weigh_pair_fits.Goals as goal
 
 pub returns : goal.returns
 unfolding weigh_pair_fits

@@ -1,4 +1,4 @@
--- `encoder_linear::weigh::weigh_wide` meets its contract: sixteen sums more, read past those before them. Assumes nothing.
+-- `encoder_linear::values::Values::weigh_wide` meets its contract: sixteen sums more, read past those before them. Assumes nothing.
 use borrow.Author.Rules.{rules}
 use Prim.Native.Nat.{ℕ, ◌+◌, ◌*◌, ◌≤◌}
 use native.Mathlib.Omega.{arith}
@@ -16,7 +16,7 @@ use Rattle.encoder_linear.specs.Linear.{column_of, weighed_row}
 use Rattle.encoder_linear.proofs.Fills.{spread-one}
 use Rattle.encoder_linear.proofs.Columns.{lanes_put}
 use lib.ListN.{length, get_or}
-use Rattle.encoder_linear.proofs.weigh.weigh_wide.Goals as goal
+use Rattle.encoder_linear.proofs.values.Values.weigh_wide.Goals as goal
 
 -- sixteen sums stored, read past the stores before them
 step : (s b : List Float) (row v out t dim hd o d : ℕ) → WeighFits (length s) row v out t dim hd o → d + 16 ≤ hd
@@ -51,8 +51,8 @@ loop-k-init c = search rules
 pub wide-b-requires : goal.wide-b-requires
 wide-b-requires c =
     let u = c.loop-k.s in
-    let e : length c.part.result.now ≡ c.args.t = ap length c.part.ensures ∙ length-region u c.args.row c.args.t (omega arith) in
-    (ap length c.part-in-loop-k.ensures ∙ length-region u c.args.v (c.args.t * c.args.dim) (omega arith) ∙ ap (λ m. m * c.args.dim) (sym e), omega arith)
+    let e : length c.part.result.now ≡ c.args.self.t = ap length c.part.ensures ∙ length-region u c.args.row c.args.self.t (omega arith) in
+    (ap length c.part-in-loop-k.ensures ∙ length-region u c.args.self.v (c.args.self.t * c.args.self.dim) (omega arith) ∙ ap (λ m. m * c.args.self.dim) (sym e), omega arith)
 
 pub copy_spread-requires : goal.copy_spread-requires
 copy_spread-requires c = record {
@@ -62,11 +62,11 @@ copy_spread-requires c = record {
 
 pub loop-k-preserved : goal.loop-k-preserved
 loop-k-preserved c =
-    let e : length c.part.result.now ≡ c.args.t = ap length c.part.ensures ∙ length-region c.loop-k.s c.args.row c.args.t (omega arith) in
+    let e : length c.part.result.now ≡ c.args.self.t = ap length c.part.ensures ∙ length-region c.loop-k.s c.args.row c.args.self.t (omega arith) in
     let x = c.copy_spread.ensures in (
       ap length x ∙ ap length (spread-one _ _ _ _) ∙ length-put _ _ _ ∙ c.loop-k.invariant.0,
-      turn c.args.s.now c.loop-k.s _ c.wide-b.result c.part.result.now c.part-in-loop-k.result.now c.args.row c.args.v c.args.out c.args.t c.args.dim c.args.hd c.args.o (c.loop-k.k * 16) c.requires (omega arith) c.loop-k.invariant.1 c.part.ensures c.part-in-loop-k.ensures e c.wide-b.ensures x
-          ∙ ap (λ j. put c.args.s.now c.args.out (weighed_row c.args.t c.args.dim j c.args.o (region c.args.s.now c.args.row c.args.t) (region c.args.s.now c.args.v (c.args.t * c.args.dim)))) (omega arith),
+      turn c.args.s.now c.loop-k.s _ c.wide-b.result c.part.result.now c.part-in-loop-k.result.now c.args.row c.args.self.v c.args.out c.args.self.t c.args.self.dim c.args.self.hd c.args.self.o (c.loop-k.k * 16) c.requires (omega arith) c.loop-k.invariant.1 c.part.ensures c.part-in-loop-k.ensures e c.wide-b.ensures x
+          ∙ ap (λ j. put c.args.s.now c.args.out (weighed_row c.args.self.t c.args.self.dim j c.args.self.o (region c.args.s.now c.args.row c.args.self.t) (region c.args.s.now c.args.self.v (c.args.self.t * c.args.self.dim)))) (omega arith),
     )
 
 pub shape_of-s : goal.shape_of-s
@@ -74,4 +74,4 @@ shape_of-s c = c.loop-k.invariant.0
 
 pub returns : goal.returns
 returns c =
-    (omega arith, c.loop-k.invariant.1 ∙ ap (λ j. put c.args.s.now c.args.out (weighed_row c.args.t c.args.dim (j * 16) c.args.o (region c.args.s.now c.args.row c.args.t) (region c.args.s.now c.args.v (c.args.t * c.args.dim)))) (omega arith))
+    (omega arith, c.loop-k.invariant.1 ∙ ap (λ j. put c.args.s.now c.args.out (weighed_row c.args.self.t c.args.self.dim (j * 16) c.args.self.o (region c.args.s.now c.args.row c.args.self.t) (region c.args.s.now c.args.self.v (c.args.self.t * c.args.self.dim)))) (omega arith))

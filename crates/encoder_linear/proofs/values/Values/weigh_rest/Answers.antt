@@ -1,4 +1,4 @@
--- `encoder_linear::weigh::weigh_rest` meets its contract. Assumes nothing.
+-- `encoder_linear::values::Values::weigh_rest` meets its contract. Assumes nothing.
 use mathlib.Core.Path.{◌≡◌, sym, ap, ◌∙◌}
 use mathlib.Core.List.{List}
 use Prim.Native.Nat.{ℕ, ◌+◌, ◌*◌, ◌<◌}
@@ -12,7 +12,7 @@ use Rattle.buffers.specs.Region.{region, put}
 use Rattle.buffers.specs.Rows.{tab}
 use Rattle.encoder_linear.specs.inner.Fits.{WeighFits}
 use Rattle.encoder_linear.specs.Linear.{column_of, weighed_row}
-use Rattle.encoder_linear.proofs.weigh.weigh_rest.Goals as goal
+use Rattle.encoder_linear.proofs.values.Values.weigh_rest.Goals as goal
 
 -- a store of one sum, read past the stores before it
 step : (s : List Float) (row v out t dim hd o : ℕ) (d : ℕ) → WeighFits (length s) row v out t dim hd o → d < hd
@@ -35,15 +35,15 @@ loop-d-init c = search rules
 
 pub column-x-requires : goal.column-x-requires
 column-x-requires c =
-    let e : length c.part.result.now ≡ c.args.t = ap length c.part.ensures ∙ length-region c.loop-d.s c.args.row c.args.t (omega arith) in
-    (ap length c.part-in-loop-d.ensures ∙ length-region c.loop-d.s c.args.v (c.args.t * c.args.dim) (omega arith) ∙ ap (λ m. m * c.args.dim) (sym e), omega arith)
+    let e : length c.part.result.now ≡ c.args.self.t = ap length c.part.ensures ∙ length-region c.loop-d.s c.args.row c.args.self.t (omega arith) in
+    (ap length c.part-in-loop-d.ensures ∙ length-region c.loop-d.s c.args.self.v (c.args.self.t * c.args.self.dim) (omega arith) ∙ ap (λ m. m * c.args.self.dim) (sym e), omega arith)
 
 pub loop-d-preserved : goal.loop-d-preserved
 loop-d-preserved c =
-    let e : length c.part.result.now ≡ c.args.t = ap length c.part.ensures ∙ length-region c.loop-d.s c.args.row c.args.t (omega arith) in (
+    let e : length c.part.result.now ≡ c.args.self.t = ap length c.part.ensures ∙ length-region c.loop-d.s c.args.row c.args.self.t (omega arith) in (
       omega arith,
       simp length-set c.loop-d.invariant.1,
-      cc (c.column-x.ensures, e, c.part.ensures, c.part-in-loop-d.ensures, c.loop-d.invariant.2, step c.args.s.now c.args.row c.args.v c.args.out c.args.t c.args.dim c.args.hd c.args.o c.loop-d.d c.requires (omega arith)),
+      cc (c.column-x.ensures, e, c.part.ensures, c.part-in-loop-d.ensures, c.loop-d.invariant.2, step c.args.s.now c.args.row c.args.self.v c.args.out c.args.self.t c.args.self.dim c.args.self.hd c.args.self.o c.loop-d.d c.requires (omega arith)),
     )
 
 pub shape_of-s : goal.shape_of-s
@@ -51,4 +51,4 @@ shape_of-s c = c.loop-d.invariant.1
 
 pub returns : goal.returns
 returns c =
-    c.loop-d.invariant.2 ∙ ap (λ n. put c.args.s.now c.args.out (weighed_row c.args.t c.args.dim n c.args.o (region c.args.s.now c.args.row c.args.t) (region c.args.s.now c.args.v (c.args.t * c.args.dim)))) (omega arith)
+    c.loop-d.invariant.2 ∙ ap (λ n. put c.args.s.now c.args.out (weighed_row c.args.self.t c.args.self.dim n c.args.self.o (region c.args.s.now c.args.row c.args.self.t) (region c.args.s.now c.args.self.v (c.args.self.t * c.args.self.dim)))) (omega arith)

@@ -1,4 +1,4 @@
--- `encoder_linear::pair::pair_thirty_two` meets its contract: all is read before a sum is written. Assumes nothing.
+-- `encoder_linear::values::Values::pair_thirty_two` meets its contract: all is read before a sum is written. Assumes nothing.
 use Prim.Native.Nat.{◌*◌}
 use native.Mathlib.Omega.{arith}
 use mathlib.Core.Path.{◌≡◌, sym, ap, ◌∙◌}
@@ -6,24 +6,15 @@ use lib.ListN.{length}
 use Rattle.buffers.proofs.Lists.{length-tab}
 use Rattle.buffers.proofs.Regions.{length-region}
 use Rattle.encoder_linear.proofs.Pairs.{thirty-two-is}
-use Rattle.encoder_linear.proofs.pair.pair_thirty_two.Goals as goal
-
-pub overflow_mul-n : goal.overflow_mul-n
-overflow_mul-n c = omega (arith, c.requires.first.v_in)
-
-pub overflow_add-after : goal.overflow_add-after
-overflow_add-after c = omega (arith, c.requires.first.out_in)
-
-pub overflow_add-next : goal.overflow_add-next
-overflow_add-next c = omega (arith, c.requires.second.out_in)
+use Rattle.encoder_linear.proofs.values.Values.pair_thirty_two.Goals as goal
 
 pub wider_pair-both-requires : goal.wider_pair-both-requires
 wider_pair-both-requires c =
-    let e : length c.part.result.now ≡ c.args.t = ap length c.part.ensures ∙ length-region c.args.s.now c.args.a c.args.t c.requires.first.row_in in
-    let f : length c.part-2.result.now ≡ c.args.t = ap length c.part-2.ensures ∙ length-region c.args.s.now c.args.b c.args.t c.requires.second.row_in in
+    let e : length c.part.result.now ≡ c.args.self.t = ap length c.part.ensures ∙ length-region c.args.s.now c.args.a c.args.self.t c.requires.first.row_in in
+    let f : length c.part-2.result.now ≡ c.args.self.t = ap length c.part-2.ensures ∙ length-region c.args.s.now c.args.b c.args.self.t c.requires.second.row_in in
     record {
       same = f ∙ sym e;
-      v_is = ap length c.part-3.ensures ∙ length-region c.args.s.now c.args.v (c.args.t * c.args.dim) c.requires.first.v_in ∙ ap (λ m. m * c.args.dim) (sym e);
+      v_is = ap length c.part-3.ensures ∙ length-region c.args.s.now c.args.self.v (c.args.self.t * c.args.self.dim) c.requires.first.v_in ∙ ap (λ m. m * c.args.self.dim) (sym e);
       places = c.requires.first.o_in;
     }
 
@@ -41,7 +32,7 @@ put_lanes-requires-4 c = (ap length c.wider_pair-both.ensures.3 ∙ length-tab 1
 
 pub returns : goal.returns
 returns c =
-    let e : length c.part.result.now ≡ c.args.t = ap length c.part.ensures ∙ length-region c.args.s.now c.args.a c.args.t c.requires.first.row_in in
-    thirty-two-is c.args.s.now c.part.result.now c.part-2.result.now c.part-3.result.now c.args.a c.args.b c.args.v c.args.x c.args.y c.args.t c.args.dim c.args.o c.part.ensures c.part-2.ensures c.part-3.ensures e
+    let e : length c.part.result.now ≡ c.args.self.t = ap length c.part.ensures ∙ length-region c.args.s.now c.args.a c.args.self.t c.requires.first.row_in in
+    thirty-two-is c.args.s.now c.part.result.now c.part-2.result.now c.part-3.result.now c.args.a c.args.b c.args.self.v c.args.x c.args.y c.args.self.t c.args.self.dim c.args.self.o c.part.ensures c.part-2.ensures c.part-3.ensures e
     c.put_lanes.new.s c.put_lanes-2.new.s c.put_lanes-3.new.s c.put_lanes-4.new.s c.wider_pair-both.result.first c.wider_pair-both.result.second c.wider_pair-both.result.third c.wider_pair-both.result.fourth c.wider_pair-both.ensures.0 c.wider_pair-both.ensures.1 c.wider_pair-both.ensures.2 c.wider_pair-both.ensures.3
     c.put_lanes.ensures c.put_lanes-2.ensures c.put_lanes-3.ensures c.put_lanes-4.ensures
