@@ -35,36 +35,6 @@ pub loop-d-init : goal.loop-d-init
 unfolding spread
 loop-d-init c = (omega arith, refl, refl)
 
-pub overflow_mul-s : goal.overflow_mul-s
-overflow_mul-s c = omega (arith, spots c.args.t c.args.dim c.args.j c.loop-d.d c.requires.token c.loop-d-test.true, c.requires.fits)
-
-pub overflow_add-s : goal.overflow_add-s
-overflow_add-s c = omega (arith, spots c.args.t c.args.dim c.args.j c.loop-d.d c.requires.token c.loop-d-test.true, c.requires.fits)
-
-pub overflow_add-s-in-loop-d : goal.overflow_add-s-in-loop-d
-overflow_add-s-in-loop-d c = omega (arith, spots c.args.t c.args.dim c.args.j c.loop-d.d c.requires.token c.loop-d-test.true, c.requires.fits)
-
-pub offset_bounds-s-k : goal.offset_bounds-s-k
-offset_bounds-s-k c = omega (arith, spots c.args.t c.args.dim c.args.j c.loop-d.d c.requires.token c.loop-d-test.true, c.requires.fits)
-
-pub bounds-s-k : goal.bounds-s-k
-bounds-s-k c = omega (arith, spots c.args.t c.args.dim c.args.j c.loop-d.d c.requires.token c.loop-d-test.true, c.requires.fits)
-
-pub overflow_add-s-in-loop-d-2 : goal.overflow_add-s-in-loop-d-2
-overflow_add-s-in-loop-d-2 c = omega (arith, spots c.args.t c.args.dim c.args.j c.loop-d.d c.requires.token c.loop-d-test.true, c.requires.fits)
-
-pub overflow_mul-s-in-loop-d : goal.overflow_mul-s-in-loop-d
-overflow_mul-s-in-loop-d c = omega (arith, spots c.args.t c.args.dim c.args.j c.loop-d.d c.requires.token c.loop-d-test.true, c.requires.fits)
-
-pub overflow_add-s-in-loop-d-3 : goal.overflow_add-s-in-loop-d-3
-overflow_add-s-in-loop-d-3 c = omega (arith, spots c.args.t c.args.dim c.args.j c.loop-d.d c.requires.token c.loop-d-test.true, c.requires.fits)
-
-pub offset_bounds-s-kt : goal.offset_bounds-s-kt
-offset_bounds-s-kt c = omega (arith, spots c.args.t c.args.dim c.args.j c.loop-d.d c.requires.token c.loop-d-test.true, c.requires.fits)
-
-pub bounds-s-kt : goal.bounds-s-kt
-bounds-s-kt c = omega (arith, spots c.args.t c.args.dim c.args.j c.loop-d.d c.requires.token c.loop-d-test.true, c.requires.fits)
-
 pub loop-d-preserved : goal.loop-d-preserved
 loop-d-preserved c =
     (omega arith, length-set c.loop-d.s _ _ ∙ c.loop-d.invariant.1, step c.args.s.now c.loop-d.s c.args.k c.args.kt c.args.t c.args.dim c.args.j c.loop-d.d c.requires c.loop-d-test.true c.loop-d.invariant.2)

@@ -23,24 +23,6 @@ pub loop-d-init : goal.loop-d-init
 unfolding put tab
 loop-d-init c = (omega arith, refl, refl)
 
-pub overflow_add-s : goal.overflow_add-s
-overflow_add-s c = omega (arith, c.requires.x_in, c.requires.y_in)
-
-pub offset_bounds-s-x : goal.offset_bounds-s-x
-offset_bounds-s-x c = omega (arith, c.requires.x_in, c.requires.y_in)
-
-pub bounds-s-x : goal.bounds-s-x
-bounds-s-x c = omega (arith, c.requires.x_in, c.requires.y_in)
-
-pub overflow_add-s-in-loop-d : goal.overflow_add-s-in-loop-d
-overflow_add-s-in-loop-d c = omega (arith, c.requires.x_in, c.requires.y_in)
-
-pub offset_bounds-s-y : goal.offset_bounds-s-y
-offset_bounds-s-y c = omega (arith, c.requires.x_in, c.requires.y_in)
-
-pub bounds-s-y : goal.bounds-s-y
-bounds-s-y c = omega (arith, c.requires.x_in, c.requires.y_in)
-
 pub loop-d-preserved : goal.loop-d-preserved
 loop-d-preserved c =
     (omega arith, length-set c.loop-d.s _ _ ∙ c.loop-d.invariant.1, step c.args.s.now c.loop-d.s c.args.x c.args.y c.args.n c.loop-d.d c.requires c.loop-d-test.true c.loop-d.invariant.2)

@@ -40,21 +40,6 @@ pub loop-j-init : goal.loop-j-init
 unfolding put rows
 loop-j-init c = (omega arith, refl, refl)
 
-pub overflow_mul-j : goal.overflow_mul-j
-overflow_mul-j c = let w = row_fits c.loop-j.j c.requires c.loop-j-test.true in omega (arith, w.x_in, w.y_in, c.requires.v_in)
-
-pub overflow_add-j : goal.overflow_add-j
-overflow_add-j c = let w = row_fits c.loop-j.j c.requires c.loop-j-test.true in omega (arith, w.x_in, w.y_in, c.requires.v_in)
-
-pub overflow_add-v : goal.overflow_add-v
-overflow_add-v c = let w = row_fits c.loop-j.j c.requires c.loop-j-test.true in omega (arith, w.x_in, w.y_in, c.requires.v_in)
-
-pub overflow_mul-j-in-loop-j : goal.overflow_mul-j-in-loop-j
-overflow_mul-j-in-loop-j c = let w = row_fits c.loop-j.j c.requires c.loop-j-test.true in omega (arith, w.x_in, w.y_in, c.requires.v_in)
-
-pub overflow_add-g : goal.overflow_add-g
-overflow_add-g c = let w = row_fits c.loop-j.j c.requires c.loop-j-test.true in omega (arith, w.x_in, w.y_in, c.requires.v_in)
-
 pub copy_floats-requires : goal.copy_floats-requires
 copy_floats-requires c =
     rw c.loop-j.invariant.1 (row_fits c.loop-j.j c.requires c.loop-j-test.true)

@@ -8,9 +8,6 @@ use Rattle.encoder_softmax.proofs.Lengths.{length-softmax}
 use Rattle.encoder_attention.proofs.Pairs.{rows-each}
 use Rattle.encoder_attention.proofs.pair.softmax_pair.Goals as goal
 
-pub overflow_add-row : goal.overflow_add-row
-overflow_add-row c = omega (arith, c.requires)
-
 pub shape_of-s : goal.shape_of-s
 shape_of-s c = c.softmax-2.auto.s ∙ c.softmax.auto.s
 

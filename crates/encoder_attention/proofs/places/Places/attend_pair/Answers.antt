@@ -45,9 +45,6 @@ scores_pair-requires c = scores-fit c.requires
 pub softmax_pair-requires : goal.softmax_pair-requires
 softmax_pair-requires c = omega (arith, c.scores_pair.auto.s, c.requires.queries.rows_in)
 
-pub overflow_add-there : goal.overflow_add-there
-overflow_add-there c = omega (arith, places c.requires)
-
 pub shape_of-s : goal.shape_of-s
 shape_of-s c = c.weigh_pair.auto.s ∙ c.softmax_pair.auto.s ∙ c.scores_pair.auto.s
 
