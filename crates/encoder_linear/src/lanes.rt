@@ -141,8 +141,8 @@ pub(crate) fn put_lanes(s: &mut [f32], at: usize, a: [f32; 16])
     requires { (length a ≡ 16) × (at + 16 ≤ length s.old) }
     ensures { s.new ≡ put s.old at a }
 {
-    let b = a;
-    copy_spread(s, at, 1, &b, 0, 1, 16);
+    let e = at + 16;
+    s[at..e].copy_from_slice(&a);
 }
 
 // The n floats at at of each of r rows, one row to each of m lanes.

@@ -16,9 +16,8 @@ pub(crate) fn copy_at(t: &mut [f32], at: usize, x: &[f32])
     requires { at + length x.now ≤ length t.old }
     ensures { t.new ≡ put t.old at x.now }
 {
-    for j in 0..x.len() {
-        t[at + j] = x[j];
-    }
+    let e = at + x.len();
+    t[at..e].copy_from_slice(x);
 }
 
 // A row of a table at the front of t: the quarters r and c, and both again.

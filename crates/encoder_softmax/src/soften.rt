@@ -25,9 +25,8 @@ fn store_sixteen(s: &mut [f32], y: usize, x: [f32; 16])
     requires { y + 16 ≤ length s.old }
     ensures { s.new ≡ put s.old y x }
 {
-    for l in 0..16 {
-        s[y + l] = x[l];
-    }
+    let e = y + 16;
+    s[y..e].copy_from_slice(&x);
 }
 
 // Sixteen by sixteen; how many were written.

@@ -20,9 +20,6 @@ loop-r-init c = search rules
 pub add_row-requires : goal.add_row-requires
 add_row-requires c = omega (arith, fit c.args.d c.loop-r-test.true, c.requires.yin, c.requires.long, c.loop-r.invariant.1, c.loop-r.invariant.2)
 
-pub overflow_add-at : goal.overflow_add-at
-overflow_add-at c = omega (arith, fit c.args.d c.loop-r-test.true, c.requires.yin, c.loop-r.invariant.1)
-
 pub loop-r-preserved : goal.loop-r-preserved
 loop-r-preserved c =
     let f = fit c.args.d c.loop-r-test.true in (

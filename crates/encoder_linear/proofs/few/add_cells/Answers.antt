@@ -31,33 +31,6 @@ pub loop-i-init : goal.loop-i-init
 unfolding put tab
 loop-i-init c = (omega arith, refl, refl)
 
-pub bounds-b-i : goal.bounds-b-i
-bounds-b-i c = omega (arith, c.loop-i.invariant.1, c.requires.cells, c.loop-i-test.true)
-
-pub overflow_add-b : goal.overflow_add-b
-overflow_add-b c = omega (arith, lane-lt c.loop-i.i, c.requires.tin)
-
-pub offset_bounds-xt-j : goal.offset_bounds-xt-j
-offset_bounds-xt-j c = omega (arith, lane-lt c.loop-i.i, c.requires.tin)
-
-pub bounds-xt-j : goal.bounds-xt-j
-bounds-xt-j c = omega (arith, lane-lt c.loop-i.i, c.requires.tin)
-
-pub overflow_mul-b : goal.overflow_mul-b
-overflow_mul-b c = omega (arith, row-le c.loop-i.i c.args.nin c.loop-i-test.true, c.requires.win)
-
-pub overflow_add-b-in-loop-i : goal.overflow_add-b-in-loop-i
-overflow_add-b-in-loop-i c = omega (arith, row-le c.loop-i.i c.args.nin c.loop-i-test.true, c.requires.win)
-
-pub offset_bounds-w-at : goal.offset_bounds-w-at
-offset_bounds-w-at c = omega (arith, row-le c.loop-i.i c.args.nin c.loop-i-test.true, c.requires.win)
-
-pub bounds-w-at : goal.bounds-w-at
-bounds-w-at c = omega (arith, row-le c.loop-i.i c.args.nin c.loop-i-test.true, c.requires.win)
-
-pub bounds-b-i-in-loop-i : goal.bounds-b-i-in-loop-i
-bounds-b-i-in-loop-i c = omega (arith, c.loop-i.invariant.1, c.requires.cells, c.loop-i-test.true)
-
 pub loop-i-preserved : goal.loop-i-preserved
 loop-i-preserved c =
     (omega (arith, c.loop-i-test.true), length-set c.loop-i.b c.loop-i.i _ ∙ c.loop-i.invariant.1, step c.args.a c.loop-i.b c.args.xt.now c.args.w.now c.args.j c.args.at c.args.nin c.loop-i.i c.loop-i.invariant.2)

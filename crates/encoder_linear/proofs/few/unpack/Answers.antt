@@ -25,12 +25,6 @@ turn s u z b at nout l h e g =
 pub loop-l-init : goal.loop-l-init
 loop-l-init c = (omega arith, refl, sym (none c.args.s.now c.args.at c.args.nout (λ i o. get_or c.args.b.now (i + o * 4) nan) 4))
 
-pub overflow_mul-l : goal.overflow_mul-l
-overflow_mul-l c = omega (arith, c.requires.to c.loop-l.l c.loop-l-test.true)
-
-pub overflow_add-at : goal.overflow_add-at
-overflow_add-at c = omega (arith, c.requires.to c.loop-l.l c.loop-l-test.true)
-
 pub copy_spread-requires : goal.copy_spread-requires
 copy_spread-requires c =
     let h = c.requires.to c.loop-l.l c.loop-l-test.true in

@@ -12,30 +12,6 @@ pub loop-i-init : goal.loop-i-init
 unfolding spread
 loop-i-init c = (omega arith, refl, refl)
 
-pub overflow_mul-d : goal.overflow_mul-d
-overflow_mul-d c = omega (arith, c.requires.from c.loop-i.i c.loop-i-test.true)
-
-pub overflow_add-d : goal.overflow_add-d
-overflow_add-d c = omega (arith, c.requires.from c.loop-i.i c.loop-i-test.true)
-
-pub offset_bounds-v-o : goal.offset_bounds-v-o
-offset_bounds-v-o c = omega (arith, c.requires.from c.loop-i.i c.loop-i-test.true)
-
-pub bounds-v-o : goal.bounds-v-o
-bounds-v-o c = omega (arith, c.requires.from c.loop-i.i c.loop-i-test.true)
-
-pub overflow_mul-d-in-loop-i : goal.overflow_mul-d-in-loop-i
-overflow_mul-d-in-loop-i c = omega (arith, c.requires.to c.loop-i.i c.loop-i-test.true)
-
-pub overflow_add-d-in-loop-i : goal.overflow_add-d-in-loop-i
-overflow_add-d-in-loop-i c = omega (arith, c.requires.to c.loop-i.i c.loop-i-test.true)
-
-pub offset_bounds-d-at : goal.offset_bounds-d-at
-offset_bounds-d-at c = omega (arith, c.requires.to c.loop-i.i c.loop-i-test.true)
-
-pub bounds-d-at : goal.bounds-d-at
-bounds-d-at c = omega (arith, c.requires.to c.loop-i.i c.loop-i-test.true)
-
 pub loop-i-preserved : goal.loop-i-preserved
 unfolding spread
 loop-i-preserved c = (

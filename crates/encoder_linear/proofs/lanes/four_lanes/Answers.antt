@@ -17,29 +17,11 @@ loop-k-init c =
 pub add_products-e2-requires : goal.add_products-e2-requires
 add_products-e2-requires c = (ap length c.loop-k.invariant.1 ∙ length-tab 16 _, omega (arith, c.loop-k-test.true, c.requires.tin))
 
-pub offset_bounds-v-k : goal.offset_bounds-v-k
-offset_bounds-v-k c = omega (arith, c.loop-k-test.true, c.requires.same)
-
-pub bounds-v-k : goal.bounds-v-k
-bounds-v-k c = omega (arith, c.loop-k-test.true, c.requires.same)
-
 pub add_products-f2-requires : goal.add_products-f2-requires
 add_products-f2-requires c = (ap length c.loop-k.invariant.2 ∙ length-tab 16 _, omega (arith, c.loop-k-test.true, c.requires.tin))
 
-pub offset_bounds-u-k : goal.offset_bounds-u-k
-offset_bounds-u-k c = omega (arith, c.loop-k-test.true, c.requires.same₃)
-
-pub bounds-u-k : goal.bounds-u-k
-bounds-u-k c = omega (arith, c.loop-k-test.true, c.requires.same₃)
-
 pub add_products-g2-requires : goal.add_products-g2-requires
 add_products-g2-requires c = (ap length c.loop-k.invariant.3 ∙ length-tab 16 _, omega (arith, c.loop-k-test.true, c.requires.tin))
-
-pub offset_bounds-p-k : goal.offset_bounds-p-k
-offset_bounds-p-k c = omega (arith, c.loop-k-test.true, c.requires.same₄)
-
-pub bounds-p-k : goal.bounds-p-k
-bounds-p-k c = omega (arith, c.loop-k-test.true, c.requires.same₄)
 
 pub add_products-h2-requires : goal.add_products-h2-requires
 add_products-h2-requires c = (ap length c.loop-k.invariant.4 ∙ length-tab 16 _, omega (arith, c.loop-k-test.true, c.requires.tin))

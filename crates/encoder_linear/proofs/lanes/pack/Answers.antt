@@ -23,12 +23,6 @@ pub loop-l-init : goal.loop-l-init
 unfolding filled
 loop-l-init c = (omega arith, refl, refl)
 
-pub overflow_mul-l : goal.overflow_mul-l
-overflow_mul-l c = omega (arith, c.requires.xin c.loop-l.l c.loop-l-test.true)
-
-pub overflow_add-at : goal.overflow_add-at
-overflow_add-at c = omega (arith, c.requires.xin c.loop-l.l c.loop-l-test.true)
-
 pub copy_spread-requires : goal.copy_spread-requires
 copy_spread-requires c =
     let h = c.requires.xin c.loop-l.l c.loop-l-test.true in

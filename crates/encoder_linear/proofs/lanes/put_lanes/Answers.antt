@@ -1,19 +1,18 @@
 -- `encoder_linear::lanes::put_lanes` meets its contract. Assumes nothing.
-use mathlib.Core.Path.{ap, ◌∙◌}
-use Prim.Native.Nat.{◌+◌, ◌*◌}
+use mathlib.Core.Path.{◌≡◌, sym}
+use mathlib.Core.List.{List, ◌++◌}
+use Prim.Native.Nat.{ℕ, ◌+◌, ◌-◌, ◌≤◌}
 use native.Mathlib.Omega.{arith}
-use native.Mathlib.Nat.{mul-one}
-use lib.ListN.{get_or}
-use lib.Ieee.{nan}
+use lib.ListN.{length, take, drop}
+use lib.Seq.{drop-drop}
+use lib.Ieee.{Float}
 use Rattle.buffers.specs.Region.{put}
-use Rattle.buffers.proofs.Lists.{tab-ext, tab-self}
-use Rattle.encoder_linear.proofs.Fills.{spread-one}
+use Rattle.buffers.proofs.Regions.{put-split}
 use Rattle.encoder_linear.proofs.lanes.put_lanes.Goals as goal
 
-pub copy_spread-requires : goal.copy_spread-requires
-copy_spread-requires c = record { to = λ i h. omega (arith, mul-one i, c.requires.1); from = λ i h. omega (arith, mul-one i, c.requires.0) }
+-- a part of a list, written over
+over_part : (s t x : List Float) (at k : ℕ) → k ≡ length x → at + length x ≤ length s → t ≡ x → take at s ++ (t ++ drop k (drop at s)) ≡ put s at x
+over_part s t x at k e h g = rw (g, e, drop-drop (length x) at s) (sym (put-split s at x h))
 
 pub returns : goal.returns
-returns c =
-    c.copy_spread.ensures ∙ spread-one c.args.s.now c.args.at 16 (λ i. get_or c.args.a (0 + i * 1) nan)
-    ∙ ap (put c.args.s.now c.args.at) (tab-ext 16 (λ i. get_or c.args.a (0 + i * 1) nan) (λ i. get_or c.args.a i nan) (λ i h. ap (λ k. get_or c.args.a k nan) (omega arith)) ∙ tab-self c.args.a 16 nan c.requires.0)
+returns c = over_part c.args.s.now c.copy_from_slice.new.self c.args.a c.args.at (c.args.at + 16 - c.args.at) (omega (arith, c.requires.0)) (omega (arith, c.requires)) c.copy_from_slice.ensures.after

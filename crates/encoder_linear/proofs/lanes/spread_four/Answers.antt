@@ -12,20 +12,11 @@ use Rattle.encoder_linear.proofs.lanes.spread_four.Goals as goal
 pub copy_spread-requires : goal.copy_spread-requires
 copy_spread-requires c = record { to = λ i h. omega (arith, c.requires.to i h); from = λ i h. omega (arith, c.requires.rows, c.requires.first) }
 
-pub overflow_add-at : goal.overflow_add-at
-overflow_add-at c = omega (arith, c.requires.to 0 c.requires.some)
-
 pub copy_spread-requires-2 : goal.copy_spread-requires-2
 copy_spread-requires-2 c = record { to = λ i h. omega (arith, c.requires.to i h, c.copy_spread.auto.d); from = λ i h. omega (arith, c.requires.rows, c.requires.second) }
 
-pub overflow_add-at-2 : goal.overflow_add-at-2
-overflow_add-at-2 c = omega (arith, c.requires.to 0 c.requires.some)
-
 pub copy_spread-requires-3 : goal.copy_spread-requires-3
 copy_spread-requires-3 c = record { to = λ i h. omega (arith, c.requires.to i h, c.copy_spread.auto.d, c.copy_spread-2.auto.d); from = λ i h. omega (arith, c.requires.rows, c.requires.third) }
-
-pub overflow_add-at-3 : goal.overflow_add-at-3
-overflow_add-at-3 c = omega (arith, c.requires.to 0 c.requires.some)
 
 pub copy_spread-requires-4 : goal.copy_spread-requires-4
 copy_spread-requires-4 c = record { to = λ i h. omega (arith, c.requires.to i h, c.copy_spread.auto.d, c.copy_spread-2.auto.d, c.copy_spread-3.auto.d); from = λ i h. omega (arith, c.requires.rows, c.requires.fourth) }

@@ -13,12 +13,6 @@ pub loop-k-init : goal.loop-k-init
 unfolding sum_from
 loop-k-init c = (omega arith, sym (tab-self c.args.a 16 nan c.requires.first), sym (tab-self c.args.b 16 nan c.requires.second))
 
-pub offset_bounds-v-k : goal.offset_bounds-v-k
-offset_bounds-v-k c = omega (arith, c.loop-k-test.true, c.requires.same)
-
-pub bounds-v-k : goal.bounds-v-k
-bounds-v-k c = omega (arith, c.loop-k-test.true, c.requires.same)
-
 pub add_products-next-requires : goal.add_products-next-requires
 add_products-next-requires c = (ap length c.loop-k.invariant.1 ∙ length-tab 16 _, omega (arith, c.loop-k-test.true, c.requires.tin))
 

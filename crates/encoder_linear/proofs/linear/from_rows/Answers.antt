@@ -12,36 +12,6 @@ pub loop-i-init : goal.loop-i-init
 unfolding put rows linear_of
 loop-i-init c = (omega arith, refl, refl)
 
-pub overflow_mul-i : goal.overflow_mul-i
-overflow_mul-i c =
-    let room : (let a = c.args in
-    (c.loop-i.i + c.next_rows-r.result ≤ c.args.n) × (c.loop-i.i * c.args.nin + c.next_rows-r.result * c.args.nin ≤ c.args.n * c.args.nin)
-    × (c.loop-i.i * c.args.nout + c.next_rows-r.result * c.args.nout ≤ c.args.n * c.args.nout)) = let a = c.args in
-    let i = c.loop-i.i in
-    let h : i + c.next_rows-r.result ≤ c.args.n = omega (arith, c.next_rows-r.ensures.first, c.loop-i.invariant.0) in
-    (h, fit-more i c.next_rows-r.result c.args.nin h, fit-more i c.next_rows-r.result c.args.nout h) in
-    omega (arith, room, c.requires.xin)
-
-pub overflow_mul-i-in-loop-i : goal.overflow_mul-i-in-loop-i
-overflow_mul-i-in-loop-i c =
-    let room : (let a = c.args in
-    (c.loop-i.i + c.next_rows-r.result ≤ c.args.n) × (c.loop-i.i * c.args.nin + c.next_rows-r.result * c.args.nin ≤ c.args.n * c.args.nin)
-    × (c.loop-i.i * c.args.nout + c.next_rows-r.result * c.args.nout ≤ c.args.n * c.args.nout)) = let a = c.args in
-    let i = c.loop-i.i in
-    let h : i + c.next_rows-r.result ≤ c.args.n = omega (arith, c.next_rows-r.ensures.first, c.loop-i.invariant.0) in
-    (h, fit-more i c.next_rows-r.result c.args.nin h, fit-more i c.next_rows-r.result c.args.nout h) in
-    omega (arith, room, c.requires.yin)
-
-pub overflow_add-y : goal.overflow_add-y
-overflow_add-y c =
-    let room : (let a = c.args in
-    (c.loop-i.i + c.next_rows-r.result ≤ c.args.n) × (c.loop-i.i * c.args.nin + c.next_rows-r.result * c.args.nin ≤ c.args.n * c.args.nin)
-    × (c.loop-i.i * c.args.nout + c.next_rows-r.result * c.args.nout ≤ c.args.n * c.args.nout)) = let a = c.args in
-    let i = c.loop-i.i in
-    let h : i + c.next_rows-r.result ≤ c.args.n = omega (arith, c.next_rows-r.ensures.first, c.loop-i.invariant.0) in
-    (h, fit-more i c.next_rows-r.result c.args.nin h, fit-more i c.next_rows-r.result c.args.nout h) in
-    omega (arith, room, c.requires.yin)
-
 pub block-requires : goal.block-requires
 block-requires c =
     let room : (let a = c.args in
@@ -58,19 +28,6 @@ block-requires c =
       yin = omega (arith, c.requires.yin, c.loop-i.invariant.1);
       win = c.requires.win;
     }
-
-pub overflow_add-i : goal.overflow_add-i
-overflow_add-i c =
-    let room : (let a = c.args in
-    (c.loop-i.i + c.next_rows-r.result ≤ c.args.n) × (c.loop-i.i * c.args.nin + c.next_rows-r.result * c.args.nin ≤ c.args.n * c.args.nin)
-    × (c.loop-i.i * c.args.nout + c.next_rows-r.result * c.args.nout ≤ c.args.n * c.args.nout)) = let a = c.args in
-    let i = c.loop-i.i in
-    let h : i + c.next_rows-r.result ≤ c.args.n = omega (arith, c.next_rows-r.ensures.first, c.loop-i.invariant.0) in
-    (h, fit-more i c.next_rows-r.result c.args.nin h, fit-more i c.next_rows-r.result c.args.nout h) in
-    omega (arith, room)
-
-pub loop-i-smaller : goal.loop-i-smaller
-loop-i-smaller c = let m = c.next_rows-r.ensures.some (omega (arith, c.loop-i-test.true)) (omega arith) in omega (arith, c.loop-i-test.true)
 
 pub loop-i-preserved : goal.loop-i-preserved
 loop-i-preserved c =

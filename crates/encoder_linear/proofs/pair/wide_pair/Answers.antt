@@ -14,12 +14,6 @@ pub loop-j-init : goal.loop-j-init
 unfolding sum_of tab
 loop-j-init c = (omega arith, omega arith, refl, refl)
 
-pub offset_bounds-r-j : goal.offset_bounds-r-j
-offset_bounds-r-j c = omega (arith, c.loop-j-test.true, c.requires.same)
-
-pub bounds-r-j : goal.bounds-r-j
-bounds-r-j c = omega (arith, c.loop-j-test.true, c.requires.same)
-
 pub add_products-next-requires : goal.add_products-next-requires
 add_products-next-requires c =
     (ap length c.loop-j.invariant.2 ∙ length-tab 16 _, omega (arith, c.requires.v_is, c.requires.places, fit c.args.dim c.loop-j-test.true))
@@ -27,10 +21,6 @@ add_products-next-requires c =
 pub add_products-other-requires : goal.add_products-other-requires
 add_products-other-requires c =
     (ap length c.loop-j.invariant.3 ∙ length-tab 16 _, omega (arith, c.requires.v_is, c.requires.places, fit c.args.dim c.loop-j-test.true))
-
-pub overflow_add-a : goal.overflow_add-a
-overflow_add-a c =
-    omega (arith, c.requires.v_is, c.requires.places, fit c.args.dim c.loop-j-test.true)
 
 pub loop-j-preserved : goal.loop-j-preserved
 loop-j-preserved c = (

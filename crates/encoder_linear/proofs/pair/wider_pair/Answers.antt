@@ -15,18 +15,9 @@ pub loop-j-init : goal.loop-j-init
 unfolding sum_of tab
 loop-j-init c = (omega arith, omega arith, refl, refl, refl, refl)
 
-pub offset_bounds-r-j : goal.offset_bounds-r-j
-offset_bounds-r-j c = omega (arith, c.loop-j-test.true, c.requires.same)
-
-pub bounds-r-j : goal.bounds-r-j
-bounds-r-j c = omega (arith, c.loop-j-test.true, c.requires.same)
-
 pub add_products-b2-requires : goal.add_products-b2-requires
 add_products-b2-requires c =
     (ap length c.loop-j.invariant.2 ∙ length-tab 16 _, omega (arith, c.loop-j.invariant.1, c.requires.v_is, c.requires.places, fit c.args.dim c.loop-j-test.true))
-
-pub overflow_add-a : goal.overflow_add-a
-overflow_add-a c = omega (arith, c.loop-j.invariant.1, c.requires.v_is, c.requires.places, fit c.args.dim c.loop-j-test.true)
 
 pub add_products-c2-requires : goal.add_products-c2-requires
 add_products-c2-requires c =
@@ -36,15 +27,9 @@ pub add_products-d2-requires : goal.add_products-d2-requires
 add_products-d2-requires c =
     (ap length c.loop-j.invariant.4 ∙ length-tab 16 _, omega (arith, c.loop-j.invariant.1, c.requires.v_is, c.requires.places, fit c.args.dim c.loop-j-test.true))
 
-pub overflow_add-a-in-loop-j : goal.overflow_add-a-in-loop-j
-overflow_add-a-in-loop-j c = omega (arith, c.loop-j.invariant.1, c.requires.v_is, c.requires.places, fit c.args.dim c.loop-j-test.true)
-
 pub add_products-e2-requires : goal.add_products-e2-requires
 add_products-e2-requires c =
     (ap length c.loop-j.invariant.5 ∙ length-tab 16 _, omega (arith, c.loop-j.invariant.1, c.requires.v_is, c.requires.places, fit c.args.dim c.loop-j-test.true))
-
-pub overflow_add-a-in-loop-j-2 : goal.overflow_add-a-in-loop-j-2
-overflow_add-a-in-loop-j-2 c = omega (arith, c.loop-j.invariant.1, c.requires.v_is, c.requires.places, fit c.args.dim c.loop-j-test.true)
 
 pub loop-j-preserved : goal.loop-j-preserved
 loop-j-preserved c =

@@ -14,15 +14,6 @@ pub loop-j-init : goal.loop-j-init
 unfolding sum_of
 loop-j-init c = (omega arith, omega arith, refl)
 
-pub offset_bounds-v-a : goal.offset_bounds-v-a
-offset_bounds-v-a c = omega (arith, fit c.args.dim c.loop-j-test.true)
-
-pub bounds-v-a : goal.bounds-v-a
-bounds-v-a c = omega (arith, fit c.args.dim c.loop-j-test.true)
-
-pub overflow_add-a : goal.overflow_add-a
-overflow_add-a c = omega (arith, fit c.args.dim c.loop-j-test.true)
-
 pub loop-j-preserved : goal.loop-j-preserved
 unfolding sum_of
 loop-j-preserved c = (

@@ -17,9 +17,6 @@ loop-j-init c = (omega arith, omega arith, refl)
 pub add_products-next-requires : goal.add_products-next-requires
 add_products-next-requires c = (ap length c.loop-j.invariant.2 ∙ length-tab 16 _, omega (arith, fit c.args.dim c.loop-j-test.true))
 
-pub overflow_add-a : goal.overflow_add-a
-overflow_add-a c = omega (arith, fit c.args.dim c.loop-j-test.true)
-
 pub loop-j-preserved : goal.loop-j-preserved
 loop-j-preserved c = (
   omega arith,

@@ -1,27 +1,18 @@
 -- `encoder_softmax::soften::store_sixteen` meets its contract. Assumes nothing.
-use mathlib.Core.Path.{refl, ap, ◌∙◌}
-use Prim.Native.Nat.{ℕ}
+use mathlib.Core.Path.{◌≡◌, sym}
+use mathlib.Core.List.{List, ◌++◌}
+use Prim.Native.Nat.{ℕ, ◌+◌, ◌-◌, ◌≤◌}
 use native.Mathlib.Omega.{arith}
-use lib.ListN.{get_or, length-set}
-use lib.Ieee.{nan}
-use Rattle.buffers.specs.Rows.{tab}
+use lib.ListN.{length, take, drop}
+use lib.Seq.{drop-drop}
+use lib.Ieee.{Float}
 use Rattle.buffers.specs.Region.{put}
-use Rattle.buffers.proofs.Lists.{tab-step, tab-self}
+use Rattle.buffers.proofs.Regions.{put-split}
 use Rattle.encoder_softmax.proofs.soften.store_sixteen.Goals as goal
 
-pub loop-l-init : goal.loop-l-init
-unfolding put tab
-loop-l-init c = (omega arith, refl, refl)
-
-pub loop-l-preserved : goal.loop-l-preserved
-loop-l-preserved c =
-    (omega arith, simp length-set c.loop-l.invariant.1, tab-step c.args.s.now c.loop-l.s c.args.y c.loop-l.l (λ i. get_or c.args.x i nan) _ c.loop-l.invariant.2 refl)
-
-pub shape_of-s : goal.shape_of-s
-shape_of-s c = c.loop-l.invariant.1
+-- a part of a list, written over
+over_part : (s t x : List Float) (at k : ℕ) → k ≡ length x → at + length x ≤ length s → t ≡ x → take at s ++ (t ++ drop k (drop at s)) ≡ put s at x
+over_part s t x at k e h g = rw (g, e, drop-drop (length x) at s) (sym (put-split s at x h))
 
 pub returns : goal.returns
-returns c =
-    c.loop-l.invariant.2
-    ∙ ap (λ (k : ℕ). put c.args.s.now c.args.y (tab k (λ i. get_or c.args.x i nan))) (omega arith)
-    ∙ ap (put c.args.s.now c.args.y) (tab-self c.args.x 16 nan c.well_formed.1.1.0.1.0.1)
+returns c = over_part c.args.s.now c.copy_from_slice.new.self c.args.x c.args.y (c.args.y + 16 - c.args.y) (omega arith) (omega (arith, c.requires)) c.copy_from_slice.ensures.after

@@ -13,9 +13,6 @@ loop-c-init c = (omega arith, refl, refl)
 pub four_columns-requires : goal.four_columns-requires
 four_columns-requires c = record { few = omega (arith, c.if-self-lt5.true); fits = rw c.loop-c.invariant.1 c.requires; columns = omega (arith, c.if-self-c-ge4.true, c.loop-c.invariant.0) }
 
-pub loop-c-smaller-then-self-lt5 : goal.loop-c-smaller-then-self-lt5
-loop-c-smaller-then-self-lt5 c = omega (arith, c.if-self-c-ge4.true, c.loop-c.invariant.0)
-
 pub loop-c-preserved-then-self-lt5 : goal.loop-c-preserved-then-self-lt5
 loop-c-preserved-then-self-lt5 c = (
   omega (arith, c.if-self-c-ge4.true, c.loop-c.invariant.0),
@@ -25,9 +22,6 @@ loop-c-preserved-then-self-lt5 c = (
 
 pub wide_columns-requires : goal.wide_columns-requires
 wide_columns-requires c = record { fits = rw c.loop-c.invariant.1 c.requires; columns = omega (arith, c.if-self-c-ge4.true, c.loop-c.invariant.0) }
-
-pub loop-c-smaller-then-wide : goal.loop-c-smaller-then-wide
-loop-c-smaller-then-wide c = omega (arith, c.if-self-c-ge4.true, c.loop-c.invariant.0)
 
 pub loop-c-preserved-then-wide : goal.loop-c-preserved-then-wide
 loop-c-preserved-then-wide c = (
@@ -39,9 +33,6 @@ loop-c-preserved-then-wide c = (
 pub two_columns-requires : goal.two_columns-requires
 two_columns-requires c = record { fits = rw c.loop-c.invariant.1 c.requires; column = omega (arith, c.if-self-c-ge4.true, c.loop-c.invariant.0) }
 
-pub loop-c-smaller-else-wide : goal.loop-c-smaller-else-wide
-loop-c-smaller-else-wide c = omega (arith, c.if-self-c-ge4.true, c.loop-c.invariant.0)
-
 pub loop-c-preserved-else-wide : goal.loop-c-preserved-else-wide
 loop-c-preserved-else-wide c = (
   omega (arith, c.if-self-c-ge4.true, c.loop-c.invariant.0),
@@ -51,9 +42,6 @@ loop-c-preserved-else-wide c = (
 
 pub one_column-requires : goal.one_column-requires
 one_column-requires c = record { fits = rw c.loop-c.invariant.1 c.requires; column = c.loop-c-test.true }
-
-pub loop-c-smaller : goal.loop-c-smaller
-loop-c-smaller c = omega (arith, c.loop-c-test.true)
 
 pub loop-c-preserved : goal.loop-c-preserved
 loop-c-preserved c = (

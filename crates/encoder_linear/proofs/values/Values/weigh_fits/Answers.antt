@@ -7,12 +7,6 @@ use Rattle.buffers.proofs.Lists.{and_right}
 use Rattle.encoder_linear.specs.inner.Room.{weigh_fits}
 use Rattle.encoder_linear.proofs.values.Values.weigh_fits.Goals as goal
 
-pub overflow_mul-self : goal.overflow_mul-self
-overflow_mul-self c =
-    let held : (let a = c.args in c.args.self.v + c.args.self.t * c.args.self.dim ≤ c.args.len) = let a = c.args in
-    leb-true (c.args.self.v + c.args.self.t * c.args.self.dim) c.args.len (sym c.rows_inside.ensures ∙ and_right c.inside.result c.rows_inside.result c.if-inside-rows_inside.true) in
-    omega (arith, held)
-
 pub returns-then-inside-rows_inside : goal.returns-then-inside-rows_inside
 unfolding weigh_fits
 returns-then-inside-rows_inside c =
