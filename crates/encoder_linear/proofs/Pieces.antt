@@ -11,13 +11,12 @@ use lib.Ieee.{Float, nan, binary32, add, mul}
 use Rattle.buffers.specs.Rows.{tab, rows, grid}
 use Rattle.buffers.specs.Region.{region, put}
 use Rattle.number_floats.specs.Constants.{zero32}
-use Rattle.buffers.specs.inner.Apart.{Apart}
-use Rattle.buffers.proofs.Regions.{get_or-put-same, put-put, put-append, region-put, region-put-same, region-region, length-region, get_or-region, apart-sub}
+use Rattle.buffers.proofs.Regions.{get_or-put-same, put-put, put-append, region-put-same, region-region, length-region, get_or-region}
 use Rattle.buffers.proofs.Lists.{fit, length-tab, get_or-tab, tab-ext, tab-mul, length-rows, get_d_rows, rows_ext, rows-add}
 use Rattle.buffers.specs.Each.{blank}
 use Rattle.encoder_linear.specs.Linear.{sum_of, linear_row, linear_of}
 use Rattle.encoder_linear.specs.inner.Lanes.{sum_from, lane_of, cell_of, gone_sum, spread, filled, product, begun, gone_on}
-use Rattle.encoder_linear.specs.inner.Fits.{ColumnsFits, ColumnAt, WideAt}
+use Rattle.encoder_linear.specs.inner.Fits.{ColumnAt, WideAt}
 use Rattle.encoder_linear.proofs.Sums.{sum-ext, length-linear}
 use Rattle.encoder_linear.proofs.Fills.{spread-ext, spread-one, filled-ext, filled_in, filled-out, filled-add}
 

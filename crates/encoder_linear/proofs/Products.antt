@@ -1,9 +1,9 @@
 -- A product's factors may change places. Assumes nothing.
-use mathlib.Core.Path.{◌≡◌, refl, ap, ◌∙◌}
+use mathlib.Core.Path.{◌≡◌, refl, ap}
 use mathlib.Core.Bool.{Bool, true, false}
-use Prim.Native.Nat.{ℕ, ◌*◌}
+use Prim.Native.Nat.{◌*◌}
 use native.Mathlib.Nat.{mul_comm}
-use lib.Ieee.{Format, Float, nan, inf, fin, up, down, unlike, round, mul}
+use lib.Ieee.{Format, Float, nan, inf, fin, up, down, unlike, mul}
 
 unlike-comm : (s t : Bool) → unlike s t ≡ unlike t s
 unlike-comm true true = refl

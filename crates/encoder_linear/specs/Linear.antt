@@ -4,7 +4,7 @@ use Rattle.std.specs.Prelude.{List, ℕ, zero, suc, ◌*◌, ◌+◌, length, ge
 use Rattle.std.specs.Float.{nan, binary32}
 use Rattle.std.specs.Float.Ieee.{add, mul}
 use Rattle.buffers.specs.Rows.{tab}
-use Rattle.buffers.specs.Region.{region, put}
+use Rattle.buffers.specs.Region.{region}
 use Rattle.number_floats.specs.Constants.{zero32}
 use Rattle.buffers.specs.Each.{each_row, both}
 

@@ -1,6 +1,6 @@
 -- `encoder_linear::bias::add_row` meets its contract. Assumes nothing.
 use mathlib.Core.Path.{◌≡◌}
-use Prim.Native.Nat.{◌-◌, ◌≤◌}
+use Prim.Native.Nat.{◌≤◌}
 use lib.ListN.{length}
 use lib.Ieee.{nan, binary32, add}
 use Rattle.buffers.specs.Region.{region, put}

@@ -1,6 +1,5 @@
 -- `encoder_linear::bias::linear_forward` meets its contract. Assumes nothing.
 use mathlib.Core.Path.{sym, ◌∙◌}
-use mathlib.Core.Bool.{true}
 use Prim.Native.Nat.{◌*◌}
 use native.Mathlib.Omega.{arith}
 use Rattle.buffers.specs.Region.{region}

@@ -1,6 +1,6 @@
 -- `encoder_linear::few::cells` meets its contract. Assumes nothing.
 use mathlib.Core.Path.{◌≡◌}
-use Prim.Native.Nat.{◌-◌, ◌≤◌}
+use Prim.Native.Nat.{◌≤◌}
 use Rattle.buffers.specs.Rows.{tab}
 use Rattle.encoder_linear.specs.inner.Lanes.{cell_of}
 use Rattle.encoder_linear.proofs.few.cells.Given as goal

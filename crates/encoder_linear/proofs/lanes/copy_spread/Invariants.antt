@@ -1,6 +1,6 @@
 -- `encoder_linear::lanes::copy_spread` meets its contract. Assumes nothing.
 use mathlib.Core.Path.{◌≡◌}
-use Prim.Native.Nat.{◌+◌, ◌*◌, ◌-◌, ◌≤◌}
+use Prim.Native.Nat.{◌+◌, ◌*◌, ◌≤◌}
 use lib.ListN.{length, get_or}
 use lib.Ieee.{nan}
 use Rattle.encoder_linear.specs.inner.Lanes.{spread}

@@ -1,7 +1,7 @@
 -- `encoder_linear::lanes::lanes_at` meets its contract. Assumes nothing.
 use mathlib.Core.Path.{◌≡◌}
 use mathlib.Core.List.{List}
-use Prim.Native.Nat.{ℕ, ◌+◌, ◌*◌, ◌-◌, ◌≤◌}
+use Prim.Native.Nat.{ℕ, ◌+◌, ◌*◌, ◌≤◌}
 use lib.ListN.{get_or, replicate}
 use lib.Ieee.{Float, nan}
 use Rattle.number_floats.specs.Constants.{zero32}

@@ -1,6 +1,6 @@
 -- `encoder_linear::lanes::two_lanes` meets its contract. Assumes nothing.
 use mathlib.Core.Path.{◌≡◌}
-use Prim.Native.Nat.{◌-◌, ◌≤◌}
+use Prim.Native.Nat.{◌≤◌}
 use lib.ListN.{length}
 use Rattle.buffers.specs.Rows.{tab}
 use Rattle.encoder_linear.specs.inner.Lanes.{lane_of}

@@ -1,5 +1,5 @@
 -- `encoder_linear::pair::wide_pair` meets its contract: each lane is a column of its own. Assumes nothing.
-use Prim.Native.Nat.{◌+◌, ◌*◌, ◌-◌, ◌≤◌}
+use Prim.Native.Nat.{◌+◌, ◌*◌, ◌≤◌}
 use mathlib.Core.Path.{◌≡◌}
 use lib.ListN.{length}
 use Rattle.buffers.specs.Rows.{tab}

@@ -1,10 +1,5 @@
 -- `encoder_linear::room::linear_fits` meets its contract. Assumes nothing.
-use mathlib.Core.Path.{sym, ◌∙◌}
-use Prim.Native.Nat.{◌+◌, ◌*◌, ◌≤◌}
-use native.Mathlib.Omega.{arith}
-use Rattle.buffers.proofs.Lists.{and_left, and_right}
 use Rattle.encoder_linear.specs.inner.Room.{linear_fits}
-use borrow.Author.Tests.{leb-true}
 use Rattle.encoder_linear.proofs.room.linear_fits.Goals as goal
 
 pub returns-then-rows_inside : goal.returns-then-rows_inside

@@ -6,7 +6,6 @@ use native.Mathlib.Omega.{arith}
 use native.Mathlib.Numerals.{add-one}
 use lib.ListN.{get_or}
 use lib.Ieee.{nan, binary32, mul}
-use Rattle.buffers.proofs.Lists.{fit}
 use Rattle.encoder_linear.specs.Linear.{column_of, sum_of}
 use Rattle.encoder_linear.proofs.weigh.column.Goals as goal
 

@@ -1,6 +1,6 @@
 -- `encoder_softmax::soften::exp_rest` meets its contract. Assumes nothing.
 use mathlib.Core.Path.{◌≡◌}
-use Prim.Native.Nat.{◌-◌, ◌≤◌}
+use Prim.Native.Nat.{◌≤◌}
 use lib.ListN.{length}
 use lib.Ieee.{nan, binary32, sub}
 use Rattle.number_exp_tanh.specs.Exp.{E}

@@ -1,6 +1,6 @@
 -- `encoder_softmax::soften::sixteen_less` meets its contract. Assumes nothing.
 use mathlib.Core.Path.{◌≡◌}
-use Prim.Native.Nat.{◌+◌, ◌-◌, ◌≤◌}
+use Prim.Native.Nat.{◌+◌, ◌≤◌}
 use lib.ListN.{length, get_or}
 use lib.Ieee.{nan, binary32, sub}
 use Rattle.buffers.specs.Rows.{tab}

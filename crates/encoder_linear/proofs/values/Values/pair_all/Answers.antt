@@ -1,5 +1,4 @@
 -- `encoder_linear::values::Values::pair_all` meets its contract: the sums sixteen by sixteen, and the rest behind them. Assumes nothing.
-use native.Mathlib.Omega.{arith}
 use mathlib.Core.Path.{◌∙◌}
 use Rattle.encoder_linear.proofs.Rooms.{rest-fits}
 use Rattle.encoder_linear.proofs.Pairs.{pair-rest}

@@ -1,9 +1,4 @@
 -- `encoder_linear::values::Values::weigh_fits` meets its contract. Assumes nothing.
-use mathlib.Core.Path.{sym, ◌∙◌}
-use Prim.Native.Nat.{◌+◌, ◌*◌, ◌≤◌}
-use native.Mathlib.Omega.{arith}
-use borrow.Author.Tests.{leb-true}
-use Rattle.buffers.proofs.Lists.{and_right}
 use Rattle.encoder_linear.specs.inner.Room.{weigh_fits}
 use Rattle.encoder_linear.proofs.values.Values.weigh_fits.Goals as goal
 
