@@ -9,7 +9,7 @@ mod projector;
 mod run;
 
 // The floats of a patch, of the embedding's weights, of all layers' weights and of a merged row.
-#[derive(Drop)]
+#[derive(Clone, Copy)]
 pub(crate) struct Counts {
     pub patch: usize,
     pub embedding: usize,
@@ -18,7 +18,7 @@ pub(crate) struct Counts {
 }
 
 // Where linear_1's result and the score row stand in the scratch.
-#[derive(Drop)]
+#[derive(Clone, Copy)]
 pub(crate) struct Regions {
     pub linear: usize,
     pub row: usize,
