@@ -157,10 +157,7 @@ fn list_bad(bits: &[u32], p: usize, m: usize, bad: usize, list: &mut [u32], t: &
 fn saved_byte(b: u16) -> u8
     ensures { result ≡ saved b }
 {
-    if b < 256 {
-        return b as u8;
-    }
-    0
+    u8::try_from(b).unwrap_or(0)
 }
 
 // The three bytes of a pixel.
