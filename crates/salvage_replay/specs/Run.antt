@@ -1,13 +1,13 @@
 -- What the call of a record answers and leaves. Assumes nothing.
-use Rattle.std.specs.Prelude.{ℕ, ◌+◌, ◌-◌, ◌*◌, ◌/◌, ◌%◌, ◌≤◌, ◌<◌, cond, List, [], ◌∷◌, eqb, leb, ltb, length, get_or, Float}
+use Rattle.std.specs.Prelude.{Result, Ok, Err, ℕ, ◌+◌, ◌-◌, ◌*◌, ◌/◌, ◌%◌, ◌≤◌, ◌<◌, cond, List, [], ◌∷◌, eqb, leb, ltb, length, get_or, Float}
 use Rattle.std.specs.Float.{binary32}
 use Rattle.std.specs.Float.Ieee.{of_bits}
 use Rattle.buffers.specs.Rows.{tab}
 use Rattle.picture_limits.specs.declared.PictureSettings.{PictureSettings}
+use Rattle.picture_limits.specs.declared.Refusal.{Refusal}
 use Rattle.picture_limits.specs.Refusal as R
 use Rattle.picture_samples.specs.Samples.{sample_table}
 use Rattle.picture_salvage.specs.declared.Salvaged.{Salvaged}
-use Rattle.picture_salvage.specs.declared.Salvaged.TheVariants.{Picture, Refused}
 use Rattle.picture_salvage.specs.Salvage.{salvaged, saved_out, list_out}
 use Rattle.salvage_replay.specs.declared.run.Told.{Told}
 use Rattle.replay.specs.Hash.{byte_hash, word_hash}
@@ -16,9 +16,9 @@ use Rattle.replay.specs.Marks.{seeded, marks, bytes, words}
 -- ---- one call
 
 -- the paper's number and sizes of an answer, 0 for every size of a refusal, and hashes of patches, output and list
-abbrev pub told_of : Salvaged → ℕ → ℕ → ℕ → Told
-told_of (Picture h w n) p b e = record { patches = p; number = 0; height = h; width = w; bad = n; bytes = b; entries = e }
-told_of (Refused r) p b e = record { patches = p; number = R.number r; height = 0; width = 0; bad = 0; bytes = b; entries = e }
+abbrev pub told_of : Result Salvaged Refusal → ℕ → ℕ → ℕ → Told
+told_of (Ok a) p b e = record { patches = p; number = 0; height = a.height; width = a.width; bad = a.bad; bytes = b; entries = e }
+told_of (Err r) p b e = record { patches = p; number = R.number r; height = 0; width = 0; bad = 0; bytes = b; entries = e }
 
 unfoldable pub saved_of : PictureSettings → List ℕ → ℕ → ℕ → List ℕ → List ℕ → Told
 saved_of s l gh gw out list =

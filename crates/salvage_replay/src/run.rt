@@ -3,7 +3,7 @@ ghost use Rattle.std.specs.Prelude.{◌≡◌, ◌<◌, length};
 ghost use Rattle.picture_samples.specs.Samples.{sample_table};
 ghost use Rattle.salvage_replay.specs.Run.{room, at, word, float_of, settings_of, told_of, saved_of, changed, patches_in, bytes_of, told_in, Small};
 
-use picture_limits::PictureSettings;
+use picture_limits::{PictureSettings, Refusal};
 use picture_salvage::{Salvaged, salvage};
 use replay::hash::{hash_bytes, hash_words};
 use replay::marks::{MARKS, fill_bytes, fill_words};
@@ -23,22 +23,22 @@ pub struct Told {
     pub entries: usize,
 }
 
-fn tell(found: Salvaged, patches: usize, bytes: usize, entries: usize) -> Told
+fn tell(found: Result<Salvaged, Refusal>, patches: usize, bytes: usize, entries: usize) -> Told
     ensures { result ≡ told_of found patches bytes entries }
 {
     match found {
-        Salvaged::Picture { height, width, bad } => Told {
+        Ok(a) => Told {
             patches,
             number: 0,
-            height,
-            width,
-            bad,
+            height: a.height,
+            width: a.width,
+            bad: a.bad,
             bytes,
             entries,
         },
-        Salvaged::Refused(r) => Told {
+        Err(r) => Told {
             patches,
-            number: picture_limits::settings::number(r) as usize,
+            number: u32::from(r) as usize,
             height: 0,
             width: 0,
             bad: 0,
