@@ -1,11 +1,10 @@
 // One value after another: the residual, silu, gelu, bf16.
-ghost use Rattle.std.specs.Prelude.{◌≡◌, ◌+◌, ◌≤◌, length};
-ghost use Rattle.buffers.specs.Region.{region, put};
+ghost use Rattle.std.specs.Prelude.{◌≡◌, ◌+◌, length};
+ghost use Rattle.buffers.specs.Region.{region};
 ghost use Rattle.encoder_elements.specs.Element.{silu_of, gelu_of, added, gated, rounded, gelued};
 ghost use Rattle.buffers.specs.inner.Room as R;
 ghost use Rattle.buffers.specs.inner.Room.{where_fits};
 ghost use Rattle.encoder_elements.specs.inner.Room.{pair_fits};
-ghost use Rattle.encoder_elements.specs.inner.Fits.{PairFits};
 
 use crate::room::pair_fits;
 use crate::silus::gate_values;

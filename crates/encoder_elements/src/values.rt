@@ -1,5 +1,5 @@
 // A function of each value, and of each value and another's.
-ghost use Rattle.std.specs.Prelude.{◌≡◌, ◌+◌, ◌≤◌, length, Float};
+ghost use Rattle.std.specs.Prelude.{◌≡◌, ◌+◌, ◌≤◌, length};
 ghost use Rattle.std.specs.Float.{nan};
 ghost use Rattle.buffers.specs.Region.{region, put};
 ghost use Rattle.buffers.specs.Each.{each, both};

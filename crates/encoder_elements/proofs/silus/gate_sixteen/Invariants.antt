@@ -1,6 +1,6 @@
 -- `encoder_elements::silus::gate_sixteen` meets its contract. Assumes nothing.
 use mathlib.Core.Path.{◌≡◌}
-use Prim.Native.Nat.{◌-◌, ◌≤◌}
+use Prim.Native.Nat.{◌≤◌}
 use lib.ListN.{length, get_or}
 use lib.Ieee.{nan, binary32, add, mul, div}
 use Rattle.buffers.specs.Rows.{tab}

@@ -1,6 +1,6 @@
 -- `encoder_elements::silus::sixteen_negated` meets its contract. Assumes nothing.
 use mathlib.Core.Path.{◌≡◌}
-use Prim.Native.Nat.{◌+◌, ◌-◌, ◌≤◌}
+use Prim.Native.Nat.{◌+◌, ◌≤◌}
 use lib.ListN.{length, get_or}
 use lib.Ieee.{nan, neg}
 use Rattle.buffers.specs.Rows.{tab}

@@ -1,6 +1,6 @@
 -- `encoder_kernels::finite::finite` meets its contract. Assumes nothing.
 use mathlib.Core.Path.{◌≡◌}
-use Prim.Native.Nat.{◌-◌, ◌≤◌}
+use Prim.Native.Nat.{◌≤◌}
 use lib.ListN.{length, take}
 use Rattle.encoder_kernels.specs.Kernels.{all_finite}
 use Rattle.encoder_kernels.proofs.finite.finite.Given as goal

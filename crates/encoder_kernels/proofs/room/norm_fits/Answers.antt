@@ -1,10 +1,5 @@
 -- `encoder_kernels::room::norm_fits` meets its contract. Assumes nothing.
-use mathlib.Core.Path.{sym, ◌∙◌}
-use Prim.Native.Nat.{◌+◌, ◌*◌, ◌≤◌}
-use native.Mathlib.Omega.{arith}
-use Rattle.buffers.proofs.Lists.{and_left, and_right}
 use Rattle.encoder_kernels.specs.inner.Room.{norm_fits}
-use borrow.Author.Tests.{leb-true}
 use Rattle.encoder_kernels.proofs.room.norm_fits.Goals as goal
 
 pub returns-then-rows_inside : goal.returns-then-rows_inside

@@ -1,6 +1,6 @@
 -- `encoder_rotation::rotate::rotate_half_inplace` meets its contract. Assumes nothing.
 use mathlib.Core.Path.{◌≡◌}
-use Prim.Native.Nat.{◌-◌, ◌≤◌}
+use Prim.Native.Nat.{◌≤◌}
 use lib.ListN.{length}
 use Rattle.encoder_rotation.proofs.Rotated.{rotating}
 use Rattle.encoder_rotation.proofs.rotate.rotate_half_inplace.Given as goal

@@ -1,10 +1,6 @@
 -- `encoder_rotation::places::Places::places_fit` meets its contract. Assumes nothing.
-use mathlib.Core.Path.{sym, ◌∙◌}
-use Prim.Native.Nat.{◌+◌, ◌*◌, ◌≤◌}
-use native.Mathlib.Nat.{mul-le-mul}
-use native.Mathlib.Omega.{arith}
 use Rattle.encoder_rotation.specs.inner.Room.{places_fit}
-use borrow.Author.Tests.{leb-true, le-leb, lt-leb}
+use borrow.Author.Tests.{le-leb, lt-leb}
 use Rattle.encoder_rotation.proofs.places.Places.places_fit.Goals as goal
 
 pub returns-then-self-gt128 : goal.returns-then-self-gt128
