@@ -1,6 +1,6 @@
 -- Laws of what fits: a test that passes gives what the inner functions ask, and what they ask passes the test.
 -- Assumes nothing.
-use mathlib.Core.Bool.{Bool, true, ◌&&◌}
+use mathlib.Core.Bool.{true, ◌&&◌}
 use mathlib.Core.Path.{◌≡◌}
 use Prim.Native.Nat.{ℕ, ◌+◌, ◌*◌, ◌≤◌}
 use native.Mathlib.Nat.{add-mul, mul_comm, mul-le-mul_right}

@@ -1,6 +1,6 @@
 // Attention, with a score row, or two, for the source's matrix of scores, and the keys turned so that those of one place
 // lie together: then the scores of several keys run side by side, each from +0 upward by itself.
-ghost use Rattle.std.specs.Prelude.{◌≡◌, ◌&&◌, cond, ◌+◌, ◌*◌, ◌≤◌, length, get_or};
+ghost use Rattle.std.specs.Prelude.{◌≡◌, ◌&&◌, cond, ◌+◌, ◌*◌, length, get_or};
 ghost use Rattle.std.specs.Float.{nan};
 ghost use Rattle.buffers.specs.Region.{region, put};
 ghost use Rattle.number_floats.specs.Constants.{zero32};
@@ -9,7 +9,7 @@ ghost use Rattle.encoder_kernels.specs.Kernels.{all_finite};
 ghost use Rattle.encoder_linear.specs.inner.Lanes.{spread};
 ghost use Rattle.encoder_linear.specs.inner.Fits.{WeighFits};
 ghost use Rattle.encoder_attention.specs.Attention.{token_scores, token_sums, scores_of, attention_of};
-ghost use Rattle.encoder_attention.specs.inner.Keys.{turned_keys, keys_of};
+ghost use Rattle.encoder_attention.specs.inner.Keys.{turned_keys};
 ghost use Rattle.encoder_attention.specs.inner.Room.{attend_fits};
 ghost use Rattle.encoder_attention.specs.inner.Fits.{TurnFits, KeyAt};
 ghost use Rattle.encoder_attention.specs.inner.Places as P;

@@ -18,9 +18,8 @@ fn copy_floats(s: &mut [f32], x: usize, y: usize, n: usize)
     requires { CopyFits (length s.old) x y n }
     ensures { s.new ≡ put s.old y (tab n (λ d. get_or s.old (x + d) nan)) }
 {
-    for d in 0..n {
-        s[y + d] = s[x + d];
-    }
+    let e = x + n;
+    s.copy_within(x..e, y);
 }
 
 // Of the t values of dim at v the hd places from o on, together at g.

@@ -1,6 +1,6 @@
 -- `encoder_attention::attention::turn_key` meets its contract: what it reads lies apart from what it has written. Assumes nothing.
 use mathlib.Core.Path.{◌≡◌}
-use Prim.Native.Nat.{◌+◌, ◌*◌, ◌-◌, ◌≤◌}
+use Prim.Native.Nat.{◌+◌, ◌*◌, ◌≤◌}
 use lib.ListN.{length, get_or}
 use lib.Ieee.{nan}
 use Rattle.buffers.specs.Region.{region}

@@ -2,7 +2,6 @@
 use mathlib.Core.Path.{sym, ◌∙◌}
 use Prim.Native.Nat.{ℕ, ◌*◌}
 use native.Mathlib.Nat.{mul_comm}
-use native.Mathlib.Omega.{arith}
 use Rattle.buffers.specs.Region.{region}
 use Rattle.encoder_attention.specs.inner.Keys.{keys_of}
 use Rattle.encoder_attention.specs.inner.Fits.{TurnFits, HeadsFit}

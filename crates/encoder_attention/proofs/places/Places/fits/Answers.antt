@@ -1,9 +1,5 @@
 -- `encoder_attention::places::Places::fits` meets its contract. Assumes nothing.
-use mathlib.Core.Path.{sym, ◌∙◌}
-use Prim.Native.Nat.{◌+◌, ◌*◌}
-use native.Mathlib.Omega.{arith}
 use Rattle.encoder_attention.specs.inner.Room.{attend_fits}
-use borrow.Author.Tests.{leb-true}
 use Rattle.encoder_attention.proofs.places.Places.fits.Goals as goal
 
 pub returns-then-rows_inside-2 : goal.returns-then-rows_inside-2
