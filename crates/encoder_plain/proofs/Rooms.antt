@@ -7,8 +7,8 @@ use native.Mathlib.Omega.{arith}
 use borrow.Author.Tests.{leb-true, le-leb}
 use Rattle.buffers.specs.inner.Room.{inside, aside}
 use Rattle.buffers.proofs.Rooms.{and_parts, two, aside-says, aside-is}
-use Rattle.encoder_plain.specs.inner.Room.{places_fit, plain_fits}
-use Rattle.encoder_plain.specs.inner.Fits.{ScoresFit, SumsFit, PlainFits}
+use Rattle.encoder_plain.specs.inner.Room.{plain_fits}
+use Rattle.encoder_plain.specs.inner.Fits.{PlainFits}
 
 module _ {len q k v m out t heads hd : ℕ} where
   pub plain-says : plain_fits len q k v m out t heads hd ≡ true → PlainFits len q k v m out t heads hd

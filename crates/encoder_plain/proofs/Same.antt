@@ -1,6 +1,5 @@
 -- The source's form is the row-wise engine's: the same sums, and every scaled score is finite in the one order exactly when it is
 -- in the other. Assumes nothing.
-use mathlib.Core.Bool.{Bool, true, ◌&&◌}
 use mathlib.Core.Path.{◌≡◌, refl, sym, ap, ◌∙◌}
 use mathlib.Core.List.{List}
 use Prim.Native.Nat.{ℕ, zero, suc, ◌+◌, ◌*◌, ◌≤◌, ◌<◌}
@@ -10,12 +9,12 @@ use lib.ListN.{length, get_or}
 use lib.Ieee.{Float, nan, binary32, mul}
 use Rattle.number_floats.specs.Constants.{zero32}
 use Rattle.buffers.specs.Rows.{tab, rows}
-use Rattle.buffers.specs.Region.{region, put, put_rows}
+use Rattle.buffers.specs.Region.{region, put_rows}
 use Rattle.buffers.proofs.Regions.{put_all, length-region, get_or-region}
 use Rattle.buffers.proofs.Lists.{fit, length-tab, tab-ext, length-rows, get_d_rows, rows_ext, piece-at}
 use Rattle.buffers.proofs.Puts.{puts-joined, puts-ext}
-use Rattle.encoder_linear.specs.Linear.{sum_of, dot_of, column_of, weighed_row}
-use Rattle.encoder_linear.proofs.Sums.{sum-ext, length-weighed}
+use Rattle.encoder_linear.specs.Linear.{sum_of, column_of, weighed_row}
+use Rattle.encoder_linear.proofs.Sums.{sum-ext}
 use Rattle.encoder_kernels.specs.Kernels.{all_finite}
 use Rattle.encoder_softmax.specs.Softmax.{softmax_of}
 use Rattle.encoder_softmax.proofs.Lengths.{length-softmax}

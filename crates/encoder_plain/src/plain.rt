@@ -9,7 +9,7 @@ ghost use Rattle.buffers.specs.Region.{region, put, put_rows};
 ghost use Rattle.buffers.specs.Each.{blank};
 ghost use Rattle.encoder_kernels.specs.Kernels.{all_finite};
 ghost use Rattle.encoder_linear.specs.Linear.{sum_of};
-ghost use Rattle.encoder_softmax.specs.Softmax.{total_of, exp_less, softmax_of};
+ghost use Rattle.encoder_softmax.specs.Softmax.{exp_less, softmax_of};
 ghost use Rattle.encoder_plain.specs.Plain.{floats, off, score, scores, soft_rows, sums, all_scores, plain_of};
 ghost use Rattle.encoder_plain.specs.inner.Fits.{ScoresFit, SumsFit, PlainFits};
 ghost use Rattle.encoder_plain.specs.inner.Room.{plain_fits};

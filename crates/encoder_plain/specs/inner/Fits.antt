@@ -1,6 +1,6 @@
 -- What the inner functions ask of the places and lengths that they are handed: n floats of queries, keys, values and sums, and a
 -- matrix of t * t. Assumes nothing.
-use Rattle.std.specs.Prelude.{ℕ, ◌+◌, ◌*◌, ◌≤◌, ◌<◌}
+use Rattle.std.specs.Prelude.{ℕ, ◌+◌, ◌*◌, ◌≤◌}
 use Rattle.buffers.specs.inner.Apart.{Apart}
 
 -- queries, keys and the matrix of their scores

@@ -1,6 +1,6 @@
 -- `encoder_plain::plain::every_head` meets its contract. Assumes nothing.
 use mathlib.Core.Path.{◌≡◌}
-use Prim.Native.Nat.{◌+◌, ◌*◌, ◌-◌, ◌≤◌}
+use Prim.Native.Nat.{◌+◌, ◌*◌, ◌≤◌}
 use lib.ListN.{length}
 use Rattle.number_floats.specs.Constants.{zero32}
 use Rattle.buffers.specs.Rows.{rows}

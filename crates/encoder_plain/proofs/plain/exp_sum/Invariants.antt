@@ -1,6 +1,6 @@
 -- `encoder_plain::plain::exp_sum` meets its contract. Assumes nothing.
 use mathlib.Core.Path.{◌≡◌}
-use Prim.Native.Nat.{◌-◌, ◌≤◌}
+use Prim.Native.Nat.{◌≤◌}
 use lib.ListN.{length, get_or}
 use lib.Ieee.{nan, binary32, sub}
 use Rattle.number_exp_tanh.specs.Exp.{E}

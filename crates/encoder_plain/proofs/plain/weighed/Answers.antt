@@ -3,7 +3,6 @@ use mathlib.Core.Path.{refl, ap, ◌∙◌}
 use Prim.Native.Nat.{◌+◌, ◌*◌}
 use native.Mathlib.Omega.{arith}
 use native.Mathlib.Numerals.{add-one}
-use Rattle.buffers.proofs.Lists.{fit}
 use lib.ListN.{get_or}
 use lib.Ieee.{nan, binary32, mul}
 use Rattle.encoder_linear.specs.Linear.{sum_of}

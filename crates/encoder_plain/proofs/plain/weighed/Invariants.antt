@@ -1,6 +1,6 @@
 -- `encoder_plain::plain::weighed` meets its contract. Assumes nothing.
 use mathlib.Core.Path.{◌≡◌}
-use Prim.Native.Nat.{◌+◌, ◌*◌, ◌-◌, ◌≤◌}
+use Prim.Native.Nat.{◌+◌, ◌*◌, ◌≤◌}
 use lib.ListN.{get_or}
 use lib.Ieee.{nan, binary32, mul}
 use Rattle.encoder_linear.specs.Linear.{sum_of}

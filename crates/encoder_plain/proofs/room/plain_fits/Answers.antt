@@ -1,8 +1,4 @@
 -- `encoder_plain::room::plain_fits` meets its contract. Assumes nothing.
-use mathlib.Core.Path.{sym, ◌∙◌}
-use Prim.Native.Nat.{◌+◌, ◌*◌}
-use native.Mathlib.Omega.{arith}
-use borrow.Author.Tests.{leb-true}
 use Rattle.encoder_plain.specs.inner.Room.{plain_fits}
 use Rattle.encoder_plain.proofs.room.plain_fits.Goals as goal
 
