@@ -12,7 +12,8 @@ use lib.Seq.{drop-cons}
 use borrow.Author.Tests.{leb-true, leb-false, eqb-false}
 use Rattle.json_grammar.specs.inner.Machine.{Class, just, lowest, highest, digit, Sym, natural, digits, frac, exp, signed, range, one, from, byte, alts, nullable, within, or_else, pick, took, empty, stuck, settled, settle, ready, go}
 use Rattle.json_grammar.specs.inner.Steps.{is_blank, is_digit, is_more, Lexes, letters, skip}
-use Rattle.json_grammar.specs.declared.scan.Read.TheVariants as R
+use Rattle.std.specs.Prelude.{Ok, Err}
+use Rattle.json_grammar.specs.declared.scan.Fault.TheVariants as F
 use Rattle.json_grammar.proofs.Picks.{inside, outside_low, outside_high, clear, at, settle-at}
 use Rattle.json_grammar.proofs.Steps.{go-nil, go-took, byte-out, or-neither, ends, stops}
 
@@ -121,15 +122,15 @@ letters-at w j h = rw (add-one j, drop-cons w j 0 h)
 -- ---- words, from letter j on
 
 module _ {s : List ℕ} {i : ℕ} (w : List ℕ) (j : ℕ) where
-  pub word_end : length s ≤ i → j < length w → Lexes s i (letters (drop j w)) (R.Stop i)
+  pub word_end : length s ≤ i → j < length w → Lexes s i (letters (drop j w)) (Err (F.Stop i))
   unfolding ready nullable
   word_end h k = rw (letters-at w j k) (ends refl h)
 
-  pub word-other : i < length s → j < length w → (get_or s i 0 ≡ get_or w j 0 → ⊥) → Lexes s i (letters (drop j w)) (R.Stop i)
+  pub word-other : i < length s → j < length w → (get_or s i 0 ≡ get_or w j 0 → ⊥) → Lexes s i (letters (drop j w)) (Err (F.Stop i))
   unfolding settle alts pick nullable
   word-other h k ne = rw (letters-at w j k) (stops h (rw (byte-out (get_or w j 0) (get_or s i 0) [] ne)))
 
-  pub word-done : length w ≤ j → Lexes s i (letters (drop j w)) (R.Past i)
+  pub word-done : length w ≤ j → Lexes s i (letters (drop j w)) (Ok i)
   unfolding letters
   word-done h = record { same = λ d. rw (drop_of_length-le w h) (sym (go-nil d (drop i s))); low = omega arith; high = omega arith }
 

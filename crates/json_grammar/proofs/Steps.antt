@@ -12,8 +12,10 @@ use lib.Seq.{drop-cons}
 use borrow.Author.Tests.{le-leb, leb-true, eqb-true, eqb-false}
 use Rattle.json_grammar.specs.inner.Machine.{Sym, Alt, byte, spaced, alts, height, within, pick, took, empty, stuck, settle, ready, past, at_end, onward, go, after}
 use Rattle.json_grammar.specs.inner.Steps.{is_blank, seen, Reads, Lexes, skip, Skips}
-use Rattle.json_grammar.specs.declared.scan.Read.{Read}
-use Rattle.json_grammar.specs.declared.scan.Read.TheVariants as R
+use Rattle.json_grammar.specs.Judge.{Read}
+use Rattle.std.specs.Prelude.{Ok, Err}
+use Rattle.json_grammar.specs.declared.scan.Fault.{Fault}
+use Rattle.json_grammar.specs.declared.scan.Fault.TheVariants as F
 use Rattle.json_grammar.proofs.Frame.{frame}
 use Rattle.json_grammar.proofs.Picks.{go-some}
 
@@ -47,22 +49,22 @@ go-alike s at d α β h e = go-at s at d α h ∙ rw e (sym (go-at s at d β h))
 
 module _ {s : List ℕ} {at : ℕ} {α : List Sym} where
   -- the end is reached
-  pub ends : ready α ≡ false → length s ≤ at → Lexes s at α (R.Stop at)
+  pub ends : ready α ≡ false → length s ≤ at → Lexes s at α (Err (F.Stop at))
   ends e h = record { same = λ d. rw (go-end s at d α h, e, drop_of_length-le s h); low = omega arith; high = omega arith }
 
-  pub ends-past : ready α ≡ true → length s ≤ at → Lexes s at α (R.Past at)
+  pub ends-past : ready α ≡ true → length s ≤ at → Lexes s at α (Ok at)
   ends-past e h = record { same = λ d. rw (go-end s at d α h, e, drop_of_length-le s h); low = omega arith; high = omega arith }
 
   -- no alternative has the byte
-  pub stops : at < length s → settle α (get_or s at 0) ≡ stuck → Lexes s at α (R.Stop at)
+  pub stops : at < length s → settle α (get_or s at 0) ≡ stuck → Lexes s at α (Err (F.Stop at))
   stops h e = record { same = λ d. rw (go-at s at d α h, e); low = omega arith; high = omega arith }
 
   -- nothing is expected that has the byte
-  pub passes : at < length s → settle α (get_or s at 0) ≡ empty → Lexes s at α (R.Past at)
+  pub passes : at < length s → settle α (get_or s at 0) ≡ empty → Lexes s at α (Ok at)
   passes h e = record { same = λ d. rw (go-at s at d α h, e); low = omega arith; high = omega arith }
 
   -- the byte is the last that is expected
-  pub closes : at < length s → settle α (get_or s at 0) ≡ took false [] → Lexes s at α (R.Past (at + 1))
+  pub closes : at < length s → settle α (get_or s at 0) ≡ took false [] → Lexes s at α (Ok (at + 1))
   closes h e = record { same = λ d. sym (go-took s at d α [] h e ∙ go-nil d (drop (at + 1) s)); low = omega arith; high = omega arith }
 
   -- a byte is taken, and the others are read
@@ -92,14 +94,12 @@ module _ {s : List ℕ} {at : ℕ} {α : List Sym} (base : List Sym) (flat : hei
   whole : {r : Read} → Lexes s at α r → (d : ℕ) → go d (α ++ base) (drop at s) ≡ after (seen s r) (go d base)
   whole k d = frame-flat d base α (drop at s) flat ∙ rw (← k.same d)
 
-  pub then-past : {n : ℕ} {r : Read} → Lexes s at α (R.Past n) → Lexes s n base r → Lexes s at (α ++ base) r
+  pub then-past : {n : ℕ} {r : Read} → Lexes s at α (Ok n) → Lexes s n base r → Lexes s at (α ++ base) r
   then-past k m = record { same = λ d. m.same d ∙ sym (whole k d); low = omega (arith, k.low, m.low); high = omega (arith, k.high, m.high, k.low) }
 
-  pub then-stop : {n : ℕ} → Lexes s at α (R.Stop n) → Lexes s at (α ++ base) (R.Stop n)
-  then-stop k = record { same = λ d. sym (whole k d); low = k.low; high = k.high }
-
-  pub then-deep : {n : ℕ} → Lexes s at α (R.Deep n) → Lexes s at (α ++ base) (R.Deep n)
-  then-deep k = record { same = λ d. sym (whole k d); low = k.low; high = k.high }
+  pub then-err : (e : Fault) → Lexes s at α (Err e) → Lexes s at (α ++ base) (Err e)
+  then-err (F.Stop n) k = record { same = λ d. sym (whole k d); low = k.low; high = k.high }
+  then-err (F.Deep n) k = record { same = λ d. sym (whole k d); low = k.low; high = k.high }
 
 -- ---- blanks
 

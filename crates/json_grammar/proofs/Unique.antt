@@ -6,23 +6,24 @@ use native.Mathlib.Omega.{arith}
 use lib.ListN.{length, drop, length-drop}
 use Rattle.json_grammar.specs.inner.Machine.{Sym}
 use Rattle.json_grammar.specs.inner.Steps.{seen, place, Reads, Lexes, LexesTo, Skips}
-use Rattle.json_grammar.specs.declared.scan.Read.{Read}
-use Rattle.json_grammar.specs.declared.scan.Read.TheVariants as R
+use Rattle.json_grammar.specs.Judge.{Read}
+use Rattle.std.specs.Prelude.{Ok, Err}
+use Rattle.json_grammar.specs.declared.scan.Fault.TheVariants as F
 
 -- a place from `at` on, and not behind the end, is told by what is left there
 pub same_place : (s : List ℕ) (at n m : ℕ) → at ≤ n → n ≤ at + (length s - at) → at ≤ m → m ≤ at + (length s - at) → drop n s ≡ drop m s → n ≡ m
 same_place s at n m a b c d e = let h = ap length e in omega (arith, rw (length-drop, length-drop) at h)
 
 same_seen : (s : List ℕ) (at : ℕ) (r q : Read) → at ≤ place r → place r ≤ at + (length s - at) → at ≤ place q → place q ≤ at + (length s - at) → seen s r ≡ seen s q → r ≡ q
-same_seen s at (R.Past n) (R.Past m) a b c d e = let h : drop n s ≡ drop m s = cc in ap R.Past (same_place s at n m a b c d h)
-same_seen s at (R.Past n) (R.Stop m) a b c d e = let z : ◌≡◌ {A = ℕ} 0 1 = cc in absurd (omega arith)
-same_seen s at (R.Past n) (R.Deep m) a b c d e = let z : ◌≡◌ {A = ℕ} 0 1 = cc in absurd (omega arith)
-same_seen s at (R.Stop n) (R.Past m) a b c d e = let z : ◌≡◌ {A = ℕ} 0 1 = cc in absurd (omega arith)
-same_seen s at (R.Stop n) (R.Stop m) a b c d e = let h : drop n s ≡ drop m s = cc in ap R.Stop (same_place s at n m a b c d h)
-same_seen s at (R.Stop n) (R.Deep m) a b c d e = let z : ◌≡◌ {A = ℕ} 0 1 = cc in absurd (omega arith)
-same_seen s at (R.Deep n) (R.Past m) a b c d e = let z : ◌≡◌ {A = ℕ} 0 1 = cc in absurd (omega arith)
-same_seen s at (R.Deep n) (R.Stop m) a b c d e = let z : ◌≡◌ {A = ℕ} 0 1 = cc in absurd (omega arith)
-same_seen s at (R.Deep n) (R.Deep m) a b c d e = let h : drop n s ≡ drop m s = cc in ap R.Deep (same_place s at n m a b c d h)
+same_seen s at (Ok n) (Ok m) a b c d e = let h : drop n s ≡ drop m s = cc in ap Ok (same_place s at n m a b c d h)
+same_seen s at (Ok n) (Err (F.Stop m)) a b c d e = let z : ◌≡◌ {A = ℕ} 0 1 = cc in absurd (omega arith)
+same_seen s at (Ok n) (Err (F.Deep m)) a b c d e = let z : ◌≡◌ {A = ℕ} 0 1 = cc in absurd (omega arith)
+same_seen s at (Err (F.Stop n)) (Ok m) a b c d e = let z : ◌≡◌ {A = ℕ} 0 1 = cc in absurd (omega arith)
+same_seen s at (Err (F.Stop n)) (Err (F.Stop m)) a b c d e = let h : drop n s ≡ drop m s = cc in ap (λ (i : ℕ). Err (F.Stop i)) (same_place s at n m a b c d h)
+same_seen s at (Err (F.Stop n)) (Err (F.Deep m)) a b c d e = let z : ◌≡◌ {A = ℕ} 0 1 = cc in absurd (omega arith)
+same_seen s at (Err (F.Deep n)) (Ok m) a b c d e = let z : ◌≡◌ {A = ℕ} 0 1 = cc in absurd (omega arith)
+same_seen s at (Err (F.Deep n)) (Err (F.Stop m)) a b c d e = let z : ◌≡◌ {A = ℕ} 0 1 = cc in absurd (omega arith)
+same_seen s at (Err (F.Deep n)) (Err (F.Deep m)) a b c d e = let h : drop n s ≡ drop m s = cc in ap (λ (i : ℕ). Err (F.Deep i)) (same_place s at n m a b c d h)
 
 -- of `blank`
 pub skips-unique : {s : List ℕ} {at : ℕ} (n m : ℕ) → Skips s at n → Skips s at m → n ≡ m
@@ -34,7 +35,7 @@ lexes-unique {s} {at} r q x y = same_seen s at r q x.low x.high y.low y.high (x.
 
 -- of `digits`
 pub digits-unique : {s : List ℕ} {at : ℕ} {α : List Sym} (n m : ℕ) → LexesTo s at α n → LexesTo s at α m → n ≡ m
-digits-unique n m x y = ap place (lexes-unique (R.Past n) (R.Past m) x y)
+digits-unique n m x y = ap place (lexes-unique (Ok n) (Ok m) x y)
 
 -- of what reads a value
 pub reads-unique : {s : List ℕ} {at d : ℕ} {α : List Sym} (r q : Read) → Reads s at d α r → Reads s at d α q → r ≡ q

@@ -11,8 +11,9 @@ use Rattle.json_grammar.specs.inner.Machine.{Out, past, stop, deep, read}
 use Rattle.json_grammar.specs.inner.Steps.{located}
 use Rattle.json_grammar.specs.Judge as J
 use Rattle.json_grammar.specs.Judge.{Begins, Alike, both_end, same_byte, Judged}
-use Rattle.json_grammar.specs.declared.scan.Read.{Read}
-use Rattle.json_grammar.specs.declared.scan.Read.TheVariants as R
+use Rattle.json_grammar.specs.Judge.{Read}
+use Rattle.std.specs.Prelude.{Ok, Err}
+use Rattle.json_grammar.specs.declared.scan.Fault.TheVariants as F
 use Rattle.json_grammar.proofs.Sound.{Bracket}
 use Rattle.json_grammar.proofs.Judged as L
 use Rattle.json_grammar.proofs.Judged.{judged, Refused}
@@ -133,17 +134,17 @@ stop-deep {d} s n m x y = of (dec_lt n m) (dec_lt m n)
 
 pub only : (d : ℕ) (s : List ℕ) (r q : Read) → Judged d s r → Judged d s q → r ≡ q
 unfolding Judged
-only d s (R.Past n) (R.Past m) x y = ap R.Past (x.0 ∙ sym y.0)
-only d s (R.Past n) (R.Stop m) x y = absurd (stopped-text s m y x.1)
-only d s (R.Past n) (R.Deep m) x y = absurd (y.refused (begins-all s m y.inside x.1))
-only d s (R.Stop n) (R.Past m) x y = absurd (stopped-text s n x y.1)
-only d s (R.Stop n) (R.Stop m) x y = ap R.Stop (same_place n m (stop-stop s n m x y) (stop-stop s m n y x))
-only d s (R.Stop n) (R.Deep m) x y = absurd (stop-deep s n m x y)
-only d s (R.Deep n) (R.Past m) x y = absurd (x.refused (begins-all s n x.inside y.1))
-only d s (R.Deep n) (R.Stop m) x y = absurd (stop-deep s m n y x)
-only d s (R.Deep n) (R.Deep m) x y = ap R.Deep (same_place n m (deep-deep s n m x y) (deep-deep s m n y x))
+only d s (Ok n) (Ok m) x y = ap Ok (x.0 ∙ sym y.0)
+only d s (Ok n) (Err (F.Stop m)) x y = absurd (stopped-text s m y x.1)
+only d s (Ok n) (Err (F.Deep m)) x y = absurd (y.refused (begins-all s m y.inside x.1))
+only d s (Err (F.Stop n)) (Ok m) x y = absurd (stopped-text s n x y.1)
+only d s (Err (F.Stop n)) (Err (F.Stop m)) x y = ap (λ (i : ℕ). Err (F.Stop i)) (same_place n m (stop-stop s n m x y) (stop-stop s m n y x))
+only d s (Err (F.Stop n)) (Err (F.Deep m)) x y = absurd (stop-deep s n m x y)
+only d s (Err (F.Deep n)) (Ok m) x y = absurd (x.refused (begins-all s n x.inside y.1))
+only d s (Err (F.Deep n)) (Err (F.Stop m)) x y = absurd (stop-deep s m n y x)
+only d s (Err (F.Deep n)) (Err (F.Deep m)) x y = ap (λ (i : ℕ). Err (F.Deep i)) (same_place n m (deep-deep s n m x y) (deep-deep s m n y x))
 
 -- every text of at most d levels is accepted
-pub accepted : (d : ℕ) (s : List ℕ) (r : Read) → Text d s → Judged d s r → r ≡ R.Past (length s)
+pub accepted : (d : ℕ) (s : List ℕ) (r : Read) → Text d s → Judged d s r → r ≡ Ok (length s)
 unfolding Judged
-accepted d s r t k = only d s r (R.Past (length s)) k (refl, t)
+accepted d s r t k = only d s r (Ok (length s)) k (refl, t)

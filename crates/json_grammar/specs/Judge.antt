@@ -1,8 +1,12 @@
 -- What the answers of the reader say of a text, by the grammar alone. Assumes nothing.
-use Rattle.std.specs.Prelude.{◌≡◌, List, [], ◌∷◌, ◌++◌, ◌⊎◌, ℕ, suc, ◌≤◌, ◌<◌, length, get_or, take, drop}
+use Rattle.std.specs.Prelude.{◌≡◌, List, [], ◌∷◌, ◌++◌, ◌⊎◌, ℕ, suc, ◌≤◌, ◌<◌, length, get_or, take, drop, Result, Ok, Err}
 use Rattle.json_grammar.specs.Grammar.{Text}
-use Rattle.json_grammar.specs.declared.scan.Read.{Read}
-use Rattle.json_grammar.specs.declared.scan.Read.TheVariants as R
+use Rattle.json_grammar.specs.declared.scan.Fault.{Fault}
+use Rattle.json_grammar.specs.declared.scan.Fault.TheVariants as F
+
+-- what is behind, or why no text goes on there
+abbrev pub Read : Type 0
+Read = Result ℕ Fault
 
 -- the bytes p begin a text of at most d levels
 abbrev pub Begins : ℕ → List ℕ → Type 0
@@ -30,6 +34,6 @@ pub record Deepened (d : ℕ) (s : List ℕ) (n : ℕ) : Type 0 where
 -- The answer of a reader that takes at most d levels, for the bytes s: they are such a text; or they are none, and it
 -- stops at byte n, or a level too many is opened there
 unfoldable pub Judged : ℕ → List ℕ → Read → Type 0
-Judged d s (R.Past n) = (n ≡ length s) × Text d s
-Judged d s (R.Stop n) = Stopped d s n
-Judged d s (R.Deep n) = Deepened d s n
+Judged d s (Ok n) = (n ≡ length s) × Text d s
+Judged d s (Err (F.Stop n)) = Stopped d s n
+Judged d s (Err (F.Deep n)) = Deepened d s n

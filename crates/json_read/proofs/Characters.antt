@@ -10,8 +10,10 @@ use lib.ListN.{length, get_or, drop}
 use Rattle.json_grammar.specs.inner.Machine.{tail, Sym, chars, escape, hex, range, alts, nullable, height, within, pick, took, stuck, settle, go}
 use Rattle.json_grammar.specs.inner.Steps.{place, Lexes}
 use Rattle.json_read.specs.inner.Steps.{Char}
-use Rattle.json_grammar.specs.declared.scan.Read.{Read}
-use Rattle.json_grammar.specs.declared.scan.Read.TheVariants as R
+use Rattle.json_grammar.specs.Judge.{Read}
+use Rattle.std.specs.Prelude.{Ok, Err}
+use Rattle.json_grammar.specs.declared.scan.Fault.{Fault}
+use Rattle.json_grammar.specs.declared.scan.Fault.TheVariants as F
 use Rattle.json_grammar.proofs.Picks.{clear, at, settle-at}
 use Rattle.json_grammar.proofs.Steps.{go-took, frame-flat, byte-out, stops}
 
@@ -27,7 +29,7 @@ module _ {s : List ℕ} {at : ℕ} where
         falls = λ n q. omega (arith, k.low, ap place q);
       }
 
-  pub char-plain : at < length s → settle (chars ∷ []) (get_or s at 0) ≡ took false (chars ∷ []) → Char s at (R.Past (at + 1))
+  pub char-plain : at < length s → settle (chars ∷ []) (get_or s at 0) ≡ took false (chars ∷ []) → Char s at (Ok (at + 1))
   char-plain h e =
       record {
         same = λ d. sym (go-took s at d (chars ∷ []) (chars ∷ []) h e);
@@ -36,23 +38,21 @@ module _ {s : List ℕ} {at : ℕ} where
         falls = λ n q. omega (arith, ap place q);
       }
 
-  pub char-stuck : at < length s → settle (chars ∷ []) (get_or s at 0) ≡ stuck → Char s at (R.Stop at)
+  pub char-stuck : at < length s → settle (chars ∷ []) (get_or s at 0) ≡ stuck → Char s at (Err (F.Stop at))
   char-stuck h e =
       let k = stops h e in
       record { same = λ d. k.same d; low = omega arith; high = omega arith; falls = λ n q. let z : ◌≡◌ {A = ℕ} 0 1 = cc in absurd (omega arith) }
 
   -- the others are read behind it
-  pub char-past : {n : ℕ} → Char s at (R.Past n) → (d : ℕ) → go d (chars ∷ []) (drop at s) ≡ go d (chars ∷ []) (drop n s)
+  pub char-past : {n : ℕ} → Char s at (Ok n) → (d : ℕ) → go d (chars ∷ []) (drop at s) ≡ go d (chars ∷ []) (drop n s)
   char-past k d = sym (k.same d)
 
   pub char-told : {r q : Read} → r ≡ q → Char s at r → Char s at q
   char-told e k = subst (Char s at) e k
 
-  pub char-stops : {n : ℕ} → Char s at (R.Stop n) → Lexes s at (chars ∷ []) (R.Stop n)
-  char-stops k = record { same = λ d. k.same d; low = k.low; high = k.high }
-
-  pub char-deep : {n : ℕ} → Char s at (R.Deep n) → Lexes s at (chars ∷ []) (R.Deep n)
-  char-deep k = record { same = λ d. k.same d; low = k.low; high = k.high }
+  pub char-err : (e : Fault) → Char s at (Err e) → Lexes s at (chars ∷ []) (Err e)
+  char-err (F.Stop n) k = record { same = λ d. k.same d; low = k.low; high = k.high }
+  char-err (F.Deep n) k = record { same = λ d. k.same d; low = k.low; high = k.high }
 
 module _ (b : ℕ) where
   -- one byte that stands for itself

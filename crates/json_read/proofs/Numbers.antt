@@ -7,8 +7,9 @@ use native.Mathlib.Omega.{arith}
 use lib.ListN.{length, get_or, drop}
 use Rattle.json_grammar.specs.inner.Machine.{value, values, spaced, natural, digits, frac, exp, settle, alts, pick, within, height, weight, ready, nullable}
 use Rattle.json_grammar.specs.inner.Steps.{is_blank, is_digit, is_more, Lexes, LexesTo}
-use Rattle.json_grammar.specs.declared.scan.Read.{Read}
-use Rattle.json_grammar.specs.declared.scan.Read.TheVariants as R
+use Rattle.json_grammar.specs.Judge.{Read}
+use Rattle.std.specs.Prelude.{Ok, Err}
+use Rattle.json_grammar.specs.declared.scan.Fault.TheVariants as F
 use Rattle.json_grammar.proofs.Steps.{go-took, go-alike, frame-flat, ends-past, passes, takes, alike, moved}
 use Rattle.json_grammar.proofs.Lexing.{natural-more, more-none}
 use Rattle.json_read.specs.inner.Steps.{Minus, minus, no_minus, Whole}
@@ -41,11 +42,11 @@ module _ {s : List ℕ} {at n : ℕ} (k : Whole s at n) where
   pub whole-then : {r : Read} → Lexes s n (frac ∷ (exp ∷ [])) r → Lexes s at (natural ∷ []) r
   whole-then z = moved n (frac ∷ (exp ∷ [])) k.low k.high k.same z
 
-  pub whole-end : length s ≤ n → Lexes s at (natural ∷ []) (R.Past n)
+  pub whole-end : length s ≤ n → Lexes s at (natural ∷ []) (Ok n)
   unfolding ready nullable
   whole-end h = whole-then (ends-past refl h)
 
-  pub whole-alone : n < length s → is_more (get_or s n 0) ≡ false → Lexes s at (natural ∷ []) (R.Past n)
+  pub whole-alone : n < length s → is_more (get_or s n 0) ≡ false → Lexes s at (natural ∷ []) (Ok n)
   whole-alone h e = whole-then (passes h (more-none (get_or s n 0) e))
 
 -- a value that begins as no other does is a number, with a minus or without

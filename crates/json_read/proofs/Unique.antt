@@ -8,11 +8,12 @@ use lib.ListN.{drop}
 use Rattle.json_grammar.specs.Judge.{Judged}
 use Rattle.json_grammar.specs.inner.Machine.{value, key, colon}
 use Rattle.json_grammar.specs.inner.Steps.{Reads, Lexes}
-use Rattle.json_grammar.specs.declared.scan.Read.{Read}
+use Rattle.json_grammar.specs.Judge.{Read}
 use Rattle.json_grammar.proofs.Unique.{same_place, lexes-unique, reads-unique}
 use Rattle.json_grammar.proofs.Verdict.{only}
 use Rattle.json_read.specs.inner.Steps.{parted, Parts}
-use Rattle.json_read.specs.declared.value.Next.{Next}
+use Rattle.std.specs.Prelude.{Ok, Err}
+use Rattle.json_read.specs.inner.Steps.{Part}
 use Rattle.json_read.specs.declared.value.Next.TheVariants as N
 
 pub name-unique : {s : List ℕ} {at : ℕ} (r q : Read) → Lexes s at (key ∷ (colon ∷ [])) r → Lexes s at (key ∷ (colon ∷ [])) q → r ≡ q
@@ -24,16 +25,16 @@ read-value-unique r q = reads-unique r q
 pub read-text-unique : (d : ℕ) (s : List ℕ) (r q : Read) → Judged d s r → Judged d s q → r ≡ q
 read-text-unique = only
 
-pub part-unique : {s : List ℕ} {at close : ℕ} (r q : Next) → Parts s at close r → Parts s at close q → r ≡ q
+pub part-unique : {s : List ℕ} {at close : ℕ} (r q : Part) → Parts s at close r → Parts s at close q → r ≡ q
 part-unique {s} {at} {close} r q x y = of r q x y (x.same ∙ sym y.same)
   where
-    of : (r q : Next) → Parts s at close r → Parts s at close q → parted s r ≡ parted s q → r ≡ q
-    of (N.More n) (N.More m) x y e = let h : drop n s ≡ drop m s = cc in ap N.More (same_place s at n m x.low x.high y.low y.high h)
-    of (N.More n) (N.Closed m) x y e = let z : ◌≡◌ {A = ℕ} 0 1 = cc in absurd (omega arith)
-    of (N.More n) (N.Wrong m) x y e = let z : ◌≡◌ {A = ℕ} 0 1 = cc in absurd (omega arith)
-    of (N.Closed n) (N.More m) x y e = let z : ◌≡◌ {A = ℕ} 0 1 = cc in absurd (omega arith)
-    of (N.Closed n) (N.Closed m) x y e = let h : drop n s ≡ drop m s = cc in ap N.Closed (same_place s at n m x.low x.high y.low y.high h)
-    of (N.Closed n) (N.Wrong m) x y e = let z : ◌≡◌ {A = ℕ} 0 1 = cc in absurd (omega arith)
-    of (N.Wrong n) (N.More m) x y e = let z : ◌≡◌ {A = ℕ} 0 1 = cc in absurd (omega arith)
-    of (N.Wrong n) (N.Closed m) x y e = let z : ◌≡◌ {A = ℕ} 0 1 = cc in absurd (omega arith)
-    of (N.Wrong n) (N.Wrong m) x y e = let h : drop n s ≡ drop m s = cc in ap N.Wrong (same_place s at n m x.low x.high y.low y.high h)
+    of : (r q : Part) → Parts s at close r → Parts s at close q → parted s r ≡ parted s q → r ≡ q
+    of (Ok (N.More n)) (Ok (N.More m)) x y e = let h : drop n s ≡ drop m s = cc in ap (λ (i : ℕ). Ok (N.More i)) (same_place s at n m x.low x.high y.low y.high h)
+    of (Ok (N.More n)) (Ok (N.Closed m)) x y e = let z : ◌≡◌ {A = ℕ} 0 1 = cc in absurd (omega arith)
+    of (Ok (N.More n)) (Err m) x y e = let z : ◌≡◌ {A = ℕ} 0 1 = cc in absurd (omega arith)
+    of (Ok (N.Closed n)) (Ok (N.More m)) x y e = let z : ◌≡◌ {A = ℕ} 0 1 = cc in absurd (omega arith)
+    of (Ok (N.Closed n)) (Ok (N.Closed m)) x y e = let h : drop n s ≡ drop m s = cc in ap (λ (i : ℕ). Ok (N.Closed i)) (same_place s at n m x.low x.high y.low y.high h)
+    of (Ok (N.Closed n)) (Err m) x y e = let z : ◌≡◌ {A = ℕ} 0 1 = cc in absurd (omega arith)
+    of (Err n) (Ok (N.More m)) x y e = let z : ◌≡◌ {A = ℕ} 0 1 = cc in absurd (omega arith)
+    of (Err n) (Ok (N.Closed m)) x y e = let z : ◌≡◌ {A = ℕ} 0 1 = cc in absurd (omega arith)
+    of (Err n) (Err m) x y e = let h : drop n s ≡ drop m s = cc in ap Err (same_place s at n m x.low x.high y.low y.high h)

@@ -14,9 +14,11 @@ use borrow.Author.Tests.{lt-leb, eq-eqb, ne_eqb, eqb-true, eqb-false}
 use Rattle.json_grammar.specs.inner.Machine.{Sym, value, first, rest, first_member, rest-member, key, colon, chars, natural, blanks, Alt, byte, behind, spaced, values, alts, nullable, height, weight, within, or_else, pick, Settled, took, empty, stuck, settled, settle, ready, Out, past, stop, at_end, onward, go, after, ended, read}
 use Rattle.json_grammar.specs.inner.Steps.{is_blank, seen, place, located, Reads, Lexes, skip, Skips}
 use Rattle.json_read.specs.inner.Steps.{Sep, more, closed, wrong, sep_of, separate, part_place, Parts}
-use Rattle.json_grammar.specs.declared.scan.Read.{Read}
-use Rattle.json_grammar.specs.declared.scan.Read.TheVariants as R
-use Rattle.json_read.specs.declared.value.Next.{Next}
+use Rattle.json_grammar.specs.Judge.{Read}
+use Rattle.std.specs.Prelude.{Ok, Err}
+use Rattle.json_grammar.specs.declared.scan.Fault.{Fault}
+use Rattle.json_grammar.specs.declared.scan.Fault.TheVariants as F
+use Rattle.json_read.specs.inner.Steps.{Part}
 use Rattle.json_read.specs.declared.value.Next.TheVariants as N
 use Rattle.json_grammar.proofs.Frame.{frame}
 use Rattle.json_grammar.proofs.Picks.{inside}
@@ -51,19 +53,19 @@ module _ (α : List Sym) (b : ℕ) (h : is_blank b ≡ false) where
 -- ---- what parts elements
 
 module _ {s : List ℕ} {at i close : ℕ} (k : Skips s at i) where
-  pub part_end : length s ≤ i → Parts s at close (N.Wrong i)
+  pub part_end : length s ≤ i → Parts s at close (Err i)
   unfolding separate
   part_end h = record { same = rw (← k.same, drop_of_length-le s h); low = k.low; high = k.high; falls = λ m q. let z : ◌≡◌ {A = ℕ} 0 1 = cc in absurd (omega arith) }
 
-  pub part-more : i < length s → get_or s i 0 ≡ 0x2C → Parts s at close (N.More (i + 1))
+  pub part-more : i < length s → get_or s i 0 ≡ 0x2C → Parts s at close (Ok (N.More (i + 1)))
   unfolding separate
   part-more h e = record { same = rw (← k.same, add-one i, drop-cons s i 0 h, e); low = omega (arith, k.low); high = omega (arith, k.high); falls = λ m q. omega (arith, k.low, ap part_place q) }
 
-  pub part-closed : i < length s → (get_or s i 0 ≡ 0x2C → ⊥) → get_or s i 0 ≡ close → Parts s at close (N.Closed (i + 1))
+  pub part-closed : i < length s → (get_or s i 0 ≡ 0x2C → ⊥) → get_or s i 0 ≡ close → Parts s at close (Ok (N.Closed (i + 1)))
   unfolding separate
   part-closed h p e = record { same = rw (← k.same, add-one i, drop-cons s i 0 h, ne_eqb (get_or s i 0) 0x2C p, eq-eqb (get_or s i 0) close e); low = omega (arith, k.low); high = omega (arith, k.high); falls = λ m q. let z : ◌≡◌ {A = ℕ} 0 1 = cc in absurd (omega arith) }
 
-  pub part-wrong : i < length s → (get_or s i 0 ≡ 0x2C → ⊥) → (get_or s i 0 ≡ close → ⊥) → Parts s at close (N.Wrong i)
+  pub part-wrong : i < length s → (get_or s i 0 ≡ 0x2C → ⊥) → (get_or s i 0 ≡ close → ⊥) → Parts s at close (Err i)
   unfolding separate
   part-wrong h p e = record { same = rw (← k.same, drop-cons s i 0 h, ne_eqb (get_or s i 0) 0x2C p, ne_eqb (get_or s i 0) close e); low = k.low; high = k.high; falls = λ m q. let z : ◌≡◌ {A = ℕ} 0 1 = cc in absurd (omega arith) }
 
@@ -112,7 +114,7 @@ module _ {s : List ℕ} {at d : ℕ} {α : List Sym} where
   reads-moved i β h w e k = record { same = k.same ∙ sym e; low = omega (arith, k.low); high = omega (arith, k.high) }
 
   -- the bracket opens a level too many
-  pub deepens : (β : List Sym) → at < length s → settle α (get_or s at 0) ≡ took true β → d < height β → Reads s at d α (R.Deep at)
+  pub deepens : (β : List Sym) → at < length s → settle α (get_or s at 0) ≡ took true β → d < height β → Reads s at d α (Err (F.Deep at))
   deepens β h e w = record { same = rw (go-at s at d α h, e, lt-leb (height β) d w); low = omega arith; high = omega arith }
 
   pub opens : (β : List Sym) {r : Read} → at < length s → settle α (get_or s at 0) ≡ took true β → height β ≤ d → Reads s (at + 1) d β r → Reads s at d α r
@@ -122,28 +124,26 @@ module _ {s : List ℕ} {at d : ℕ} {α : List Sym} (base : List Sym) where
   pub reads_whole : {r : Read} → Reads s at d α r → go (d + height base) (α ++ base) (drop at s) ≡ after (seen s r) (go (d + height base) base)
   reads_whole k = frame d base α (drop at s) ∙ rw (← k.same)
 
-  pub reads-past : {n : ℕ} {r : Read} → Reads s at d α (R.Past n) → Reads s n (d + height base) base r → Reads s at (d + height base) (α ++ base) r
+  pub reads-past : {n : ℕ} {r : Read} → Reads s at d α (Ok n) → Reads s n (d + height base) base r → Reads s at (d + height base) (α ++ base) r
   reads-past k m = record { same = m.same ∙ sym (reads_whole k); low = omega (arith, k.low, m.low); high = omega (arith, k.high, m.high, k.low) }
 
-  pub reads-stop : {n : ℕ} → Reads s at d α (R.Stop n) → Reads s at (d + height base) (α ++ base) (R.Stop n)
-  reads-stop k = record { same = sym (reads_whole k); low = k.low; high = k.high }
-
-  pub reads-deep : {n : ℕ} → Reads s at d α (R.Deep n) → Reads s at (d + height base) (α ++ base) (R.Deep n)
-  reads-deep k = record { same = sym (reads_whole k); low = k.low; high = k.high }
+  pub reads-err : (e : Fault) → Reads s at d α (Err e) → Reads s at (d + height base) (α ++ base) (Err e)
+  reads-err (F.Stop n) k = record { same = sym (reads_whole k); low = k.low; high = k.high }
+  reads-err (F.Deep n) k = record { same = sym (reads_whole k); low = k.low; high = k.high }
 
 -- ---- the parts of a list or an object
 
-pub parts-told : {s : List ℕ} {at close : ℕ} {r q : Next} → r ≡ q → Parts s at close r → Parts s at close q
+pub parts-told : {s : List ℕ} {at close : ℕ} {r q : Part} → r ≡ q → Parts s at close r → Parts s at close q
 parts-told {s} {at} {close} e k = subst (Parts s at close) e k
 
 module _ {s : List ℕ} {at d close : ℕ} (n : Sym) (β : List Sym) (e : alts n ≡ spaced (n ∷ []) (byte 0x2C β ∷ (byte close [] ∷ []))) (o : nullable n ≡ false) where
-  pub parts-closed : {m : ℕ} → Parts s at close (N.Closed m) → Reads s at d (n ∷ []) (R.Past m)
+  pub parts-closed : {m : ℕ} → Parts s at close (Ok (N.Closed m)) → Reads s at d (n ∷ []) (Ok m)
   parts-closed {m} k = record { same = ap (sep_go d β) k.same ∙ sym (separates d close n β e o (drop at s)); low = k.low; high = k.high }
 
-  pub parts-wrong : {m : ℕ} → Parts s at close (N.Wrong m) → Reads s at d (n ∷ []) (R.Stop m)
+  pub parts-wrong : {m : ℕ} → Parts s at close (Err m) → Reads s at d (n ∷ []) (Err (F.Stop m))
   parts-wrong {m} k = record { same = ap (sep_go d β) k.same ∙ sym (separates d close n β e o (drop at s)); low = k.low; high = k.high }
 
-pub parts_more : {s : List ℕ} {at close m : ℕ} (d : ℕ) (n : Sym) (β : List Sym) → alts n ≡ spaced (n ∷ []) (byte 0x2C β ∷ (byte close [] ∷ [])) → nullable n ≡ false → Parts s at close (N.More m) → go d (n ∷ []) (drop at s) ≡ go d β (drop m s)
+pub parts_more : {s : List ℕ} {at close m : ℕ} (d : ℕ) (n : Sym) (β : List Sym) → alts n ≡ spaced (n ∷ []) (byte 0x2C β ∷ (byte close [] ∷ [])) → nullable n ≡ false → Parts s at close (Ok (N.More m)) → go d (n ∷ []) (drop at s) ≡ go d β (drop m s)
 parts_more {s} {at} {close} d n β e o k = separates d close n β e o (drop at s) ∙ ap (sep_go d β) (sym k.same)
 
 -- ---- behind a bracket that opens
@@ -213,9 +213,9 @@ spaced-reads {s} {at} {d} {α} i n others e w k = reads-moved i (n ∷ α) w.low
 
 placed : (s : List ℕ) (r : Read) → place r ≤ length s → r ≡ located s (seen s r)
 unfolding located
-placed s (R.Past n) h = ap R.Past (rw length-drop (omega arith))
-placed s (R.Stop n) h = ap R.Stop (rw length-drop (omega arith))
-placed s (R.Deep n) h = ap R.Deep (rw length-drop (omega arith))
+placed s (Ok n) h = ap Ok (rw length-drop (omega arith))
+placed s (Err (F.Stop n)) h = ap (λ (i : ℕ). Err (F.Stop i)) (rw length-drop (omega arith))
+placed s (Err (F.Deep n)) h = ap (λ (i : ℕ). Err (F.Deep i)) (rw length-drop (omega arith))
 
 blanks-go : (d : ℕ) (l : List ℕ) → go d (blanks ∷ []) l ≡ past (skip l)
 unfolding alts go ready nullable settle pick
@@ -230,15 +230,13 @@ module _ (s : List ℕ) (d : ℕ) where
   unfolding read height weight
   text-is r k = ap (λ (o : Out). after o ended) (frame-flat d (blanks ∷ []) (value ∷ []) s refl ∙ ap (λ (o : Out). after o (go d (blanks ∷ []))) (sym k.same))
 
-  pub text-stop : (n : ℕ) → Reads s 0 d (value ∷ []) (R.Stop n) → R.Stop n ≡ located s (read d s)
-  text-stop n k = placed s (R.Stop n) (omega (arith, k.high)) ∙ ap (located s) (sym (text-is (R.Stop n) k))
+  pub text-err : (e : Fault) → Reads s 0 d (value ∷ []) (Err e) → Err e ≡ located s (read d s)
+  text-err (F.Stop n) k = placed s (Err (F.Stop n)) (omega (arith, k.high)) ∙ ap (located s) (sym (text-is (Err (F.Stop n)) k))
+  text-err (F.Deep n) k = placed s (Err (F.Deep n)) (omega (arith, k.high)) ∙ ap (located s) (sym (text-is (Err (F.Deep n)) k))
 
-  pub text-deep : (n : ℕ) → Reads s 0 d (value ∷ []) (R.Deep n) → R.Deep n ≡ located s (read d s)
-  text-deep n k = placed s (R.Deep n) (omega (arith, k.high)) ∙ ap (located s) (sym (text-is (R.Deep n) k))
-
-  module _ (n e : ℕ) (k : Reads s 0 d (value ∷ []) (R.Past n)) (w : Skips s n e) where
+  module _ (n e : ℕ) (k : Reads s 0 d (value ∷ []) (Ok n)) (w : Skips s n e) where
     text-past : read d s ≡ ended (drop e s)
-    text-past = text-is (R.Past n) k ∙ ap (λ (o : Out). after o ended) (blanks-go d (drop n s)) ∙ ap ended (sym w.same)
+    text-past = text-is (Ok n) k ∙ ap (λ (o : Out). after o ended) (blanks-go d (drop n s)) ∙ ap ended (sym w.same)
 
     ended-more : e < length s → stop (drop e s) ≡ ended (drop e s)
     ended-more h = rw (drop-cons s e 0 h)
@@ -246,8 +244,8 @@ module _ (s : List ℕ) (d : ℕ) where
     ended-all : length s ≤ e → past (drop e s) ≡ ended (drop e s)
     ended-all h = rw (drop_of_length-le s h)
 
-    pub text-more : e < length s → R.Stop e ≡ located s (read d s)
-    text-more h = placed s (R.Stop e) (omega arith) ∙ ap (located s) (ended-more h ∙ sym text-past)
+    pub text-more : e < length s → Err (F.Stop e) ≡ located s (read d s)
+    text-more h = placed s (Err (F.Stop e)) (omega arith) ∙ ap (located s) (ended-more h ∙ sym text-past)
 
-    pub text-all : length s ≤ e → R.Past e ≡ located s (read d s)
-    text-all h = placed s (R.Past e) (omega (arith, w.high, k.high)) ∙ ap (located s) (ended-all h ∙ sym text-past)
+    pub text-all : length s ≤ e → Ok e ≡ located s (read d s)
+    text-all h = placed s (Ok e) (omega (arith, w.high, k.high)) ∙ ap (located s) (ended-all h ∙ sym text-past)

@@ -4,39 +4,39 @@ ghost use Rattle.json_grammar.specs.inner.Machine as M;
 ghost use Rattle.json_grammar.specs.inner.Steps.{is_digit, Lexes};
 ghost use Rattle.json_read.specs.inner.Steps.{Minus, Whole};
 
-use json_grammar::scan::{Read, digits, is_digit, is_more};
+use json_grammar::scan::{Fault, digits, is_digit, is_more};
 
 // One digit or more.
-fn digits_from_one(s: &[u8], at: usize) -> Read
+fn digits_from_one(s: &[u8], at: usize) -> Result<usize, Fault>
     ensures { Lexes s.now at (M.range M.digit ∷ (M.digits ∷ [])) result }
 {
     if s.len() <= at {
-        return Read::Stop(at);
+        return Err(Fault::Stop(at));
     }
     if !is_digit(s[at]) {
-        return Read::Stop(at);
+        return Err(Fault::Stop(at));
     }
-    Read::Past(digits(s, at + 1))
+    Ok(digits(s, at + 1))
 }
 
-fn fraction(s: &[u8], at: usize) -> Read
+fn fraction(s: &[u8], at: usize) -> Result<usize, Fault>
     ensures { Lexes s.now at (M.frac ∷ []) result }
 {
     if s.len() <= at {
-        return Read::Past(at);
+        return Ok(at);
     }
     if s[at] != b'.' {
-        return Read::Past(at);
+        return Ok(at);
     }
     digits_from_one(s, at + 1)
 }
 
 // Behind the letter of an exponent.
-fn signed(s: &[u8], at: usize) -> Read
+fn signed(s: &[u8], at: usize) -> Result<usize, Fault>
     ensures { Lexes s.now at (M.signed ∷ []) result }
 {
     if s.len() <= at {
-        return Read::Stop(at);
+        return Err(Fault::Stop(at));
     }
     let b = s[at];
     if b == b'-' {
@@ -48,11 +48,11 @@ fn signed(s: &[u8], at: usize) -> Read
     digits_from_one(s, at)
 }
 
-fn exponent(s: &[u8], at: usize) -> Read
+fn exponent(s: &[u8], at: usize) -> Result<usize, Fault>
     ensures { Lexes s.now at (M.exp ∷ []) result }
 {
     if s.len() <= at {
-        return Read::Past(at);
+        return Ok(at);
     }
     let b = s[at];
     if b == b'e' {
@@ -61,18 +61,15 @@ fn exponent(s: &[u8], at: usize) -> Read
     if b == b'E' {
         return signed(s, at + 1);
     }
-    Read::Past(at)
+    Ok(at)
 }
 
 // Behind a number's digits, where more of it follows.
-fn behind_digits(s: &[u8], at: usize) -> Read
+fn behind_digits(s: &[u8], at: usize) -> Result<usize, Fault>
     ensures { Lexes s.now at (M.frac ∷ (M.exp ∷ [])) result }
 {
-    match fraction(s, at) {
-        Read::Past(n) => exponent(s, n),
-        Read::Stop(n) => Read::Stop(n),
-        Read::Deep(n) => Read::Deep(n),
-    }
+    let n = fraction(s, at)?;
+    exponent(s, n)
 }
 
 // Behind a number's digits, the first of which stands at `at`.
@@ -98,21 +95,21 @@ pub(crate) fn behind_minus(s: &[u8], at: usize) -> usize
 }
 
 // Behind a number's minus. Most numbers are plain digits, and these are done with here.
-pub(crate) fn natural(s: &[u8], at: usize) -> Read
+pub(crate) fn natural(s: &[u8], at: usize) -> Result<usize, Fault>
     ensures { Lexes s.now at (M.natural ∷ []) result }
 {
     if s.len() <= at {
-        return Read::Stop(at);
+        return Err(Fault::Stop(at));
     }
     if !is_digit(s[at]) {
-        return Read::Stop(at);
+        return Err(Fault::Stop(at));
     }
     let n = whole(s, at);
     if s.len() <= n {
-        return Read::Past(n);
+        return Ok(n);
     }
     if !is_more(s[n]) {
-        return Read::Past(n);
+        return Ok(n);
     }
     behind_digits(s, n)
 }

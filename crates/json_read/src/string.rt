@@ -4,117 +4,105 @@ ghost use Rattle.json_grammar.specs.inner.Machine as M;
 ghost use Rattle.json_grammar.specs.inner.Steps.{Lexes};
 ghost use Rattle.json_read.specs.inner.Steps.{Reaches, Char};
 
-use json_grammar::scan::Read;
+use json_grammar::scan::Fault;
 
-fn hex(s: &[u8], at: usize) -> Read
+fn hex(s: &[u8], at: usize) -> Result<usize, Fault>
     ensures { Lexes s.now at (M.hex ∷ []) result }
 {
     if s.len() <= at {
-        return Read::Stop(at);
+        return Err(Fault::Stop(at));
     }
     let b = s[at];
     if b < b'0' {
-        return Read::Stop(at);
+        return Err(Fault::Stop(at));
     }
     if b <= b'9' {
-        return Read::Past(at + 1);
+        return Ok(at + 1);
     }
     if b < b'A' {
-        return Read::Stop(at);
+        return Err(Fault::Stop(at));
     }
     if b <= b'F' {
-        return Read::Past(at + 1);
+        return Ok(at + 1);
     }
     if b < b'a' {
-        return Read::Stop(at);
+        return Err(Fault::Stop(at));
     }
     if b <= b'f' {
-        return Read::Past(at + 1);
+        return Ok(at + 1);
     }
-    Read::Stop(at)
+    Err(Fault::Stop(at))
 }
 
-fn hex_pair(s: &[u8], at: usize) -> Read
+fn hex_pair(s: &[u8], at: usize) -> Result<usize, Fault>
     ensures { Lexes s.now at (M.hex ∷ (M.hex ∷ [])) result }
 {
-    match hex(s, at) {
-        Read::Past(n) => hex(s, n),
-        Read::Stop(n) => Read::Stop(n),
-        Read::Deep(n) => Read::Deep(n),
-    }
+    let n = hex(s, at)?;
+    hex(s, n)
 }
 
-fn hex_four(s: &[u8], at: usize) -> Read
+fn hex_four(s: &[u8], at: usize) -> Result<usize, Fault>
     ensures { Lexes s.now at (M.hex ∷ (M.hex ∷ (M.hex ∷ (M.hex ∷ [])))) result }
 {
-    match hex_pair(s, at) {
-        Read::Past(n) => hex_pair(s, n),
-        Read::Stop(n) => Read::Stop(n),
-        Read::Deep(n) => Read::Deep(n),
-    }
+    let n = hex_pair(s, at)?;
+    hex_pair(s, n)
 }
 
 // Behind a reverse solidus.
-fn escape(s: &[u8], at: usize) -> Read
+fn escape(s: &[u8], at: usize) -> Result<usize, Fault>
     ensures { Lexes s.now at (M.escape ∷ []) result }
 {
     if s.len() <= at {
-        return Read::Stop(at);
+        return Err(Fault::Stop(at));
     }
     let b = s[at];
     match b {
-        b'"' | b'\\' | b'/' | b'b' | b'f' | b'n' | b'r' | b't' => Read::Past(at + 1),
+        b'"' | b'\\' | b'/' | b'b' | b'f' | b'n' | b'r' | b't' => Ok(at + 1),
         b'u' => hex_four(s, at + 1),
-        _ => Read::Stop(at),
+        _ => Err(Fault::Stop(at)),
     }
 }
 
 // Behind one byte from low to high.
-fn one_of(s: &[u8], at: usize, low: u8, high: u8) -> Read
+fn one_of(s: &[u8], at: usize, low: u8, high: u8) -> Result<usize, Fault>
     ensures { Reaches s.now at low high [] result }
 {
     if s.len() <= at {
-        return Read::Stop(at);
+        return Err(Fault::Stop(at));
     }
     let b = s[at];
     if b < low {
-        return Read::Stop(at);
+        return Err(Fault::Stop(at));
     }
     if high < b {
-        return Read::Stop(at);
+        return Err(Fault::Stop(at));
     }
-    Read::Past(at + 1)
+    Ok(at + 1)
 }
 
 // The second byte of a character from low to high, and a third.
-fn two_of(s: &[u8], at: usize, low: u8, high: u8) -> Read
+fn two_of(s: &[u8], at: usize, low: u8, high: u8) -> Result<usize, Fault>
     ensures { Reaches s.now at low high (M.range M.tail ∷ []) result }
 {
-    match one_of(s, at, low, high) {
-        Read::Past(n) => one_of(s, n, 0x80, 0xBF),
-        Read::Stop(n) => Read::Stop(n),
-        Read::Deep(n) => Read::Deep(n),
-    }
+    let n = one_of(s, at, low, high)?;
+    one_of(s, n, 0x80, 0xBF)
 }
 
-fn three_of(s: &[u8], at: usize, low: u8, high: u8) -> Read
+fn three_of(s: &[u8], at: usize, low: u8, high: u8) -> Result<usize, Fault>
     ensures { Reaches s.now at low high (M.range M.tail ∷ (M.range M.tail ∷ [])) result }
 {
-    match two_of(s, at, low, high) {
-        Read::Past(n) => one_of(s, n, 0x80, 0xBF),
-        Read::Stop(n) => Read::Stop(n),
-        Read::Deep(n) => Read::Deep(n),
-    }
+    let n = two_of(s, at, low, high)?;
+    one_of(s, n, 0x80, 0xBF)
 }
 
 // One character whose first byte is above ASCII.
-fn wide(s: &[u8], at: usize) -> Read
+fn wide(s: &[u8], at: usize) -> Result<usize, Fault>
     requires { (at < length s.now) × (0x7F < get_or s.now at 0) }
     ensures { Char s.now at result }
 {
     let b = s[at];
     if b < 0xC2 {
-        return Read::Stop(at);
+        return Err(Fault::Stop(at));
     }
     if b <= 0xDF {
         return one_of(s, at + 1, 0x80, 0xBF);
@@ -137,47 +125,38 @@ fn wide(s: &[u8], at: usize) -> Read
     if b == 0xF4 {
         return three_of(s, at + 1, 0x80, 0x8F);
     }
-    Read::Stop(at)
+    Err(Fault::Stop(at))
 }
 
 // One character of a string, which is no quotation mark.
-fn character(s: &[u8], at: usize) -> Read
+fn character(s: &[u8], at: usize) -> Result<usize, Fault>
     requires { (at < length s.now) × (get_or s.now at 0 ≡ 0x22 → ⊥) }
     ensures { Char s.now at result }
 {
     let b = s[at];
     if b < 0x20 {
-        return Read::Stop(at);
+        return Err(Fault::Stop(at));
     }
     if b == b'\\' {
         return escape(s, at + 1);
     }
     if b <= 0x7F {
-        return Read::Past(at + 1);
+        return Ok(at + 1);
     }
     wide(s, at)
 }
 
 // Behind the quotation mark that opens it.
-pub(crate) fn string(s: &[u8], at: usize) -> Read
+pub(crate) fn string(s: &[u8], at: usize) -> Result<usize, Fault>
     ensures { Lexes s.now at (M.chars ∷ []) result }
 {
+    // A character has one byte or several, so the place goes on to where it ends.
     let mut i = at;
     while i < s.len() {
         if s[i] == b'"' {
-            return Read::Past(i + 1);
+            return Ok(i + 1);
         }
-        match character(s, i) {
-            Read::Past(n) => {
-                i = n;
-            }
-            Read::Stop(n) => {
-                return Read::Stop(n);
-            }
-            Read::Deep(n) => {
-                return Read::Deep(n);
-            }
-        }
+        i = character(s, i)?;
     }
-    Read::Stop(i)
+    Err(Fault::Stop(i))
 }

@@ -7,20 +7,19 @@ ghost use Rattle.json_read.specs.inner.Steps.{Parts};
 
 use crate::number::{behind_minus, natural};
 use crate::string::string;
-use json_grammar::scan::{Read, blank, word};
+use json_grammar::scan::{Fault, blank, word};
 
-// What stands behind an element or a member.
-#[derive(Drop)]
+// What is behind an element or a member.
+#[derive(Clone, Copy, PartialEq, Eq, Debug)]
 pub enum Next {
     // behind a comma
     More(usize),
     // behind the bracket that closes
     Closed(usize),
-    Wrong(usize),
 }
 
 // A value that is a number or a word, at its first byte.
-fn scalar(s: &[u8], at: usize) -> Read
+fn scalar(s: &[u8], at: usize) -> Result<usize, Fault>
     requires { (at < length s.now) × (get_or s.now at 0 ≡ 0x5B → ⊥) × (get_or s.now at 0 ≡ 0x7B → ⊥) × (get_or s.now at 0 ≡ 0x22 → ⊥) × (is_blank (get_or s.now at 0) ≡ false) }
     ensures { Lexes s.now at (M.value ∷ []) result }
 {
@@ -37,75 +36,72 @@ fn scalar(s: &[u8], at: usize) -> Read
     natural(s, behind_minus(s, at))
 }
 
-// The comma or the bracket that closes.
-pub fn part(s: &[u8], at: usize, close: u8) -> Next
+// The comma or the bracket that closes; or else the place where neither stands.
+pub fn part(s: &[u8], at: usize, close: u8) -> Result<Next, usize>
     ensures { Parts s.now at close result }
 {
     let i = blank(s, at);
     if s.len() <= i {
-        return Next::Wrong(i);
+        return Err(i);
     }
     let b = s[i];
     if b == b',' {
-        return Next::More(i + 1);
+        return Ok(Next::More(i + 1));
     }
     if b == close {
-        return Next::Closed(i + 1);
+        return Ok(Next::Closed(i + 1));
     }
-    Next::Wrong(i)
+    Err(i)
 }
 
 // A colon, behind blanks.
-fn colon(s: &[u8], at: usize) -> Read
+fn colon(s: &[u8], at: usize) -> Result<usize, Fault>
     ensures { Lexes s.now at (M.colon ∷ []) result }
 {
     let i = blank(s, at);
     if s.len() <= i {
-        return Read::Stop(i);
+        return Err(Fault::Stop(i));
     }
     if s[i] != b':' {
-        return Read::Stop(i);
+        return Err(Fault::Stop(i));
     }
-    Read::Past(i + 1)
+    Ok(i + 1)
 }
 
 // A member's name with its colon, behind blanks.
-pub fn name(s: &[u8], at: usize) -> Read
+pub fn name(s: &[u8], at: usize) -> Result<usize, Fault>
     ensures { Lexes s.now at (M.key ∷ (M.colon ∷ [])) result }
 {
     let i = blank(s, at);
     if s.len() <= i {
-        return Read::Stop(i);
+        return Err(Fault::Stop(i));
     }
     if s[i] != b'"' {
-        return Read::Stop(i);
+        return Err(Fault::Stop(i));
     }
-    match string(s, i + 1) {
-        Read::Past(n) => colon(s, n),
-        Read::Stop(n) => Read::Stop(n),
-        Read::Deep(n) => Read::Deep(n),
-    }
+    let n = string(s, i + 1)?;
+    colon(s, n)
 }
 
 // A value behind blanks, with at most d brackets open.
 #[cycle(read_list_read_object_read_value)]
-pub fn read_value(s: &[u8], at: usize, d: usize) -> Read
+pub fn read_value(s: &[u8], at: usize, d: usize) -> Result<usize, Fault>
     ensures { Reads s.now at d (M.value ∷ []) result }
 {
     let i = blank(s, at);
     if s.len() <= i {
-        return Read::Stop(i);
+        return Err(Fault::Stop(i));
     }
     let b = s[i];
     if b == b'[' {
         if d == 0 {
-            return Read::Deep(i);
+            return Err(Fault::Deep(i));
         }
         return read_list(s, i + 1, d - 1);
     }
     if b == b'{' {
         if d == 0 {
-            return Read::Deep(i);
+            return Err(Fault::Deep(i));
         }
         return read_object(s, i + 1, d - 1);
     }
@@ -117,33 +113,26 @@ pub fn read_value(s: &[u8], at: usize, d: usize) -> Read
 
 // Behind the bracket that opens it; d levels are left inside.
 #[cycle(read_list_read_object_read_value)]
-fn read_list(s: &[u8], at: usize, d: usize) -> Read
+fn read_list(s: &[u8], at: usize, d: usize) -> Result<usize, Fault>
     ensures { Reads s.now at (d + 1) (M.first ∷ []) result }
 {
     let mut i = blank(s, at);
     if i < s.len() {
         if s[i] == b']' {
-            return Read::Past(i + 1);
+            return Ok(i + 1);
         }
     }
     loop {
-        match read_value(s, i, d) {
-            Read::Past(n) => match part(s, n, b']') {
-                Next::More(m) => {
-                    i = m;
-                }
-                Next::Closed(m) => {
-                    return Read::Past(m);
-                }
-                Next::Wrong(m) => {
-                    return Read::Stop(m);
-                }
-            },
-            Read::Stop(n) => {
-                return Read::Stop(n);
+        let n = read_value(s, i, d)?;
+        match part(s, n, b']') {
+            Ok(Next::More(m)) => {
+                i = m;
             }
-            Read::Deep(n) => {
-                return Read::Deep(n);
+            Ok(Next::Closed(m)) => {
+                return Ok(m);
+            }
+            Err(m) => {
+                return Err(Fault::Stop(m));
             }
         }
     }
@@ -151,59 +140,40 @@ fn read_list(s: &[u8], at: usize, d: usize) -> Read
 
 // The same of an object.
 #[cycle(read_list_read_object_read_value)]
-fn read_object(s: &[u8], at: usize, d: usize) -> Read
+fn read_object(s: &[u8], at: usize, d: usize) -> Result<usize, Fault>
     ensures { Reads s.now at (d + 1) (M.first_member ∷ []) result }
 {
     let mut i = blank(s, at);
     if i < s.len() {
         if s[i] == b'}' {
-            return Read::Past(i + 1);
+            return Ok(i + 1);
         }
     }
     loop {
-        match name(s, i) {
-            Read::Past(k) => match read_value(s, k, d) {
-                Read::Past(n) => match part(s, n, b'}') {
-                    Next::More(m) => {
-                        i = m;
-                    }
-                    Next::Closed(m) => {
-                        return Read::Past(m);
-                    }
-                    Next::Wrong(m) => {
-                        return Read::Stop(m);
-                    }
-                },
-                Read::Stop(n) => {
-                    return Read::Stop(n);
-                }
-                Read::Deep(n) => {
-                    return Read::Deep(n);
-                }
-            },
-            Read::Stop(n) => {
-                return Read::Stop(n);
+        let k = name(s, i)?;
+        let n = read_value(s, k, d)?;
+        match part(s, n, b'}') {
+            Ok(Next::More(m)) => {
+                i = m;
             }
-            Read::Deep(n) => {
-                return Read::Deep(n);
+            Ok(Next::Closed(m)) => {
+                return Ok(m);
+            }
+            Err(m) => {
+                return Err(Fault::Stop(m));
             }
         }
     }
 }
 
 // A whole text, with at most d brackets open.
-pub fn read_text(s: &[u8], d: usize) -> Read
+pub fn read_text(s: &[u8], d: usize) -> Result<usize, Fault>
     ensures { Judged d s.now result }
 {
-    match read_value(s, 0, d) {
-        Read::Past(n) => {
-            let e = blank(s, n);
-            if e < s.len() {
-                return Read::Stop(e);
-            }
-            Read::Past(e)
-        }
-        Read::Stop(n) => Read::Stop(n),
-        Read::Deep(n) => Read::Deep(n),
+    let n = read_value(s, 0, d)?;
+    let e = blank(s, n);
+    if e < s.len() {
+        return Err(Fault::Stop(e));
     }
+    Ok(e)
 }

@@ -1,8 +1,8 @@
 -- What the functions answer. Assumes nothing.
-use Rattle.std.specs.Prelude.{◌≡◌, Bool, cond, ◌&&◌, ◌||◌, List, [], ◌∷◌, ℕ, ◌+◌, ◌-◌, ◌≤◌, eqb, leb, length, drop}
+use Rattle.std.specs.Prelude.{◌≡◌, Bool, cond, ◌&&◌, ◌||◌, List, [], ◌∷◌, ℕ, ◌+◌, ◌-◌, ◌≤◌, eqb, leb, length, drop, Ok, Err}
 use Rattle.json_grammar.specs.inner.Machine.{Sym, one, Out, past, stop, deep, go}
-use Rattle.json_grammar.specs.declared.scan.Read.{Read}
-use Rattle.json_grammar.specs.declared.scan.Read.TheVariants as R
+use Rattle.json_grammar.specs.Judge.{Read}
+use Rattle.json_grammar.specs.declared.scan.Fault.TheVariants as F
 
 -- ---- a byte
 
@@ -19,20 +19,20 @@ is_more b = eqb b 0x2E || (eqb b 0x65 || eqb b 0x45)
 -- ---- places
 
 abbrev pub seen : List ℕ → Read → Out
-seen s (R.Past n) = past (drop n s)
-seen s (R.Stop n) = stop (drop n s)
-seen s (R.Deep n) = deep (drop n s)
+seen s (Ok n) = past (drop n s)
+seen s (Err (F.Stop n)) = stop (drop n s)
+seen s (Err (F.Deep n)) = deep (drop n s)
 
 abbrev pub place : Read → ℕ
-place (R.Past n) = n
-place (R.Stop n) = n
-place (R.Deep n) = n
+place (Ok n) = n
+place (Err (F.Stop n)) = n
+place (Err (F.Deep n)) = n
 
 -- where what is left of s begins
 unfoldable pub located : List ℕ → Out → Read
-located s (past l) = R.Past (length s - length l)
-located s (stop l) = R.Stop (length s - length l)
-located s (deep l) = R.Deep (length s - length l)
+located s (past l) = Ok (length s - length l)
+located s (stop l) = Err (F.Stop (length s - length l))
+located s (deep l) = Err (F.Deep (length s - length l))
 
 -- from `at` on α is read, with at most d brackets open
 pub record Reads (s : List ℕ) (at d : ℕ) (α : List Sym) (r : Read) : Type 0 where
@@ -47,7 +47,7 @@ pub record Lexes (s : List ℕ) (at : ℕ) (α : List Sym) (r : Read) : Type 0 w
   pub high : place r ≤ at + (length s - at)
 
 abbrev pub LexesTo : List ℕ → ℕ → List Sym → ℕ → Type 0
-LexesTo s at α n = Lexes s at α (R.Past n)
+LexesTo s at α n = Lexes s at α (Ok n)
 
 unfoldable pub letters : List ℕ → List Sym
 letters [] = []

@@ -1,8 +1,8 @@
 -- What the functions answer. Assumes nothing.
-use Rattle.std.specs.Prelude.{◌≡◌, cond, List, [], ◌∷◌, ℕ, ◌+◌, ◌-◌, ◌≤◌, eqb, length, get_or, drop}
+use Rattle.std.specs.Prelude.{◌≡◌, cond, List, [], ◌∷◌, ℕ, ◌+◌, ◌-◌, ◌≤◌, eqb, length, get_or, drop, Result, Ok, Err}
 use Rattle.json_grammar.specs.inner.Machine.{Class, lowest, highest, Sym, range, chars, natural, frac, exp, go, after}
-use Rattle.json_grammar.specs.declared.scan.Read.{Read}
-use Rattle.json_grammar.specs.declared.scan.Read.TheVariants as R
+use Rattle.json_grammar.specs.Judge.{Read}
+use Rattle.json_grammar.specs.declared.scan.Fault.TheVariants as F
 use Rattle.json_grammar.specs.inner.Steps.{seen, place, Lexes, skip}
 use Rattle.json_read.specs.declared.value.Next.{Next}
 use Rattle.json_read.specs.declared.value.Next.TheVariants as N
@@ -27,7 +27,7 @@ pub record Char (s : List ℕ) (at : ℕ) (r : Read) : Type 0 where
   pub same : (d : ℕ) → after (seen s r) (go d (chars ∷ [])) ≡ go d (chars ∷ []) (drop at s)
   pub low : at ≤ place r
   pub high : place r ≤ at + (length s - at)
-  pub falls : (n : ℕ) → r ≡ R.Past n → at + 1 ≤ n
+  pub falls : (n : ℕ) → r ≡ Ok n → at + 1 ≤ n
 
 -- ---- what parts elements
 
@@ -42,18 +42,22 @@ sep_of c (b ∷ l) = cond (eqb b 0x2C) (more l) (cond (eqb b c) (closed l) (wron
 unfoldable pub separate : ℕ → List ℕ → Sep
 separate c l = sep_of c (skip l)
 
-abbrev pub parted : List ℕ → Next → Sep
-parted s (N.More n) = more (drop n s)
-parted s (N.Closed n) = closed (drop n s)
-parted s (N.Wrong n) = wrong (drop n s)
+-- what is behind, or the place where neither stands
+abbrev pub Part : Type 0
+Part = Result Next ℕ
 
-abbrev pub part_place : Next → ℕ
-part_place (N.More n) = n
-part_place (N.Closed n) = n
-part_place (N.Wrong n) = n
+abbrev pub parted : List ℕ → Part → Sep
+parted s (Ok (N.More n)) = more (drop n s)
+parted s (Ok (N.Closed n)) = closed (drop n s)
+parted s (Err n) = wrong (drop n s)
 
-pub record Parts (s : List ℕ) (at close : ℕ) (r : Next) : Type 0 where
+abbrev pub part_place : Part → ℕ
+part_place (Ok (N.More n)) = n
+part_place (Ok (N.Closed n)) = n
+part_place (Err n) = n
+
+pub record Parts (s : List ℕ) (at close : ℕ) (r : Part) : Type 0 where
   pub same : parted s r ≡ separate close (drop at s)
   pub low : at ≤ part_place r
   pub high : part_place r ≤ at + (length s - at)
-  pub falls : (m : ℕ) → r ≡ N.More m → (at + 1 ≤ m) × (m ≤ length s)
+  pub falls : (m : ℕ) → r ≡ Ok (N.More m) → (at + 1 ≤ m) × (m ≤ length s)

@@ -7,6 +7,3 @@ use Rattle.json_grammar.proofs.scan.blank.Given as goal
 
 abbrev pub invariant-loop-i : goal.invariant-loop-i
 invariant-loop-i l = (l.at ≤ l.i) × (l.i ≤ l.at + (length l.s - l.at)) × (skip (drop l.at l.s) ≡ skip (drop l.i l.s))
-
-abbrev pub decreases-loop-i : goal.decreases-loop-i
-decreases-loop-i l = length l.s - l.i

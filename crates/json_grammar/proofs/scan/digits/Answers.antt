@@ -1,5 +1,5 @@
 -- `scan::digits` meets its contract. Assumes nothing.
-use mathlib.Core.Path.{refl, sym, ◌∙◌}
+use mathlib.Core.Path.{◌≡◌, refl, sym, ◌∙◌}
 use mathlib.Core.List.{[], ◌∷◌}
 use native.Mathlib.Omega.{arith}
 use borrow.Author.Tests.{not-true, not-false}
@@ -20,4 +20,4 @@ loop-i-preserved c = let k = not-false _ c.if-not-is_digit.false-raw in (omega a
 
 pub returns : goal.returns
 unfolding M.ready M.nullable
-returns c = moved c.loop-i.i (M.digits ∷ []) c.loop-i.invariant.0 c.loop-i.invariant.1 c.loop-i.invariant.2 (ends-past refl c.loop-i-test.false)
+returns c = let e : c.max.result ≡ c.loop-i.i = grind arith in rw e (moved c.loop-i.i (M.digits ∷ []) c.loop-i.invariant.0 c.loop-i.invariant.1 c.loop-i.invariant.2 (ends-past refl c.loop-i-test.false))

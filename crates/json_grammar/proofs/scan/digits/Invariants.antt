@@ -8,6 +8,3 @@ use Rattle.json_grammar.proofs.scan.digits.Given as goal
 
 abbrev pub invariant-loop-i : goal.invariant-loop-i
 invariant-loop-i l = (l.at ≤ l.i) × (l.i ≤ l.at + (length l.s - l.at)) × ((d : ℕ) → M.go d (M.digits ∷ []) (drop l.at l.s) ≡ M.go d (M.digits ∷ []) (drop l.i l.s))
-
-abbrev pub decreases-loop-i : goal.decreases-loop-i
-decreases-loop-i l = length l.s - l.i

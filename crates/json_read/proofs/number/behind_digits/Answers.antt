@@ -1,18 +1,14 @@
 -- `number::behind_digits` meets its contract. Assumes nothing.
-use mathlib.Core.Path.{refl}
-use mathlib.Core.List.{[], ◌∷◌}
+use Rattle.std.proofs.Common.{refl, [], ◌∷◌}
+use Rattle.std.proofs.lemmas.Result.{err_from_is_err_and}
 use Rattle.json_grammar.specs.inner.Machine as M
-use Rattle.json_grammar.proofs.Steps.{told, then-past, then-stop, then-deep}
+use Rattle.json_grammar.proofs.Steps.{then-past, then-err}
 use Rattle.json_read.proofs.number.behind_digits.Goals as goal
 
-pub returns-in-Past : goal.returns-in-Past
+pub returns-in_err-n : goal.returns-in_err-n
 unfolding M.height M.weight
-returns-in-Past c = then-past (M.exp ∷ []) refl (told c.in-Past.is c.fraction.ensures) c.exponent.ensures
+returns-in_err-n c = let p = err_from_is_err_and c.from_residual.result c.from_residual.ensures.1 in rw (p.1, p.2) (then-err (M.exp ∷ []) refl _ c.in_err-n.ensures)
 
-pub returns-in-Stop : goal.returns-in-Stop
+pub returns : goal.returns
 unfolding M.height M.weight
-returns-in-Stop c = then-stop (M.exp ∷ []) refl (told c.in-Stop.is c.fraction.ensures)
-
-pub returns-in-Deep : goal.returns-in-Deep
-unfolding M.height M.weight
-returns-in-Deep c = then-deep (M.exp ∷ []) refl (told c.in-Deep.is c.fraction.ensures)
+returns c = then-past (M.exp ∷ []) refl c.in_ok-n.ensures c.exponent.ensures

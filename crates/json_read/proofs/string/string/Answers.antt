@@ -2,9 +2,10 @@
 use mathlib.Core.Path.{refl, ap, ◌∙◌}
 use mathlib.Core.List.{[], ◌∷◌}
 use native.Mathlib.Omega.{arith}
+use Rattle.std.proofs.lemmas.Result.{err_from_is_err_and}
 use Rattle.json_grammar.specs.inner.Machine as M
 use Rattle.json_grammar.proofs.Steps.{ends, closes, moved}
-use Rattle.json_read.proofs.Characters.{char-past, char-told, char-stops, char-deep}
+use Rattle.json_read.proofs.Characters.{char-past, char-told, char-err}
 use Rattle.json_read.proofs.string.string.Goals as goal
 
 pub loop-i-init : goal.loop-i-init
@@ -18,16 +19,13 @@ pub character-requires : goal.character-requires
 character-requires c = (c.loop-i-test.true, c.if-s-i-eq34.false)
 
 pub loop-i-smaller : goal.loop-i-smaller
-loop-i-smaller c = let k = c.character.ensures.falls _ c.in-Past.is in omega arith
+loop-i-smaller c = let k = c.character.ensures.falls _ c.in_ok-i.was in omega arith
 
 pub loop-i-preserved : goal.loop-i-preserved
-loop-i-preserved c = let k = char-told c.in-Past.is c.character.ensures in (omega (arith, k.low), omega (arith, k.high), λ d. c.loop-i.invariant.2 d ∙ char-past k d)
+loop-i-preserved c = let k = char-told c.in_ok-i.was c.character.ensures in (omega (arith, k.low), omega (arith, k.high), λ d. c.loop-i.invariant.2 d ∙ char-past k d)
 
-pub returns-in-Stop : goal.returns-in-Stop
-returns-in-Stop c = moved c.loop-i.i (M.chars ∷ []) c.loop-i.invariant.0 c.loop-i.invariant.1 c.loop-i.invariant.2 (char-stops (char-told c.in-Stop.is c.character.ensures))
-
-pub returns-in-Deep : goal.returns-in-Deep
-returns-in-Deep c = moved c.loop-i.i (M.chars ∷ []) c.loop-i.invariant.0 c.loop-i.invariant.1 c.loop-i.invariant.2 (char-deep (char-told c.in-Deep.is c.character.ensures))
+pub returns-in_err-i : goal.returns-in_err-i
+returns-in_err-i c = let p = err_from_is_err_and c.from_residual.result c.from_residual.ensures.1 in rw (p.1, p.2) (moved c.loop-i.i (M.chars ∷ []) c.loop-i.invariant.0 c.loop-i.invariant.1 c.loop-i.invariant.2 (char-err _ c.in_err-i.ensures))
 
 pub returns : goal.returns
 unfolding M.ready M.nullable

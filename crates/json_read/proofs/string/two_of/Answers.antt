@@ -1,18 +1,14 @@
 -- `string::two_of` meets its contract. Assumes nothing.
-use mathlib.Core.Path.{refl}
-use mathlib.Core.List.{[], ◌∷◌}
+use Rattle.std.proofs.Common.{refl, [], ◌∷◌}
+use Rattle.std.proofs.lemmas.Result.{err_from_is_err_and}
 use Rattle.json_grammar.specs.inner.Machine as M
-use Rattle.json_grammar.proofs.Steps.{told, then-past, then-stop, then-deep}
+use Rattle.json_grammar.proofs.Steps.{then-past, then-err}
 use Rattle.json_read.proofs.string.two_of.Goals as goal
 
-pub returns-in-Past : goal.returns-in-Past
+pub returns-in_err-n : goal.returns-in_err-n
 unfolding M.height M.weight
-returns-in-Past c = record { of = λ k p q. then-past (M.range M.tail ∷ []) refl (told c.in-Past.is (c.one_of.ensures.of k p q)) (c.one_of-in-Past.ensures.of M.tail refl refl) }
+returns-in_err-n c = let p = err_from_is_err_and c.from_residual.result c.from_residual.ensures.1 in rw (p.1, p.2) (record { of = λ k p q. then-err (M.range M.tail ∷ []) refl _ (c.in_err-n.ensures.of k p q) })
 
-pub returns-in-Stop : goal.returns-in-Stop
+pub returns : goal.returns
 unfolding M.height M.weight
-returns-in-Stop c = record { of = λ k p q. then-stop (M.range M.tail ∷ []) refl (told c.in-Stop.is (c.one_of.ensures.of k p q)) }
-
-pub returns-in-Deep : goal.returns-in-Deep
-unfolding M.height M.weight
-returns-in-Deep c = record { of = λ k p q. then-deep (M.range M.tail ∷ []) refl (told c.in-Deep.is (c.one_of.ensures.of k p q)) }
+returns c = record { of = λ k p q. then-past (M.range M.tail ∷ []) refl (c.in_ok-n.ensures.of k p q) (c.one_of-2.ensures.of M.tail refl refl) }

@@ -1,8 +1,9 @@
 -- `value::read_list`, `read_object` and `read_value` call each other and meet their contracts. Assumes nothing.
-use Rattle.std.proofs.Common.{refl, ap, ◌∙◌, [], ◌∷◌, arith}
+use Rattle.std.proofs.Common.{Ok, refl, ap, ◌∙◌, [], ◌∷◌, arith}
+use Rattle.std.proofs.lemmas.Result.{err_from_is_err_and}
 use Rattle.json_grammar.specs.inner.Machine as M
 use Rattle.json_grammar.proofs.Steps.{ends, closes, takes, at-limit, behind-solid}
-use Rattle.json_read.proofs.Values.{spaced-reads, reads-limit, reads-moved, deepens, opens, reads_whole, reads-past, reads-stop, reads-deep, parts-closed, parts-wrong, parts_more, list-starts, object-starts}
+use Rattle.json_read.proofs.Values.{spaced-reads, reads-limit, reads-moved, deepens, opens, reads_whole, reads-past, reads-err, parts-told, parts-closed, parts-wrong, parts_more, list-starts, object-starts}
 use Rattle.json_read.proofs.value.+read_list_read_object_read_value.Goals as goal
 use Rattle.json_read.proofs.value.+read_list_read_object_read_value.Goals.{read_list-then-i-s+else-s-i-eq93, read_list-else-i-s, read_object-then-i-s+else-s-i-eq125, read_object-else-i-s}
 
@@ -18,31 +19,29 @@ read_list-loop-n-init t c = let k = c.blank-i.ensures in (k.low, k.high, list-st
 pub read_list-loop-n-preserved : goal.read_list-loop-n-preserved
 unfolding M.alts M.nullable M.height M.weight
 read_list-loop-n-preserved t c =
-    let f = c.part.ensures.falls _ c.in-More.is in
-    let v = c.in-Past.ensures in
-    (omega (arith, v.low), omega (arith, v.low), c.loop-n.invariant.2 ∙ reads_whole (M.rest ∷ []) v ∙ parts_more _ M.rest (M.value ∷ (M.rest ∷ [])) refl refl c.in-More.ensures)
+    let m = parts-told (ap Ok c.in-Ok-More.field-0-is) c.in-Ok-More.ensures in
+    let f = m.falls _ refl in
+    let v = c.in_ok-n.ensures in
+    (omega (arith, v.low), omega (arith, v.low), c.loop-n.invariant.2 ∙ reads_whole (M.rest ∷ []) v ∙ parts_more _ M.rest (M.value ∷ (M.rest ∷ [])) refl refl m)
 
 pub read_list-loop-n-smaller : goal.read_list-loop-n-smaller
 read_list-loop-n-smaller t c =
-    let f = c.part.ensures.falls _ c.in-More.is in
-    let v = c.in-Past.ensures in
+    let m = parts-told (ap Ok c.in-Ok-More.field-0-is) c.in-Ok-More.ensures in
+    let f = m.falls _ refl in
+    let v = c.in_ok-n.ensures in
     omega (arith, v.low)
 
-pub read_list-returns-in-Closed : goal.read_list-returns-in-Closed
+pub read_list-returns-in-Ok-Closed : goal.read_list-returns-in-Ok-Closed
 unfolding M.alts M.nullable M.height M.weight
-read_list-returns-in-Closed t c = let l = c.loop-n in reads-moved l.i (M.value ∷ (M.rest ∷ [])) l.invariant.0 l.invariant.1 l.invariant.2 (reads-past (M.rest ∷ []) c.in-Past.ensures (parts-closed M.rest (M.value ∷ (M.rest ∷ [])) refl refl c.in-Closed.ensures))
+read_list-returns-in-Ok-Closed t c = let l = c.loop-n in reads-moved l.i (M.value ∷ (M.rest ∷ [])) l.invariant.0 l.invariant.1 l.invariant.2 (reads-past (M.rest ∷ []) c.in_ok-n.ensures (parts-closed M.rest (M.value ∷ (M.rest ∷ [])) refl refl (parts-told (ap Ok c.in-Ok-Closed.field-0-is) c.in-Ok-Closed.ensures)))
 
-pub read_list-returns-in-Wrong : goal.read_list-returns-in-Wrong
+pub read_list-returns-in-Err : goal.read_list-returns-in-Err
 unfolding M.alts M.nullable M.height M.weight
-read_list-returns-in-Wrong t c = let l = c.loop-n in reads-moved l.i (M.value ∷ (M.rest ∷ [])) l.invariant.0 l.invariant.1 l.invariant.2 (reads-past (M.rest ∷ []) c.in-Past.ensures (parts-wrong M.rest (M.value ∷ (M.rest ∷ [])) refl refl c.in-Wrong.ensures))
+read_list-returns-in-Err t c = let l = c.loop-n in reads-moved l.i (M.value ∷ (M.rest ∷ [])) l.invariant.0 l.invariant.1 l.invariant.2 (reads-past (M.rest ∷ []) c.in_ok-n.ensures (parts-wrong M.rest (M.value ∷ (M.rest ∷ [])) refl refl c.in-Err.ensures))
 
-pub read_list-returns-in-Stop : goal.read_list-returns-in-Stop
+pub read_list-returns-in_err-n : goal.read_list-returns-in_err-n
 unfolding M.alts M.nullable M.height M.weight
-read_list-returns-in-Stop t c = let l = c.loop-n in reads-moved l.i (M.value ∷ (M.rest ∷ [])) l.invariant.0 l.invariant.1 l.invariant.2 (reads-stop (M.rest ∷ []) c.in-Stop.ensures)
-
-pub read_list-returns-in-Deep : goal.read_list-returns-in-Deep
-unfolding M.alts M.nullable M.height M.weight
-read_list-returns-in-Deep t c = let l = c.loop-n in reads-moved l.i (M.value ∷ (M.rest ∷ [])) l.invariant.0 l.invariant.1 l.invariant.2 (reads-deep (M.rest ∷ []) c.in-Deep.ensures)
+read_list-returns-in_err-n t c = let l = c.loop-n in let p = err_from_is_err_and c.from_residual.result c.from_residual.ensures.1 in rw (p.1, p.2) (reads-moved l.i (M.value ∷ (M.rest ∷ [])) l.invariant.0 l.invariant.1 l.invariant.2 (reads-err (M.rest ∷ []) _ c.in_err-n.ensures))
 
 -- ---- an object
 
@@ -56,41 +55,35 @@ read_object-loop-k-init t c = let k = c.blank-i.ensures in (k.low, k.high, objec
 pub read_object-loop-k-preserved : goal.read_object-loop-k-preserved
 unfolding M.alts M.nullable M.height M.weight
 read_object-loop-k-preserved t c =
-    let f = c.part.ensures.falls _ c.in-More.is in
-    let v = c.in-Past-read_value.ensures in
-    let k = c.in-Past.ensures in
-    (omega (arith, v.low, k.low), omega (arith, v.low, k.low), c.loop-k.invariant.2 ∙ reads_whole (M.value ∷ (M.rest-member ∷ [])) (at-limit k) ∙ reads_whole (M.rest-member ∷ []) v ∙ parts_more _ M.rest-member (M.key ∷ (M.colon ∷ (M.value ∷ (M.rest-member ∷ [])))) refl refl c.in-More.ensures)
+    let m = parts-told (ap Ok c.in-Ok-More.field-0-is) c.in-Ok-More.ensures in
+    let f = m.falls _ refl in
+    let v = c.in_ok-n.ensures in
+    let k = c.in_ok-k.ensures in
+    (omega (arith, v.low, k.low), omega (arith, v.low, k.low), c.loop-k.invariant.2 ∙ reads_whole (M.value ∷ (M.rest-member ∷ [])) (at-limit k) ∙ reads_whole (M.rest-member ∷ []) v ∙ parts_more _ M.rest-member (M.key ∷ (M.colon ∷ (M.value ∷ (M.rest-member ∷ [])))) refl refl m)
 
 pub read_object-loop-k-smaller : goal.read_object-loop-k-smaller
 read_object-loop-k-smaller t c =
-    let f = c.part.ensures.falls _ c.in-More.is in
-    let v = c.in-Past-read_value.ensures in
-    let k = c.in-Past.ensures in
+    let m = parts-told (ap Ok c.in-Ok-More.field-0-is) c.in-Ok-More.ensures in
+    let f = m.falls _ refl in
+    let v = c.in_ok-n.ensures in
+    let k = c.in_ok-k.ensures in
     omega (arith, v.low, k.low)
 
-pub read_object-returns-in-Closed : goal.read_object-returns-in-Closed
+pub read_object-returns-in-Ok-Closed : goal.read_object-returns-in-Ok-Closed
 unfolding M.alts M.nullable M.height M.weight
-read_object-returns-in-Closed t c = let l = c.loop-k in reads-moved l.i (M.key ∷ (M.colon ∷ (M.value ∷ (M.rest-member ∷ [])))) l.invariant.0 l.invariant.1 l.invariant.2 (reads-past (M.value ∷ (M.rest-member ∷ [])) (at-limit c.in-Past.ensures) (reads-past (M.rest-member ∷ []) c.in-Past-read_value.ensures (parts-closed M.rest-member (M.key ∷ (M.colon ∷ (M.value ∷ (M.rest-member ∷ [])))) refl refl c.in-Closed.ensures)))
+read_object-returns-in-Ok-Closed t c = let l = c.loop-k in reads-moved l.i (M.key ∷ (M.colon ∷ (M.value ∷ (M.rest-member ∷ [])))) l.invariant.0 l.invariant.1 l.invariant.2 (reads-past (M.value ∷ (M.rest-member ∷ [])) (at-limit c.in_ok-k.ensures) (reads-past (M.rest-member ∷ []) c.in_ok-n.ensures (parts-closed M.rest-member (M.key ∷ (M.colon ∷ (M.value ∷ (M.rest-member ∷ [])))) refl refl (parts-told (ap Ok c.in-Ok-Closed.field-0-is) c.in-Ok-Closed.ensures))))
 
-pub read_object-returns-in-Wrong : goal.read_object-returns-in-Wrong
+pub read_object-returns-in-Err : goal.read_object-returns-in-Err
 unfolding M.alts M.nullable M.height M.weight
-read_object-returns-in-Wrong t c = let l = c.loop-k in reads-moved l.i (M.key ∷ (M.colon ∷ (M.value ∷ (M.rest-member ∷ [])))) l.invariant.0 l.invariant.1 l.invariant.2 (reads-past (M.value ∷ (M.rest-member ∷ [])) (at-limit c.in-Past.ensures) (reads-past (M.rest-member ∷ []) c.in-Past-read_value.ensures (parts-wrong M.rest-member (M.key ∷ (M.colon ∷ (M.value ∷ (M.rest-member ∷ [])))) refl refl c.in-Wrong.ensures)))
+read_object-returns-in-Err t c = let l = c.loop-k in reads-moved l.i (M.key ∷ (M.colon ∷ (M.value ∷ (M.rest-member ∷ [])))) l.invariant.0 l.invariant.1 l.invariant.2 (reads-past (M.value ∷ (M.rest-member ∷ [])) (at-limit c.in_ok-k.ensures) (reads-past (M.rest-member ∷ []) c.in_ok-n.ensures (parts-wrong M.rest-member (M.key ∷ (M.colon ∷ (M.value ∷ (M.rest-member ∷ [])))) refl refl c.in-Err.ensures)))
 
-pub read_object-returns-in-Stop-read_value : goal.read_object-returns-in-Stop-read_value
+pub read_object-returns-in_err-n : goal.read_object-returns-in_err-n
 unfolding M.alts M.nullable M.height M.weight
-read_object-returns-in-Stop-read_value t c = let l = c.loop-k in reads-moved l.i (M.key ∷ (M.colon ∷ (M.value ∷ (M.rest-member ∷ [])))) l.invariant.0 l.invariant.1 l.invariant.2 (reads-past (M.value ∷ (M.rest-member ∷ [])) (at-limit c.in-Past.ensures) (reads-stop (M.rest-member ∷ []) c.in-Stop-read_value.ensures))
+read_object-returns-in_err-n t c = let l = c.loop-k in let p = err_from_is_err_and c.from_residual-in_err-n.result c.from_residual-in_err-n.ensures.1 in rw (p.1, p.2) (reads-moved l.i (M.key ∷ (M.colon ∷ (M.value ∷ (M.rest-member ∷ [])))) l.invariant.0 l.invariant.1 l.invariant.2 (reads-past (M.value ∷ (M.rest-member ∷ [])) (at-limit c.in_ok-k.ensures) (reads-err (M.rest-member ∷ []) _ c.in_err-n.ensures)))
 
-pub read_object-returns-in-Deep-read_value : goal.read_object-returns-in-Deep-read_value
+pub read_object-returns-in_err-k : goal.read_object-returns-in_err-k
 unfolding M.alts M.nullable M.height M.weight
-read_object-returns-in-Deep-read_value t c = let l = c.loop-k in reads-moved l.i (M.key ∷ (M.colon ∷ (M.value ∷ (M.rest-member ∷ [])))) l.invariant.0 l.invariant.1 l.invariant.2 (reads-past (M.value ∷ (M.rest-member ∷ [])) (at-limit c.in-Past.ensures) (reads-deep (M.rest-member ∷ []) c.in-Deep-read_value.ensures))
-
-pub read_object-returns-in-Stop : goal.read_object-returns-in-Stop
-unfolding M.alts M.nullable M.height M.weight
-read_object-returns-in-Stop t c = let l = c.loop-k in reads-moved l.i (M.key ∷ (M.colon ∷ (M.value ∷ (M.rest-member ∷ [])))) l.invariant.0 l.invariant.1 l.invariant.2 (reads-stop (M.value ∷ (M.rest-member ∷ [])) (at-limit c.in-Stop.ensures))
-
-pub read_object-returns-in-Deep : goal.read_object-returns-in-Deep
-unfolding M.alts M.nullable M.height M.weight
-read_object-returns-in-Deep t c = let l = c.loop-k in reads-moved l.i (M.key ∷ (M.colon ∷ (M.value ∷ (M.rest-member ∷ [])))) l.invariant.0 l.invariant.1 l.invariant.2 (reads-deep (M.value ∷ (M.rest-member ∷ [])) (at-limit c.in-Deep.ensures))
+read_object-returns-in_err-k t c = let l = c.loop-k in let p = err_from_is_err_and c.from_residual.result c.from_residual.ensures.1 in rw (p.1, p.2) (reads-moved l.i (M.key ∷ (M.colon ∷ (M.value ∷ (M.rest-member ∷ [])))) l.invariant.0 l.invariant.1 l.invariant.2 (reads-err (M.value ∷ (M.rest-member ∷ [])) _ (at-limit c.in_err-k.ensures)))
 
 -- ---- a value
 
