@@ -3,7 +3,6 @@ use mathlib.Core.Path.{◌≡◌, refl, sym, ap, subst, ◌∙◌}
 use mathlib.Core.Bool.{Bool, true, false, cond}
 use mathlib.Core.List.{List, [], ◌∷◌}
 use mathlib.Core.Logic.{◌⊎◌, inl, inr}
-use mathlib.Core.Option.{Option, none, some}
 use Prim.Native.Nat.{ℕ, suc, ◌+◌, ◌-◌, ◌≤◌, ◌<◌}
 use native.Mathlib.Decide.{dec_lt}
 use native.Mathlib.Numerals.{add-one}
@@ -20,10 +19,10 @@ use Rattle.json_members.specs.Names.{Entry, members_of, entries_of, same, later,
 use Rattle.json_members.specs.inner.Bytes.{name_is}
 use Rattle.json_members.specs.inner.Turns.{Turn, Turns, nameless, valueless, unparted, last as lastly, more as furthermore, place_of, Ascii, Finds, Gets}
 use Rattle.json_members.specs.declared.member.Member.{Member}
-use Rattle.json_members.specs.declared.member.Member.TheVariants as M
-use Rattle.json_grammar.specs.declared.scan.Read.{Read}
-use Rattle.json_grammar.specs.declared.scan.Read.TheVariants as R
-use Rattle.json_read.specs.declared.value.Next.{Next}
+use Rattle.json_grammar.specs.Judge.{Read}
+use Rattle.std.specs.Prelude.{Ok, Err, Option, None, Some}
+use Rattle.json_grammar.specs.declared.scan.Fault.TheVariants as F
+use Rattle.json_read.specs.inner.Steps.{Part}
 use Rattle.json_read.specs.declared.value.Next.TheVariants as N
 use Rattle.json_grammar.proofs.Complete.{value-c, str-key, key-ws, colon-ws, quiet-ws, quiet-comma, quiet-object}
 use Rattle.json_grammar.proofs.Steps.{go-nil, go-end}
@@ -106,8 +105,8 @@ view_of (G.members w (G.str k) c x v u z) d m e h =
 
 -- the place of what was found, or one found before
 abbrev place_from : List ℕ → ℕ → Option Entry → ℕ
-place_from s f none = f
-place_from s f (some e) = length s - length e.from
+place_from s f None = f
+place_from s f (Some e) = length s - length e.from
 
 pub record Onward (s w : List ℕ) (i f k : ℕ) (m : List ℕ) (want : ℕ) : Type 0 where
   pub at : List ℕ
@@ -126,8 +125,8 @@ pub record Going (s : List ℕ) (at d : ℕ) (w : List ℕ) (i f : ℕ) : Type 0
 
 place_none : (s : List ℕ) (o : Option Entry) → place_of s o ≡ place_from s 0 o
 unfolding place_of
-place_none s none = refl
-place_none s (some e) = refl
+place_none s None = refl
+place_none s (Some e) = refl
 
 pub begin : (s : List ℕ) (at d : ℕ) (w : List ℕ) → Going s at d w at 0
 begin s at d w =
@@ -139,20 +138,20 @@ begin s at d w =
     }
 
 -- an answer that is known
-seen-past : (s : List ℕ) (r : Read) (l : List ℕ) → seen s r ≡ past l → (r ≡ R.Past (place r)) × (drop (place r) s ≡ l)
-seen-past s (R.Past n) l e = (refl, cc)
-seen-past s (R.Stop n) l e = let z : ◌≡◌ {A = ℕ} 0 1 = cc in absurd (omega arith)
-seen-past s (R.Deep n) l e = let z : ◌≡◌ {A = ℕ} 0 1 = cc in absurd (omega arith)
+seen-past : (s : List ℕ) (r : Read) (l : List ℕ) → seen s r ≡ past l → (r ≡ Ok (place r)) × (drop (place r) s ≡ l)
+seen-past s (Ok n) l e = (refl, cc)
+seen-past s (Err (F.Stop n)) l e = let z : ◌≡◌ {A = ℕ} 0 1 = cc in absurd (omega arith)
+seen-past s (Err (F.Deep n)) l e = let z : ◌≡◌ {A = ℕ} 0 1 = cc in absurd (omega arith)
 
 past_is : (s : List ℕ) (n : ℕ) (l : List ℕ) → past (drop n s) ≡ past l → drop n s ≡ l
 past_is s n l e = cc
 
 -- what the functions say of a member
 module _ {d k : ℕ} {s : List ℕ} {i : ℕ} {l m : List ℕ} where
-  view-name : {r : Read} {es : List Entry} → drop i s ≡ l → Lexes s i (key ∷ (colon ∷ [])) r → View d k l m es → r ≡ R.Past (place r)
+  view-name : {r : Read} {es : List Entry} → drop i s ≡ l → Lexes s i (key ∷ (colon ∷ [])) r → View d k l m es → r ≡ Ok (place r)
   view-name {r} h x (view {behind = o} a b c e f v t) = (seen-past s r o (x.same 0 ∙ rw h (a 0))).0
 
-  view-value : {n j : ℕ} {r : Read} {es : List Entry} → drop i s ≡ l → Lexes s i (key ∷ (colon ∷ [])) (R.Past n) → Skips s n j → Reads s j d (value ∷ []) r → View d k l m es → r ≡ R.Past (place r)
+  view-value : {n j : ℕ} {r : Read} {es : List Entry} → drop i s ≡ l → Lexes s i (key ∷ (colon ∷ [])) (Ok n) → Skips s n j → Reads s j d (value ∷ []) r → View d k l m es → r ≡ Ok (place r)
   view-value {n} {j} {r} h x y z (view {behind = o} {to = to} a b c e f v t) =
       let p = past_is s n o (x.same 0 ∙ rw h (a 0)) in
       (seen-past s r to (z.same ∙ rw (y.same, p, b) c)).0
@@ -160,11 +159,11 @@ module _ {d k : ℕ} {s : List ℕ} {i : ℕ} {l m : List ℕ} where
 data Passed (s w : List ℕ) (t f g k : ℕ) (m : List ℕ) (es : List Entry) : Type 0 where
   passed : {to : List ℕ} {fs : List Entry} → drop t s ≡ to → Then k to m fs → place_from s f (lookup w es) ≡ place_from s g (lookup w fs) → Passed s w t f g k m es
 
-kept : (s w : List ℕ) (f g : ℕ) (e : Entry) (t : Bool) (o : Option Entry) → g ≡ cond t (length s - length e.from) f → place_from s f (later o (cond t (some e) none)) ≡ place_from s g o
-kept s w f g e true none h = sym h
-kept s w f g e true (some x) h = refl
-kept s w f g e false none h = sym h
-kept s w f g e false (some x) h = refl
+kept : (s w : List ℕ) (f g : ℕ) (e : Entry) (t : Bool) (o : Option Entry) → g ≡ cond t (length s - length e.from) f → place_from s f (later o (cond t (Some e) None)) ≡ place_from s g o
+kept s w f g e true None h = sym h
+kept s w f g e true (Some x) h = refl
+kept s w f g e false None h = sym h
+kept s w f g e false (Some x) h = refl
 
 inside : (s : List ℕ) (n : ℕ) (b : ℕ) (l : List ℕ) → drop n s ≡ b ∷ l → n < length s
 inside s n b l e = let h = ap length e in omega (arith, rw length-drop at h)
@@ -203,26 +202,26 @@ turned {s} {d} {w} {i} {q} {j} {t} {f} {g} {k} {l} {m} z y h a (view {behind = o
 
 -- ---- what parts the members
 
-parted-more : (s : List ℕ) (r : Next) (l : List ℕ) → parted s r ≡ more l → (r ≡ N.More (part_place r)) × (drop (part_place r) s ≡ l)
-parted-more s (N.More n) l e = (refl, cc)
-parted-more s (N.Closed n) l e = let z : ◌≡◌ {A = ℕ} 0 1 = cc in absurd (omega arith)
-parted-more s (N.Wrong n) l e = let z : ◌≡◌ {A = ℕ} 0 1 = cc in absurd (omega arith)
+parted-more : (s : List ℕ) (r : Part) (l : List ℕ) → parted s r ≡ more l → (r ≡ Ok (N.More (part_place r))) × (drop (part_place r) s ≡ l)
+parted-more s (Ok (N.More n)) l e = (refl, cc)
+parted-more s (Ok (N.Closed n)) l e = let z : ◌≡◌ {A = ℕ} 0 1 = cc in absurd (omega arith)
+parted-more s (Err n) l e = let z : ◌≡◌ {A = ℕ} 0 1 = cc in absurd (omega arith)
 
-not-closed : (s : List ℕ) (n : ℕ) (l : List ℕ) → parted s (N.More n) ≡ closed l → ⊥
+not-closed : (s : List ℕ) (n : ℕ) (l : List ℕ) → parted s (Ok (N.More n)) ≡ closed l → ⊥
 not-closed s n l e = let z : ◌≡◌ {A = ℕ} 0 1 = cc in omega arith
 
 module _ {s w : List ℕ} {t f g k : ℕ} {m : List ℕ} {es : List Entry} where
   -- no comma: it was the last
-  over : {r : Next} → Parts s t 0x7D r → (r ≡ N.More (part_place r) → ⊥) → Passed s w t f g k m es → place_from s f (lookup w es) ≡ g
+  over : {r : Part} → Parts s t 0x7D r → (r ≡ Ok (N.More (part_place r)) → ⊥) → Passed s w t f g k m es → place_from s f (lookup w es) ≡ g
   unfolding lookup
   over {r} p deny (passed e (last c) q) = q
   over {r} p deny (passed e (on {l = l} c v h) q) = absurd (deny (parted-more s r l (p.same ∙ rw e c)).0)
 
   -- a comma: the others are left
-  others : {j : ℕ} {want : ℕ} → Parts s t 0x7D (N.More j) → Passed s w t f g k m es → want ≡ place_from s f (lookup w es) → Onward s w j g k m want
+  others : {j : ℕ} {want : ℕ} → Parts s t 0x7D (Ok (N.More j)) → Passed s w t f g k m es → want ≡ place_from s f (lookup w es) → Onward s w j g k m want
   others {j} p (passed e (last c) q) x = absurd (not-closed s j m (p.same ∙ rw e c))
   others {j} p (passed e (on {l = l} {q = y} c v h) q) x =
-      record { at = l; end = y; left = v; here = (parted-more s (N.More j) l (p.same ∙ rw e c)).1; ends = h; place = x ∙ q }
+      record { at = l; end = y; left = v; here = (parted-more s (Ok (N.More j)) l (p.same ∙ rw e c)).1; ends = h; place = x ∙ q }
 
 -- ---- an object without members
 
@@ -230,13 +229,13 @@ ws-stops : {l m : List ℕ} → Ws l (0x7D ∷ m) → (e : ℕ) → go e (key �
 unfolding go settle alts pick within spaced nullable
 ws-stops w e = key-ws e (colon ∷ []) w
 
-name-stops : {s : List ℕ} {at : ℕ} {n : ℕ} (l m : List ℕ) → drop at s ≡ l → Ws l (0x7D ∷ m) → Lexes s at (key ∷ (colon ∷ [])) (R.Past n) → ⊥
+name-stops : {s : List ℕ} {at : ℕ} {n : ℕ} (l m : List ℕ) → drop at s ≡ l → Ws l (0x7D ∷ m) → Lexes s at (key ∷ (colon ∷ [])) (Ok n) → ⊥
 name-stops {s} {at} {n} l m h w x =
     let q : go 0 (key ∷ (colon ∷ [])) (drop at s) ≡ stop (0x7D ∷ m) = rw h (ws-stops w 0) in
     let p = x.same 0 ∙ q in let z : ◌≡◌ {A = ℕ} 0 1 = cc in omega arith
 
 -- what parts members in an object is no other byte
-unpartable : {s : List ℕ} {t j k : ℕ} {m to : List ℕ} {es : List Entry} → Parts s t 0x7D (N.Wrong j) → drop t s ≡ to → Then k to m es → ⊥
+unpartable : {s : List ℕ} {t j k : ℕ} {m to : List ℕ} {es : List Entry} → Parts s t 0x7D (Err j) → drop t s ≡ to → Then k to m es → ⊥
 unpartable {s} {t} {j} {k} {m} {to} p e (last c) =
     let q : wrong (drop j s) ≡ closed m = p.same ∙ rw e c in let z : ◌≡◌ {A = ℕ} 0 1 = cc in omega arith
 unpartable {s} {t} {j} {k} {m} {to} p e (on {l = l} {q = y} c v h) =
@@ -245,17 +244,17 @@ unpartable {s} {t} {j} {k} {m} {to} p e (on {l = l} {q = y} c v h) =
 -- ---- what the turns find
 
 module _ {s : List ℕ} {at d : ℕ} {w : List ℕ} {i f : ℕ} (o : Going s at d w i f) where
-  no_member : {n : ℕ} (l m : List ℕ) → drop at s ≡ l → Ws l (0x7D ∷ m) → Lexes s i (key ∷ (colon ∷ [])) (R.Past n) → ⊥
-  no_member {n} l m h e x = name-stops l m h e (subst (λ (j : ℕ). Lexes s j (key ∷ (colon ∷ [])) (R.Past n)) (o.empty l m h e).0 x)
+  no_member : {n : ℕ} (l m : List ℕ) → drop at s ≡ l → Ws l (0x7D ∷ m) → Lexes s i (key ∷ (colon ∷ [])) (Ok n) → ⊥
+  no_member {n} l m h e x = name-stops l m h e (subst (λ (j : ℕ). Lexes s j (key ∷ (colon ∷ [])) (Ok n)) (o.empty l m h e).0 x)
 
-  finds-by : {q j t g : ℕ} {r : Next} → Turn s i d q j t → g ≡ cond (name_is w (drop (q + 1) s)) j f → Parts s t 0x7D r → (r ≡ N.More (part_place r) → ⊥) → Finds s at d w g
+  finds-by : {q j t g : ℕ} {r : Part} → Turn s i d q j t → g ≡ cond (name_is w (drop (q + 1) s)) j f → Parts s t 0x7D r → (r ≡ Ok (N.More (part_place r)) → ⊥) → Finds s at d w g
   finds-by z y p deny =
       record {
         empty = λ l m b e. absurd (no_member l m b e z.name-is);
         members = λ k l m b h a v. let q = o.members k l m b h a v in sym (q.place ∙ over p deny (turned z y q.here a (view_of q.left d m q.ends h)));
       }
 
-  goes_by : {q j t g u : ℕ} → Turn s i d q j t → g ≡ cond (name_is w (drop (q + 1) s)) j f → Parts s t 0x7D (N.More u) → Going s at d w u g
+  goes_by : {q j t g u : ℕ} → Turn s i d q j t → g ≡ cond (name_is w (drop (q + 1) s)) j f → Parts s t 0x7D (Ok (N.More u)) → Going s at d w u g
   goes_by {u = u} z y p =
       record {
         low = omega (arith, o.low, z.name-is.low, z.skipped.low, z.value-is.low, p.low);
@@ -265,7 +264,7 @@ module _ {s : List ℕ} {at d : ℕ} {w : List ℕ} {i f : ℕ} (o : Going s at 
       }
 
   -- no member is left
-  pub finds-none : Turns s i d M.None → Finds s at d w f
+  pub finds-none : Turns s i d None → Finds s at d w f
   finds-none (nameless x deny) =
       record {
         empty = λ l m y e. (o.empty l m y e).1;
@@ -282,37 +281,33 @@ module _ {s : List ℕ} {at d : ℕ} {w : List ℕ} {i f : ℕ} (o : Going s at 
         members = λ k l m b h a v. let q = o.members k l m b h a v in absurd (unparts p (turned z refl q.here a (view_of q.left d m q.ends h)));
       }
     where
-      unparts : {t j g k : ℕ} {m : List ℕ} {es : List Entry} → Parts s t 0x7D (N.Wrong j) → Passed s w t f g k m es → ⊥
+      unparts : {t j g k : ℕ} {m : List ℕ} {es : List Entry} → Parts s t 0x7D (Err j) → Passed s w t f g k m es → ⊥
       unparts p (passed e x y) = unpartable p e x
 
   -- it was the last: its value's place is kept where its name is w
-  pub finds-last : {n v g : ℕ} → Turns s i d (M.Last n v) → g ≡ cond (name_is w (drop n s)) v f → Finds s at d w g
+  pub finds-last : {n v g : ℕ} → Turns s i d (Some (record { name = n; value = v; next = None })) → g ≡ cond (name_is w (drop n s)) v f → Finds s at d w g
   finds-last (lastly z p) y = finds-by z y p (λ e. let b : ◌≡◌ {A = ℕ} 0 1 = cc in omega arith)
 
   -- others are left
-  pub goes-on-with : {n v u g : ℕ} → Turns s i d (M.More n v u) → g ≡ cond (name_is w (drop n s)) v f → Going s at d w u g
+  pub goes-on-with : {n v u g : ℕ} → Turns s i d (Some (record { name = n; value = v; next = Some u })) → g ≡ cond (name_is w (drop n s)) v f → Going s at d w u g
   goes-on-with (furthermore z p) y = goes_by z y p
 
-pub turns-told : {s : List ℕ} {i d : ℕ} {r q : Member} → r ≡ q → Turns s i d r → Turns s i d q
-turns-told {s} {i} {d} e t = subst (Turns s i d) e t
+-- a member, by what is known of the place of the next
+pub turns-told : {s : List ℕ} {i d : ℕ} {m : Member} {o : Option ℕ} → m.next ≡ o → Turns s i d (Some m) → Turns s i d (Some (record { name = m.name; value = m.value; next = o }))
+turns-told {s} {i} {d} {m} e t = subst (λ (o : Option ℕ). Turns s i d (Some (record { name = m.name; value = m.value; next = o }))) e t
 
 -- the next member begins further on
-pub next-falls : {s : List ℕ} {i d n v u : ℕ} → Turns s i d (M.More n v u) → (i < u) × (u ≤ length s)
+pub next-falls : {s : List ℕ} {i d n v u : ℕ} → Turns s i d (Some (record { name = n; value = v; next = Some u })) → (i < u) × (u ≤ length s)
 next-falls {u = u} (furthermore z p) = let q = p.falls u refl in (omega (arith, q, z.name-is.low, z.skipped.low, z.value-is.low), q.1)
 
 -- a name begins inside
-pub named-inside : {s : List ℕ} {at n : ℕ} → Lexes s at (key ∷ (colon ∷ [])) (R.Past n) → at < length s
+pub named-inside : {s : List ℕ} {at n : ℕ} → Lexes s at (key ∷ (colon ∷ [])) (Ok n) → at < length s
 unfolding ready nullable
 named-inside {s} {at} {n} x = of (dec_lt at (length s))
   where
     of : Dec (at < length s) → at < length s
     of (yes h) = h
     of (no h) = let e = x.same 0 ∙ go-end s at 0 (key ∷ (colon ∷ [])) (omega arith) in let z : ◌≡◌ {A = ℕ} 0 1 = cc in absurd (omega arith)
-
--- an answer of another kind
-pub no-tags : {n : ℕ} → (n ≡ 1) ⊎ (n ≡ 2) → n ≡ 0 → ⊥
-no-tags (inl e) h = omega arith
-no-tags (inr e) h = omega arith
 
 -- ---- at a value
 

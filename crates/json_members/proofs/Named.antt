@@ -1,8 +1,8 @@
 -- Names read off the bytes are what the grammar says. Assumes nothing.
+use Rattle.std.specs.Prelude.{None, Some}
 use mathlib.Core.Path.{◌≡◌, refl, sym, ap, ◌∙◌}
 use mathlib.Core.Bool.{Bool, true, false, cond, ◌&&◌}
 use mathlib.Core.List.{List, [], ◌∷◌, ◌++◌, append-nil}
-use mathlib.Core.Option.{none, some}
 use Prim.Native.Nat.{ℕ, zero, suc, ◌+◌, ◌-◌, ◌*◌, ◌≤◌, ◌<◌}
 use native.Mathlib.Decide.{dec_lt}
 use native.Mathlib.Numerals.{add-one}
@@ -91,15 +91,15 @@ module _ (s : List ℕ) (i : ℕ) where
   name-quote k = rw (drop-cons s i 0 k)
 
 module _ (w : List ℕ) (j : ℕ) (s : List ℕ) (i : ℕ) where
-  pub behind-out : j < length w → length s ≤ i → behind_at s i (drop j w) ≡ none
+  pub behind-out : j < length w → length s ≤ i → behind_at s i (drop j w) ≡ None
   unfolding behind_at
   behind-out h k = rw (drop-cons w j 0 h, le-ltb i (length s) k)
 
-  pub behind-at : j < length w → i < length s → behind_at s i (drop j w) ≡ cond (eqb (get_or s i 0) 0x22) none (cond (eqb (code_of (drop i s)) (get_or w j 0)) (behind_at s (i + width_of (get_or s i 0) (drop (i + 1) s)) (drop (j + 1) w)) none)
+  pub behind-at : j < length w → i < length s → behind_at s i (drop j w) ≡ cond (eqb (get_or s i 0) 0x22) None (cond (eqb (code_of (drop i s)) (get_or w j 0)) (behind_at s (i + width_of (get_or s i 0) (drop (i + 1) s)) (drop (j + 1) w)) None)
   unfolding behind_at
   behind-at h k = rw (add-one j, drop-cons w j 0 h, lt-ltb i (length s) k)
 
-  pub behind-done : length w ≤ j → behind_at s i (drop j w) ≡ some i
+  pub behind-done : length w ≤ j → behind_at s i (drop j w) ≡ Some i
   unfolding behind_at
   behind-done h = rw (drop_of_length-le w h)
 
@@ -112,12 +112,12 @@ name-parts s i (x ∷ a) b = of (name-parts s (i + width_of (get_or s i 0) (drop
     wide : ℕ
     wide = width_of (get_or s i 0) (drop (i + 1) s)
 
-    by : name_is (a ++ b) (drop (i + wide) s) ≡ followed (behind_at s (i + wide) a) (λ k. name_is b (drop k s)) → (t u : Bool) → cond t false (u && name_is (a ++ b) (drop (i + wide) s)) ≡ followed (cond t none (cond u (behind_at s (i + wide) a) none)) (λ k. name_is b (drop k s))
+    by : name_is (a ++ b) (drop (i + wide) s) ≡ followed (behind_at s (i + wide) a) (λ k. name_is b (drop k s)) → (t u : Bool) → cond t false (u && name_is (a ++ b) (drop (i + wide) s)) ≡ followed (cond t None (cond u (behind_at s (i + wide) a) None)) (λ k. name_is b (drop k s))
     by z true u = refl
     by z false true = z
     by z false false = refl
 
-    of : name_is (a ++ b) (drop (i + wide) s) ≡ followed (behind_at s (i + wide) a) (λ k. name_is b (drop k s)) → Dec (i < length s) → name_is (x ∷ (a ++ b)) (drop i s) ≡ followed (cond (ltb i (length s)) (cond (eqb (get_or s i 0) 0x22) none (cond (eqb (code_of (drop i s)) x) (behind_at s (i + wide) a) none)) none) (λ k. name_is b (drop k s))
+    of : name_is (a ++ b) (drop (i + wide) s) ≡ followed (behind_at s (i + wide) a) (λ k. name_is b (drop k s)) → Dec (i < length s) → name_is (x ∷ (a ++ b)) (drop i s) ≡ followed (cond (ltb i (length s)) (cond (eqb (get_or s i 0) 0x22) None (cond (eqb (code_of (drop i s)) x) (behind_at s (i + wide) a) None)) None) (λ k. name_is b (drop k s))
     of z (yes h) = name-next s i x (a ++ b) h ∙ rw (lt-ltb i (length s) h) (by z (eqb (get_or s i 0) 0x22) (eqb (code_of (drop i s)) x))
     of z (no h) = name_out s i x (a ++ b) (omega arith) ∙ rw (le-ltb i (length s) (omega arith)) refl
 
@@ -142,7 +142,7 @@ four-says p q s t e f g h = rw (p, q, s, t, e, f, g, h)
 
 -- what is behind the reverse solidus: its number, and how many bytes it has
 escape-says : {l r : List ℕ} (x : G.Escape l r) → escape_of l ≡ escape_says x
-unfolding escape_of escape_says simple_of four_of
+unfolding escape_of escape_says four_of
 escape-says G.esc-quote = refl
 escape-says G.esc-reverse = refl
 escape-says G.esc-solidus = refl

@@ -1,7 +1,7 @@
 -- What a rule leaves is an end of its text, so a member's value stands at the place that is found. Assumes nothing.
+use Rattle.std.specs.Prelude.{Option, None, Some}
 use mathlib.Core.Path.{◌≡◌, refl, subst}
 use mathlib.Core.List.{List, [], ◌∷◌}
-use mathlib.Core.Option.{Option, none, some}
 use mathlib.Core.Bool.{Bool, true, false, cond}
 use Prim.Native.Nat.{ℕ, zero, suc, ◌-◌, ◌≤◌}
 use native.Mathlib.Omega.{arith}
@@ -150,14 +150,14 @@ ws-quiet (G.return w) h = refl
 
 -- its value ends l, no number goes on behind it, and it has k levels
 data Within (k : ℕ) (l : List ℕ) : Option Entry → Type 0 where
-  nothing : Within k l none
-  something : {e : Entry} → Suffix l e.from → quiet e.to ≡ true → e.level ≡ k → Within k l (some e)
+  nothing : Within k l None
+  something : {e : Entry} → Suffix l e.from → quiet e.to ≡ true → e.level ≡ k → Within k l (Some e)
 
 later-within : {k : ℕ} {l : List ℕ} (o p : Option Entry) → Within k l o → Within k l p → Within k l (later o p)
-later-within none p x y = y
-later-within (some e) p x y = x
+later-within None p x y = y
+later-within (Some e) p x y = x
 
-cond-within : {k : ℕ} {l : List ℕ} (t : Bool) (e : Entry) → Suffix l e.from → quiet e.to ≡ true → e.level ≡ k → Within k l (cond t (some e) none)
+cond-within : {k : ℕ} {l : List ℕ} (t : Bool) (e : Entry) → Suffix l e.from → quiet e.to ≡ true → e.level ≡ k → Within k l (cond t (Some e) None)
 cond-within true e s q h = something s q h
 cond-within false e s q h = nothing
 
@@ -176,8 +176,8 @@ lookup-within w (G.members a s c x v u k) h =
 
 stands_of : {k : ℕ} {l : List ℕ} (s : List ℕ) (o : Option Entry) → Suffix s (0x7B ∷ l) → Within k l o → Stands s (suc k) o
 unfolding place_of
-stands_of s none t nothing = nowhere
-stands_of s (some e) t (something y q h) = somewhere {e = e} (omega (arith, shorter t, shorter y)) (drop-suffix (t ⨟ step y)) q (omega arith)
+stands_of s None t nothing = nowhere
+stands_of s (Some e) t (something y q h) = somewhere {e = e} (omega (arith, shorter t, shorter y)) (drop-suffix (t ⨟ step y)) q (omega arith)
 
 pub found : {k : ℕ} {l r : List ℕ} (s w : List ℕ) (at : ℕ) (v : Value k l r) → drop at s ≡ l → Stands s k (lookup w (entries_of v))
 unfolding entries_of lookup quiet

@@ -2,49 +2,33 @@
 -- to, and the others are here. Assumes nothing.
 use mathlib.Core.Path.{◌≡◌, refl, sym, ap, subst, ◌∙◌}
 use mathlib.Core.List.{List, [], ◌∷◌}
-use mathlib.Core.Option.{Option}
 use Prim.Native.Nat.{ℕ}
 use native.Mathlib.Omega.{arith}
-use Rattle.json_grammar.specs.declared.scan.Read.{Read}
-use Rattle.json_grammar.specs.declared.scan.Read.TheVariants as R
+use Rattle.json_grammar.specs.Judge.{Read}
+use Rattle.std.specs.Prelude.{Ok, Err, Option}
+use Rattle.json_grammar.specs.declared.scan.Fault.TheVariants as F
 use Rattle.json_grammar.specs.inner.Machine.{value, key, colon}
 use Rattle.json_grammar.specs.inner.Steps.{place, Lexes, Skips, Reads}
 use Rattle.json_grammar.proofs.Unique.{skips-unique, lexes-unique, reads-unique}
 use Rattle.json_read.specs.inner.Steps.{part_place, Parts}
-use Rattle.json_read.specs.declared.value.Next.{Next}
+use Rattle.json_read.specs.inner.Steps.{Part}
 use Rattle.json_read.proofs.Unique.{part-unique}
-use Rattle.json_members.specs.inner.Bytes.{placed, sized, size_at}
+use Rattle.json_members.specs.inner.Bytes.{size_at}
 use Rattle.json_members.specs.inner.Turns.{Turn, Turns, nameless, valueless, unparted, last, more}
 use Rattle.json_members.specs.declared.member.Member.{Member}
-use Rattle.json_members.specs.declared.name.Rest.{Rest}
-use Rattle.json_members.specs.declared.name.Rest.TheVariants as B
-use Rattle.json_members.specs.declared.size.Size.{Size}
-use Rattle.json_members.specs.declared.size.Size.TheVariants as S
 
 -- of `read_size`
-pub size-unique : (l : List ℕ) (r q : Size) → sized r ≡ size_at l → sized q ≡ size_at l → r ≡ q
-size-unique l r q x y = of r q (x ∙ sym y)
-  where
-    of : (r q : Size) → sized r ≡ sized q → r ≡ q
-    of (S.Is n) (S.Is m) e = let h : n ≡ m = cc in ap S.Is h
-    of (S.Is n) S.Absent e = let z : ◌≡◌ {A = ℕ} 0 1 = cc in absurd (omega arith)
-    of S.Absent (S.Is m) e = let z : ◌≡◌ {A = ℕ} 0 1 = cc in absurd (omega arith)
-    of S.Absent S.Absent e = refl
+pub size-unique : (l : List ℕ) (r q : Option ℕ) → r ≡ size_at l → q ≡ size_at l → r ≡ q
+size-unique l r q x y = x ∙ sym y
 
 -- of `behind`
-pub rest-unique : (o : Option ℕ) (r q : Rest) → placed r ≡ o → placed q ≡ o → r ≡ q
-rest-unique o r q x y = of r q (x ∙ sym y)
-  where
-    of : (r q : Rest) → placed r ≡ placed q → r ≡ q
-    of (B.From n) (B.From m) e = let h : n ≡ m = cc in ap B.From h
-    of (B.From n) B.Not e = let z : ◌≡◌ {A = ℕ} 0 1 = cc in absurd (omega arith)
-    of B.Not (B.From m) e = let z : ◌≡◌ {A = ℕ} 0 1 = cc in absurd (omega arith)
-    of B.Not B.Not e = refl
+pub rest-unique : (o r q : Option ℕ) → r ≡ o → q ≡ o → r ≡ q
+rest-unique o r q x y = x ∙ sym y
 
 -- ---- of `read_member`
 
-past-place : {r : Read} (n : ℕ) → r ≡ R.Past n → r ≡ R.Past (place r)
-past-place n e = e ∙ ap R.Past (sym (ap place e))
+past-place : {r : Read} (n : ℕ) → r ≡ Ok n → r ≡ Ok (place r)
+past-place n e = e ∙ ap Ok (sym (ap place e))
 
 -- two members from one place are one
 record One (q v m q' v' m' : ℕ) : Type 0 where
@@ -54,26 +38,26 @@ record One (q v m q' v' m' : ℕ) : Type 0 where
 
 one_of : {s : List ℕ} {at d q v m q' v' m' : ℕ} → Turn s at d q v m → Turn s at d q' v' m' → One q v m q' v' m'
 one_of {s} {at} {d} {q} {v} {m} {q'} {v'} {m'} x y =
-    let e : x.behind ≡ y.behind = ap place (lexes-unique (R.Past x.behind) (R.Past y.behind) x.name-is y.name-is) in
+    let e : x.behind ≡ y.behind = ap place (lexes-unique (Ok x.behind) (Ok y.behind) x.name-is y.name-is) in
     let f : v ≡ v' = skips-unique v v' (subst (λ (i : ℕ). Skips s i v) e x.skipped) y.skipped in
-    let g : m ≡ m' = ap place (reads-unique (R.Past m) (R.Past m') (subst (λ (i : ℕ). Reads s i d (value ∷ []) (R.Past m)) f x.value-is) y.value-is) in
+    let g : m ≡ m' = ap place (reads-unique (Ok m) (Ok m') (subst (λ (i : ℕ). Reads s i d (value ∷ []) (Ok m)) f x.value-is) y.value-is) in
     record { quote = skips-unique q q' x.quote-is y.quote-is; start = f; end = g }
 
-parts-one : {s : List ℕ} {m m' : ℕ} {r q : Next} → m ≡ m' → Parts s m 0x7D r → Parts s m' 0x7D q → r ≡ q
+parts-one : {s : List ℕ} {m m' : ℕ} {r q : Part} → m ≡ m' → Parts s m 0x7D r → Parts s m' 0x7D q → r ≡ q
 parts-one {s} {m} {m'} {r} {q} e x y = part-unique r q (subst (λ (i : ℕ). Parts s i 0x7D r) e x) y
 
 module _ {s : List ℕ} {at d : ℕ} where
   -- where a member is read, there is a name and a value
-  no_name : {r : Read} {q v m : ℕ} → Lexes s at (key ∷ (colon ∷ [])) r → (r ≡ R.Past (place r) → ⊥) → Turn s at d q v m → ⊥
-  no_name {r} x h t = h (past-place t.behind (lexes-unique r (R.Past t.behind) x t.name-is))
+  no_name : {r : Read} {q v m : ℕ} → Lexes s at (key ∷ (colon ∷ [])) r → (r ≡ Ok (place r) → ⊥) → Turn s at d q v m → ⊥
+  no_name {r} x h t = h (past-place t.behind (lexes-unique r (Ok t.behind) x t.name-is))
 
-  no_value : {r : Read} {n w q v m : ℕ} → Lexes s at (key ∷ (colon ∷ [])) (R.Past n) → Skips s n w → Reads s w d (value ∷ []) r → (r ≡ R.Past (place r) → ⊥) → Turn s at d q v m → ⊥
+  no_value : {r : Read} {n w q v m : ℕ} → Lexes s at (key ∷ (colon ∷ [])) (Ok n) → Skips s n w → Reads s w d (value ∷ []) r → (r ≡ Ok (place r) → ⊥) → Turn s at d q v m → ⊥
   no_value {r} {n} {w} {q} {v} {m} x y z h t =
-      let e : n ≡ t.behind = ap place (lexes-unique (R.Past n) (R.Past t.behind) x t.name-is) in
+      let e : n ≡ t.behind = ap place (lexes-unique (Ok n) (Ok t.behind) x t.name-is) in
       let f : w ≡ v = skips-unique w v (subst (λ (i : ℕ). Skips s i w) e y) t.skipped in
-      h (past-place m (reads-unique r (R.Past m) (subst (λ (i : ℕ). Reads s i d (value ∷ []) r) f z) t.value-is))
+      h (past-place m (reads-unique r (Ok m) (subst (λ (i : ℕ). Reads s i d (value ∷ []) r) f z) t.value-is))
 
-  pub member-unique : (a b : Member) → Turns s at d a → Turns s at d b → a ≡ b
+  pub member-unique : (a b : Option Member) → Turns s at d a → Turns s at d b → a ≡ b
   member-unique a b (nameless x h) (nameless y k) = refl
   member-unique a b (nameless x h) (valueless y z w k) = refl
   member-unique a b (nameless x h) (unparted y k) = refl

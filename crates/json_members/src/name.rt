@@ -1,7 +1,7 @@
 // Names, read after their escapes.
 ghost use Rattle.std.specs.Prelude.{◌≡◌, ◌+◌, ◌≤◌, ◌<◌, length, get_or, drop};
 ghost use Rattle.json_members.specs.inner.Bytes as Bytes;
-ghost use Rattle.json_members.specs.inner.Bytes.{four_of, code_of, name_is, behind_at, placed};
+ghost use Rattle.json_members.specs.inner.Bytes.{four_of, code_of, name_is, behind_at};
 
 fn hex_value(b: u8) -> usize
     ensures { (result ≡ Bytes.hex_value b) × (result ≤ 255) }
@@ -24,22 +24,14 @@ fn hex_value(b: u8) -> usize
 fn simple(b: u8) -> usize
     ensures { result ≡ Bytes.simple_of b }
 {
-    if b == b'b' {
-        return 0x08;
+    match b {
+        b'b' => 0x08,
+        b'f' => 0x0C,
+        b'n' => 0x0A,
+        b'r' => 0x0D,
+        b't' => 0x09,
+        _ => b as usize,
     }
-    if b == b'f' {
-        return 0x0C;
-    }
-    if b == b'n' {
-        return 0x0A;
-    }
-    if b == b'r' {
-        return 0x0D;
-    }
-    if b == b't' {
-        return 0x09;
-    }
-    b as usize
 }
 
 fn four(s: &[u8], at: usize) -> usize
@@ -108,45 +100,35 @@ fn width(s: &[u8], at: usize) -> usize
     4
 }
 
-// Where a name goes on behind w, if it has it.
-#[derive(Drop)]
-pub enum Rest {
-    From(usize),
-    Not,
-}
-
 // The place behind w, where a name has it from `at` on.
-pub fn behind(s: &[u8], at: usize, w: &[u8]) -> Rest
-    ensures { placed result ≡ behind_at s.now at w.now }
+pub fn behind(s: &[u8], at: usize, w: &[u8]) -> Option<usize>
+    ensures { result ≡ behind_at s.now at w.now }
 {
     let mut i = at;
-    for j in 0..w.len() {
+    for x in w {
         if s.len() <= i {
-            return Rest::Not;
+            return None;
         }
         if s[i] == b'"' {
-            return Rest::Not;
+            return None;
         }
-        let x = w[j] as usize;
-        if code(s, i) != x {
-            return Rest::Not;
+        if code(s, i) != *x as usize {
+            return None;
         }
         i += width(s, i);
     }
-    Rest::From(i)
+    Some(i)
 }
 
 // Whether the name behind a quotation mark is w.
 pub fn name_is(s: &[u8], at: usize, w: &[u8]) -> bool
     ensures { result ≡ name_is w.now (drop at s.now) }
 {
-    match behind(s, at, w) {
-        Rest::From(i) => {
-            if s.len() <= i {
-                return false;
-            }
-            s[i] == b'"'
-        }
-        Rest::Not => false,
+    let Some(i) = behind(s, at, w) else {
+        return false;
+    };
+    if s.len() <= i {
+        return false;
     }
+    s[i] == b'"'
 }

@@ -1,39 +1,36 @@
 -- The members of an object, one after another, and what is found of a name. Assumes nothing.
-use Rattle.std.specs.Prelude.{◌≡◌, true, List, [], ◌∷◌, ℕ, ◌+◌, ◌-◌, ◌≤◌, ◌<◌, length, get_or, drop}
-use Rattle.std.proofs.Math.Option.{Option, none, some}
+use Rattle.std.specs.Prelude.{◌≡◌, true, List, [], ◌∷◌, ℕ, ◌+◌, ◌-◌, ◌≤◌, ◌<◌, length, get_or, drop, Ok, Err, Option, None, Some}
 use Rattle.json_grammar.specs.Grammar.{Ws, Value, Members}
 use Rattle.json_grammar.specs.inner.Machine.{value, key, colon}
 use Rattle.json_grammar.specs.inner.Steps.{place, Reads, Lexes, Skips}
-use Rattle.json_grammar.specs.declared.scan.Read.{Read}
-use Rattle.json_grammar.specs.declared.scan.Read.TheVariants as R
+use Rattle.json_grammar.specs.Judge.{Read}
 use Rattle.json_read.specs.inner.Steps.{Parts}
 use Rattle.json_read.specs.declared.value.Next.TheVariants as N
 use Rattle.json_members.specs.Names.{Entry, members_of, entries_of, lookup}
 use Rattle.json_members.specs.inner.Bytes.{quiet}
 use Rattle.json_members.specs.declared.member.Member.{Member}
-use Rattle.json_members.specs.declared.member.Member.TheVariants as M
 
 -- a member from `at` on: its name behind the quotation mark at q, its value from v to m
 pub record Turn (s : List ℕ) (at d q v m : ℕ) : Type 0 where
   pub behind : ℕ
-  pub name-is : Lexes s at (key ∷ (colon ∷ [])) (R.Past behind)
+  pub name-is : Lexes s at (key ∷ (colon ∷ [])) (Ok behind)
   pub skipped : Skips s behind v
-  pub value-is : Reads s v d (value ∷ []) (R.Past m)
+  pub value-is : Reads s v d (value ∷ []) (Ok m)
   pub quote-is : Skips s at q
 
 -- the member from `at` on, where there is one
-pub data Turns (s : List ℕ) (at d : ℕ) : Member → Type 0 where
-  nameless : {r : Read} → Lexes s at (key ∷ (colon ∷ [])) r → (r ≡ R.Past (place r) → ⊥) → Turns s at d M.None
-  valueless : {n v : ℕ} {r : Read} → Lexes s at (key ∷ (colon ∷ [])) (R.Past n) → Skips s n v → Reads s v d (value ∷ []) r → (r ≡ R.Past (place r) → ⊥) → Turns s at d M.None
-  unparted : {q v m j : ℕ} → Turn s at d q v m → Parts s m 0x7D (N.Wrong j) → Turns s at d M.None
-  last : {q v m j : ℕ} → Turn s at d q v m → Parts s m 0x7D (N.Closed j) → Turns s at d (M.Last (q + 1) v)
-  more : {q v m j : ℕ} → Turn s at d q v m → Parts s m 0x7D (N.More j) → Turns s at d (M.More (q + 1) v j)
+pub data Turns (s : List ℕ) (at d : ℕ) : Option Member → Type 0 where
+  nameless : {r : Read} → Lexes s at (key ∷ (colon ∷ [])) r → (r ≡ Ok (place r) → ⊥) → Turns s at d None
+  valueless : {n v : ℕ} {r : Read} → Lexes s at (key ∷ (colon ∷ [])) (Ok n) → Skips s n v → Reads s v d (value ∷ []) r → (r ≡ Ok (place r) → ⊥) → Turns s at d None
+  unparted : {q v m j : ℕ} → Turn s at d q v m → Parts s m 0x7D (Err j) → Turns s at d None
+  last : {q v m j : ℕ} → Turn s at d q v m → Parts s m 0x7D (Ok (N.Closed j)) → Turns s at d (Some (record { name = q + 1; value = v; next = None }))
+  more : {q v m j : ℕ} → Turn s at d q v m → Parts s m 0x7D (Ok (N.More j)) → Turns s at d (Some (record { name = q + 1; value = v; next = Some j }))
 
 -- ---- where a member's value stands; 0 where there is none
 
 unfoldable pub place_of : List ℕ → Option Entry → ℕ
-place_of s none = 0
-place_of s (some e) = length s - length e.from
+place_of s None = 0
+place_of s (Some e) = length s - length e.from
 
 -- a name of ASCII
 abbrev pub Ascii : List ℕ → Type 0
@@ -50,5 +47,5 @@ pub record Gets (s : List ℕ) (at d : ℕ) (w : List ℕ) (n : ℕ) : Type 0 wh
 
 -- what is found of a value with k levels stands at its place, behind the first byte, and has fewer
 pub data Stands (s : List ℕ) (k : ℕ) : Option Entry → Type 0 where
-  nowhere : Stands s k none
-  somewhere : {e : Entry} → 0 < place_of s (some e) → drop (place_of s (some e)) s ≡ e.from → quiet e.to ≡ true → e.level < k → Stands s k (some e)
+  nowhere : Stands s k None
+  somewhere : {e : Entry} → 0 < place_of s (Some e) → drop (place_of s (Some e)) s ≡ e.from → quiet e.to ≡ true → e.level < k → Stands s k (Some e)

@@ -5,5 +5,5 @@ use lib.ListN.{length, drop}
 use Rattle.json_members.specs.inner.Bytes.{behind_at}
 use Rattle.json_members.proofs.name.behind.Given as goal
 
-abbrev pub invariant-loop-j : goal.invariant-loop-j
-invariant-loop-j l = (l.j ≤ length l.w) × (behind_at l.s l.at l.w ≡ behind_at l.s l.i (drop l.j l.w))
+abbrev pub invariant-loop-x : goal.invariant-loop-x
+invariant-loop-x l = (behind_at l.s l.at l.w ≡ behind_at l.s l.i (drop l.x-index l.w))
