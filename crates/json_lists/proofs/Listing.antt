@@ -1,8 +1,8 @@
 -- Lists read off the bytes are what the grammar says. Assumes nothing.
+use Rattle.std.specs.Prelude.{Option, None, Some}
 use mathlib.Core.Path.{◌≡◌, refl, sym, ap, ◌∙◌}
 use mathlib.Core.Bool.{Bool, true, false, cond, ◌||◌, not, false≢true}
 use mathlib.Core.List.{List, [], ◌∷◌}
-use mathlib.Core.Option.{Option, none, some}
 use Prim.Native.Nat.{ℕ, ◌+◌, ◌-◌, ◌*◌}
 use native.Mathlib.Nat.{zero-add}
 use native.Mathlib.Omega.{arith}
@@ -22,9 +22,9 @@ use Rattle.json_members.proofs.Suffix.{ws-quiet}
 use Rattle.json_lists.specs.Lists.{joined, element_sizes, sizes_of, said_of}
 use Rattle.json_lists.specs.inner.Bytes.{awaited, reading, behind, parting, numbers_from, opened, numbers_at, list_at}
 
-joined-none : (o : Option ℕ) → joined o none ≡ none
-joined-none none = refl
-joined-none (some n) = refl
+joined-none : (o : Option ℕ) → joined o None ≡ None
+joined-none None = refl
+joined-none (Some n) = refl
 
 -- ---- behind digits
 
@@ -42,10 +42,10 @@ digits-go d (b ∷ l) = of (is_digit b) refl (digits-go d l)
     of false e k = rw (digits-skip [] b e) refl
 
 -- a fraction or an exponent parts no numbers
-more_parts : (b : ℕ) (o c : Option (List ℕ)) → is_more b ≡ true → parting b o c ≡ none
+more_parts : (b : ℕ) (o c : Option (List ℕ)) → is_more b ≡ true → parting b o c ≡ None
 more_parts b o c h = of (eqb b 0x2E) (eqb b 0x65) (eqb b 0x45) refl refl refl h
   where
-    of : (t u w : Bool) → eqb b 0x2E ≡ t → eqb b 0x65 ≡ u → eqb b 0x45 ≡ w → (t || (u || w)) ≡ true → parting b o c ≡ none
+    of : (t u w : Bool) → eqb b 0x2E ≡ t → eqb b 0x65 ≡ u → eqb b 0x45 ≡ w → (t || (u || w)) ≡ true → parting b o c ≡ None
     of true u w p q r k = rw (eqb-true b 0x2E p) refl
     of false true w p q r k = rw (eqb-true b 0x65 q) refl
     of false false true p q r k = rw (eqb-true b 0x45 r) refl
@@ -56,7 +56,7 @@ unfolding numbers_from size_from behind_digits
 reading-law n [] = sym (joined-none (limited n))
 reading-law n (b ∷ l) = of (is_digit b) (is_more b) refl (reading-law (n * 10 + (b - 0x30)) l)
   where
-    of : (t u : Bool) → is_more b ≡ u → numbers_from (reading (n * 10 + (b - 0x30))) l ≡ joined (size_from (n * 10 + (b - 0x30)) l) (numbers_from behind (behind_digits l)) → cond t (numbers_from (reading (n * 10 + (b - 0x30))) l) (joined (limited n) (parting b (numbers_from behind l) (numbers_from awaited l))) ≡ joined (cond t (size_from (n * 10 + (b - 0x30)) l) (cond u none (limited n))) (numbers_from behind (cond t (behind_digits l) (b ∷ l)))
+    of : (t u : Bool) → is_more b ≡ u → numbers_from (reading (n * 10 + (b - 0x30))) l ≡ joined (size_from (n * 10 + (b - 0x30)) l) (numbers_from behind (behind_digits l)) → cond t (numbers_from (reading (n * 10 + (b - 0x30))) l) (joined (limited n) (parting b (numbers_from behind l) (numbers_from awaited l))) ≡ joined (cond t (size_from (n * 10 + (b - 0x30)) l) (cond u None (limited n))) (numbers_from behind (cond t (behind_digits l) (b ∷ l)))
     of true u e k = k
     of false true e k = rw (more_parts b (numbers_from behind l) (numbers_from awaited l) e) (joined-none (limited n))
     of false false e k = refl
@@ -66,7 +66,7 @@ unfolding numbers_from size_at size_from skip behind_digits
 awaited-law [] = refl
 awaited-law (b ∷ l) = of (is_blank b) (is_digit b) refl (awaited-law l)
   where
-    of : (t u : Bool) → is_digit b ≡ u → numbers_from awaited l ≡ joined (size_at (skip l)) (numbers_from behind (behind_digits (skip l))) → cond t (numbers_from awaited l) (cond u (numbers_from (reading (b - 0x30)) l) none) ≡ joined (size_at (cond t (skip l) (b ∷ l))) (numbers_from behind (behind_digits (cond t (skip l) (b ∷ l))))
+    of : (t u : Bool) → is_digit b ≡ u → numbers_from awaited l ≡ joined (size_at (skip l)) (numbers_from behind (behind_digits (skip l))) → cond t (numbers_from awaited l) (cond u (numbers_from (reading (b - 0x30)) l) None) ≡ joined (size_at (cond t (skip l) (b ∷ l))) (numbers_from behind (behind_digits (cond t (skip l) (b ∷ l))))
     of true u e k = k
     of false true e k = rw (e, zero-add (b - 0x30)) (reading-law (b - 0x30) l)
     of false false e k = rw e refl
@@ -75,15 +75,15 @@ awaited-law (b ∷ l) = of (is_blank b) (is_digit b) refl (awaited-law l)
 
 abbrev pub parted_by : Sep → Option (List ℕ)
 parted_by (more l) = numbers_from awaited l
-parted_by (closed l) = some []
-parted_by (wrong l) = none
+parted_by (closed l) = Some []
+parted_by (wrong l) = None
 
 pub behind-law : (l : List ℕ) → numbers_from behind l ≡ parted_by (separate 0x5D l)
 unfolding numbers_from separate skip
 behind-law [] = refl
 behind-law (b ∷ l) = of (is_blank b) (eqb b 0x2C) (eqb b 0x5D) refl refl (behind-law l)
   where
-    of : (t u w : Bool) → eqb b 0x2C ≡ u → eqb b 0x5D ≡ w → numbers_from behind l ≡ parted_by (separate 0x5D l) → cond t (numbers_from behind l) (cond u (numbers_from awaited l) (cond w (some []) none)) ≡ parted_by (sep_of 0x5D (cond t (skip l) (b ∷ l)))
+    of : (t u w : Bool) → eqb b 0x2C ≡ u → eqb b 0x5D ≡ w → numbers_from behind l ≡ parted_by (separate 0x5D l) → cond t (numbers_from behind l) (cond u (numbers_from awaited l) (cond w (Some []) None)) ≡ parted_by (sep_of 0x5D (cond t (skip l) (b ∷ l)))
     of true u w p q k = k
     of false true w p q k = rw p refl
     of false false true p q k = rw (p, q) refl

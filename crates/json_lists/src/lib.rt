@@ -2,132 +2,93 @@
 #![tactic(auto)]
 
 ghost use Rattle.std.specs.Prelude.{◌≡◌, List, [], ◌∷◌, ◌++◌, ℕ, ◌*◌, ◌<◌, drop};
-ghost use Rattle.std.proofs.Math.Option.{some};
-ghost use Rattle.json_lists.specs.Lists.{held, said_of};
-ghost use Rattle.json_lists.specs.inner.Bytes.{awaited, numbers_from, list_at, count_of};
+ghost use Rattle.json_lists.specs.Lists.{held, sums_of, said_of};
+ghost use Rattle.json_lists.specs.inner.Bytes.{awaited, numbers_from, list_at};
 
 use json_grammar::scan::{blank, digits};
-use json_members::size::{Size, read_size};
+use json_members::size::read_size;
 use json_read::value::{Next, part};
 
-#[derive(Drop)]
-pub enum Sizes {
-    // how many numbers, the first two of them, 0 where there is none, and their product, 0 where it is above 2^64 - 1
-    Are {
-        count: usize,
-        first: u64,
-        second: u64,
-        product: u64,
-    },
-    // anything but a list of plain digits of at most 2^64 - 1
-    Absent,
+// What is said of some numbers: how many they are, the first two of them, 0 where there is none, and their product, 0 where it
+// is above 2^64 - 1. A product that has passed the limit and one that has a factor 0 go on alike, so 0 stands for both.
+#[derive(Clone, Copy, PartialEq, Eq, Debug)]
+pub struct Sizes {
+    pub count: usize,
+    pub first: u64,
+    pub second: u64,
+    pub product: u64,
 }
+
+// What is said of no numbers.
+const NO_NUMBERS: Sizes = Sizes {
+    count: 0,
+    first: 0,
+    second: 0,
+    product: 1,
+};
 
 // The product, or 0 where it is above 2^64 - 1.
 fn times(a: u64, b: u64) -> u64
     ensures { result ≡ held (a * b) }
 {
-    if b == 0 {
-        return 0;
-    }
-    if 0xFFFF_FFFF_FFFF_FFFF / b < a {
-        return 0;
-    }
-    a * b
+    a.checked_mul(b).unwrap_or(0)
 }
 
 // What is said of some numbers and n behind them.
 fn with_number(t: Sizes, n: u64) -> Sizes
-    requires { count_of t < 0xFFFFFFFFFFFFFFFF }
-    ensures { (ns : List ℕ) → t ≡ said_of (some ns) → result ≡ said_of (some (ns ++ (n ∷ []))) }
+    requires { t.count < 0xFFFFFFFFFFFFFFFF }
+    ensures { (ns : List ℕ) → t ≡ sums_of ns → result ≡ sums_of (ns ++ (n ∷ [])) }
 {
-    let Sizes::Are {
-        count,
-        first,
-        second,
-        product,
-    } = t
-    else {
-        return Sizes::Absent;
-    };
-    let p = times(product, n);
-    if count == 0 {
-        return Sizes::Are {
-            count: 1,
-            first: n,
-            second: 0,
-            product: p,
-        };
-    }
-    if count == 1 {
-        return Sizes::Are {
-            count: 2,
-            first,
-            second: n,
-            product: p,
-        };
-    }
-    Sizes::Are {
-        count: count + 1,
-        first,
-        second,
-        product: p,
+    Sizes {
+        count: t.count + 1,
+        first: if t.count == 0 { n } else { t.first },
+        second: if t.count == 1 { n } else { t.second },
+        product: times(t.product, n),
     }
 }
 
 // Numbers with commas between them and a bracket behind: from `at` on a number is awaited.
-fn numbers_from(s: &[u8], at: usize) -> Sizes
+fn numbers_from(s: &[u8], at: usize) -> Option<Sizes>
     ensures { result ≡ said_of (numbers_from awaited (drop at s.now)) }
 {
-    let mut t = Sizes::Are {
-        count: 0,
-        first: 0,
-        second: 0,
-        product: 1,
-    };
+    let mut t = NO_NUMBERS;
+    // A number has any number of bytes, so the place goes on to what is behind it and its comma.
     let mut i = at;
     while i < s.len() {
         let v = blank(s, i);
-        let Size::Is(n) = read_size(s, v) else {
-            return Sizes::Absent;
-        };
+        let n = read_size(s, v)?;
         t = with_number(t, n);
         match part(s, digits(s, v), b']') {
-            Next::More(j) => {
+            Ok(Next::More(j)) => {
                 i = j;
             }
-            Next::Closed(_) => {
-                return t;
+            Ok(Next::Closed(_)) => {
+                return Some(t);
             }
-            Next::Wrong(_) => {
-                return Sizes::Absent;
+            Err(_) => {
+                return None;
             }
         }
     }
-    Sizes::Absent
+    None
 }
 
-// The list that begins at `at`.
-pub fn read_sizes(s: &[u8], at: usize) -> Sizes
+// The list that begins at `at`: none where it is anything but a list of plain digits of at most 2^64 - 1.
+pub fn read_sizes(s: &[u8], at: usize) -> Option<Sizes>
     ensures { result ≡ list_at (drop at s.now) }
 {
     if s.len() <= at {
-        return Sizes::Absent;
+        return None;
     }
     if s[at] != b'[' {
-        return Sizes::Absent;
+        return None;
     }
     let i = blank(s, at + 1);
     if s.len() <= i {
-        return Sizes::Absent;
+        return None;
     }
     if s[i] == b']' {
-        return Sizes::Are {
-            count: 0,
-            first: 0,
-            second: 0,
-            product: 1,
-        };
+        return Some(NO_NUMBERS);
     }
     numbers_from(s, i)
 }

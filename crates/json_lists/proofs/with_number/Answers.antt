@@ -1,21 +1,12 @@
 -- `with_number` meets its contract. Assumes nothing.
-use mathlib.Core.Path.{ap}
-use native.Mathlib.Omega.{arith}
-use Rattle.json_lists.specs.inner.Bytes.{count_of}
-use Rattle.json_lists.proofs.Counted.{first_said, second-said, other-said, absent-said}
+use Rattle.json_lists.proofs.Counted.{grown}
 use Rattle.json_lists.proofs.with_number.Goals as goal
-
-pub returns-in_default : goal.returns-in_default
-returns-in_default c = λ ns. absent-said ns c.in_default.is
-
-pub returns-then-count-eq0 : goal.returns-then-count-eq0
-returns-then-count-eq0 c = first_said _ _ c.in-Are.is c.times-p.ensures c.if-count-eq0.true
-
-pub returns-then-count-eq1 : goal.returns-then-count-eq1
-returns-then-count-eq1 c = second-said _ _ c.in-Are.is c.times-p.ensures c.if-count-eq1.true
-
-pub overflow_add-result : goal.overflow_add-result
-overflow_add-result c = omega (arith, c.requires, ap count_of c.in-Are.is)
+use Rattle.json_lists.proofs.with_number.Goals.{then-t-eq0, else-t-eq0, then-t-eq1, else-t-eq1}
 
 pub returns : goal.returns
-returns c = other-said _ _ c.in-Are.is c.times-p.ensures c.if-count-eq0.false c.if-count-eq1.false
+returns c = λ ns e. grown c.args.t c.args.n c.times.result c.if-t-eq0.result c.if-t-eq1.result ns e
+    (λ z. elim c.if-t-eq0.branch [ then-t-eq0 w ↦ w.result-is | else-t-eq0 w ↦ absurd (w.if-t-eq0.false z) ])
+    (λ z. elim c.if-t-eq0.branch [ then-t-eq0 w ↦ absurd (z w.if-t-eq0.true) | else-t-eq0 w ↦ w.result-is ])
+    (λ z. elim c.if-t-eq1.branch [ then-t-eq1 w ↦ w.result-is | else-t-eq1 w ↦ absurd (w.if-t-eq1.false z) ])
+    (λ z. elim c.if-t-eq1.branch [ then-t-eq1 w ↦ absurd (z w.if-t-eq1.true) | else-t-eq1 w ↦ w.result-is ])
+    c.times.ensures
