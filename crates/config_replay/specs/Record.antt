@@ -3,9 +3,7 @@ use Rattle.std.specs.Prelude.{◌≡◌, Bool, true, false, ◌&&◌, List, [], 
 use Rattle.number_floats.specs.Constants.{zero32, one32}
 use Rattle.buffers.specs.Region.{region}
 use Rattle.encoder_settings.specs.declared.EncoderSettings.{EncoderSettings}
-use Rattle.config.specs.Config.{Config, number_of, place_of}
-use Rattle.config.specs.declared.Said.{Said}
-use Rattle.config.specs.declared.Configured.{Configured}
+use Rattle.config.specs.Config.{Config, Configured, number_of, place_of, settings_of}
 use Rattle.config_replay.specs.declared.record.Step.{Step}
 use Rattle.config_replay.specs.declared.replay.Counts.{Counts}
 
@@ -42,7 +40,7 @@ lent =
     }
 
 -- number and place are those of the record
-unfoldable pub said_agrees : Said → List ℕ → Bool
+unfoldable pub said_agrees : Configured → List ℕ → Bool
 said_agrees a w = eqb (number_at w 1) (number_of a) && eqb (number_at w 2) (place_of a)
 
 -- the eight sizes are
@@ -59,7 +57,7 @@ settings_agree s w =
 
 -- whether the answer for a text is that of the record w
 pub record Judges (t w : List ℕ) (r : Bool) : Type 0 where
-  pub is : (a : Configured) → Config lent t a → r ≡ (said_agrees a.said w && settings_agree a.settings w)
+  pub is : (a : Configured) → Config lent t a → r ≡ (said_agrees a w && settings_agree (settings_of a) w)
 
 -- what is no record is taken whole, and differs
 abbrev pub unread : List ℕ → Step

@@ -2,10 +2,9 @@
 ghost use Rattle.std.specs.Prelude.{◌≡◌, ◌-◌, ◌≤◌, ◌<◌, length};
 ghost use Rattle.config_replay.specs.Record.{number_at, lent, said_agrees, settings_agree, Judges, unread, Steps};
 
-use config::{Configured, Said, config};
+use config::{Misread, config, no_settings};
 use encoder_settings::EncoderSettings;
 use picture_limits::PictureSettings;
-use picture_limits::settings::number;
 use std::io::Stdout;
 
 // How long the first record is, and whether its text is answered as it says.
@@ -64,15 +63,15 @@ fn lent_settings() -> EncoderSettings
 }
 
 // Whether number and place are those of the record.
-fn said_agrees(a: Said, want: &[u8]) -> bool
+fn said_agrees(a: Result<EncoderSettings, Misread>, want: &[u8]) -> bool
     requires { 66 ≤ length want.now }
     ensures { result ≡ said_agrees a want.now }
 {
     let n = number_at(want, 1);
     let p = number_at(want, 2);
     match a {
-        Said::Settings => (n == 0) & (p == 0),
-        Said::Refused { why, place } => (n == number(why) as usize) & (p == place),
+        Ok(_) => (n == 0) & (p == 0),
+        Err(m) => (n == u32::from(m.why) as usize) & (p == m.place),
     }
 }
 
@@ -98,8 +97,8 @@ fn judge(stdout: Stdout, text: &[u8], want: &[u8]) -> bool
     ensures { Judges text.now want.now result }
 {
     let found = config(lent_settings(), text);
-    let said = found.said;
-    let ok = said_agrees(said, want) & settings_agree(found.settings, want);
+    let settings = found.unwrap_or(no_settings());
+    let ok = said_agrees(found, want) & settings_agree(settings, want);
     if !ok {
         let _ = stdout.write_all(b"not answered so: ");
         let _ = stdout.write_all(text);

@@ -2,7 +2,7 @@
 ghost use Rattle.face_settings.specs.Settings.{inner_encoder};
 ghost use Rattle.kyzgultam.specs.Face.{ConfigReports};
 
-use config::{Said, config};
+use config::{config, no_settings};
 use face_settings::{EncoderSettings, encoder_settings, outer_settings};
 
 // The byte of 13 or 14, and the settings: zeros where they were refused.
@@ -18,19 +18,16 @@ pub struct ConfigReport {
 pub extern "C" fn kz_config(lent: EncoderSettings, text: &[u8]) -> ConfigReport
     ensures { ConfigReports (inner_encoder lent) text.now result }
 {
-    let found = config(encoder_settings(lent), text);
-    let settings = outer_settings(found.settings);
-    let said = found.said;
-    match said {
-        Said::Settings => ConfigReport {
+    match config(encoder_settings(lent), text) {
+        Ok(settings) => ConfigReport {
             number: 0,
             place: 0,
-            settings,
+            settings: outer_settings(settings),
         },
-        Said::Refused { why, place } => ConfigReport {
-            number: picture_limits::settings::number(why),
-            place,
-            settings,
+        Err(refused) => ConfigReport {
+            number: u32::from(refused.why),
+            place: refused.place,
+            settings: outer_settings(no_settings()),
         },
     }
 }

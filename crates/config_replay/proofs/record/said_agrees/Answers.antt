@@ -3,10 +3,10 @@ use mathlib.Core.Path.{refl}
 use Rattle.config_replay.specs.Record.{said_agrees}
 use Rattle.config_replay.proofs.record.said_agrees.Goals as goal
 
-pub returns-in-Settings : goal.returns-in-Settings
+pub returns-in-Ok : goal.returns-in-Ok
 unfolding said_agrees
-returns-in-Settings c = rw (c.in-Settings.is, ← c.number_at-p.ensures.0, ← c.number_at-n.ensures.0) refl
+returns-in-Ok c = rw (c.in-Ok.is, ← c.number_at-p.ensures.0, ← c.number_at-n.ensures.0) refl
 
-pub returns-in-Refused : goal.returns-in-Refused
+pub returns-in-Err : goal.returns-in-Err
 unfolding said_agrees
-returns-in-Refused c = rw (c.in-Refused.is, ← c.number_at-p.ensures.0, ← c.number_at-n.ensures.0, ← c.number.ensures) refl
+returns-in-Err c = rw (c.in-Err.is, ← c.number_at-p.ensures.0, ← c.number_at-n.ensures.0, ← c.from.ensures) refl
