@@ -1,8 +1,8 @@
 -- Names behind a prefix, and at a place of the list of tensors. Assumes nothing.
+use Rattle.std.specs.Prelude.{Option, None, Some}
 use mathlib.Core.Path.{◌≡◌, refl, ap, ◌∙◌}
 use mathlib.Core.Bool.{Bool, true, false, cond}
 use mathlib.Core.List.{List, [], ◌∷◌, ◌++◌}
-use mathlib.Core.Option.{Option, none, some}
 use Prim.Native.Nat.{ℕ, zero, suc, ◌+◌, ◌-◌, ◌*◌, ◌/◌, ◌%◌, ◌≤◌, ◌<◌}
 use native.Mathlib.Decide.{dec_lt}
 use native.Mathlib.Omega.{arith}
@@ -39,8 +39,8 @@ two_digits (suc l) h k = two-of l (suc l) h k
 -- ---- behind a prefix
 
 nothing : (o : Option ℕ) → false ≡ followed o (λ n. false)
-nothing none = refl
-nothing (some n) = refl
+nothing None = refl
+nothing (Some n) = refl
 
 pub named-behind : (h p : List ℕ) (t : Table) (i k : ℕ) → named_at (names (tensors_of p t)) i (drop k h) ≡ followed (behind_at h k p) (λ n. named_at (names (tensors_of [] t)) i (drop n h))
 named-behind h p [] i k = nothing (behind_at h k p)
@@ -58,7 +58,7 @@ behind-parts h (x ∷ a) b k f = of (ltb k (length h)) (eqb (get_or h k 0) 0x22)
     of :
         (t u v : Bool) →
         followed (behind_at h on (a ++ b)) f ≡ followed (behind_at h on a) (λ n. followed (behind_at h n b) f) →
-        followed (cond t (cond u none (cond v (behind_at h on (a ++ b)) none)) none) f ≡ followed (cond t (cond u none (cond v (behind_at h on a) none)) none) (λ n. followed (behind_at h n b) f)
+        followed (cond t (cond u None (cond v (behind_at h on (a ++ b)) None)) None) f ≡ followed (cond t (cond u None (cond v (behind_at h on a) None)) None) (λ n. followed (behind_at h n b) f)
     of true true v e = refl
     of true false true e = e
     of true false false e = refl
@@ -146,12 +146,12 @@ module _ (s : EncoderSettings) where
 
   -- ---- by what was found
 
-  pub layer-by : (h : List ℕ) (at i k n : ℕ) → i ≡ 2 + k → k / 9 < s.num_layers → some n ≡ behind_at h at (word "vision_tower.transformer.layers.") → named_at (names (tensors s)) i (drop at h) ≡ followed (behind_at h n (decimal (k / 9) ++ word ".")) (λ m. named_at part_names (k % 9) (drop m h))
+  pub layer-by : (h : List ℕ) (at i k n : ℕ) → i ≡ 2 + k → k / 9 < s.num_layers → Some n ≡ behind_at h at (word "vision_tower.transformer.layers.") → named_at (names (tensors s)) i (drop at h) ≡ followed (behind_at h n (decimal (k / 9) ++ word ".")) (λ m. named_at part_names (k % 9) (drop m h))
   layer-by h at i k n e l b =
       in-layers i k (drop at h) e l ∙ named-behind h (in_layer (k / 9)) (layer s.hidden_size s.intermediate_size) (k % 9) at
       ∙ behind-parts h (word "vision_tower.transformer.layers.") (decimal (k / 9) ++ word ".") at _ ∙ rw (← b) refl
 
-  pub no-layer-by : (h : List ℕ) (at i k : ℕ) → i ≡ 2 + k → k / 9 < s.num_layers → none ≡ behind_at h at (word "vision_tower.transformer.layers.") → named_at (names (tensors s)) i (drop at h) ≡ false
+  pub no-layer-by : (h : List ℕ) (at i k : ℕ) → i ≡ 2 + k → k / 9 < s.num_layers → None ≡ behind_at h at (word "vision_tower.transformer.layers.") → named_at (names (tensors s)) i (drop at h) ≡ false
   no-layer-by h at i k e l b =
       in-layers i k (drop at h) e l ∙ named-behind h (in_layer (k / 9)) (layer s.hidden_size s.intermediate_size) (k % 9) at
       ∙ behind-parts h (word "vision_tower.transformer.layers.") (decimal (k / 9) ++ word ".") at _ ∙ rw (← b) refl

@@ -1,8 +1,8 @@
 -- What the walk found is what the text says. Assumes nothing.
+use Rattle.std.specs.Prelude.{Option, None, Some, Ok, Err}
 use mathlib.Core.Path.{◌≡◌, refl, sym, ap, ◌∙◌}
 use mathlib.Core.Bool.{Bool, true, false, ◌&&◌}
 use mathlib.Core.List.{List, [], ◌∷◌}
-use mathlib.Core.Option.{Option, none, some}
 use Prim.Native.Nat.{ℕ, zero, suc, ◌+◌, ◌-◌, ◌≤◌, ◌<◌}
 use native.Mathlib.Decide.{dec_lt}
 use native.Mathlib.Omega.{arith}
@@ -21,7 +21,6 @@ use Rattle.json_members.proofs.Finding.{ws-skip, value-solid, gets-object}
 use Rattle.encoder_settings.specs.declared.EncoderSettings.{EncoderSettings}
 use Rattle.tensor_header.specs.Tensors.{Tensor, tensors, entry_at}
 use Rattle.tensor_header.specs.Header.{is_object, place_in, damaged, opened, placed}
-use Rattle.tensor_header.specs.declared.Opened.TheVariants.{Open}
 use Rattle.tensor_header.specs.inner.Named.{names, name_at}
 use Rattle.tensor_header.specs.inner.Walked.{Each, Found, Walked}
 use Rattle.tensor_header.proofs.Ascii.{names-ascii}
@@ -34,7 +33,7 @@ entry-is [] es i h = absurd (omega arith)
 entry-is (t ∷ ts) es zero h = refl
 entry-is (t ∷ ts) es (suc i) h = entry-is ts es i (omega arith)
 
-entry-none : (ts : List Tensor) (es : List Entry) (i : ℕ) → length (names ts) ≤ i → entry_at ts es i ≡ none
+entry-none : (ts : List Tensor) (es : List Entry) (i : ℕ) → length (names ts) ≤ i → entry_at ts es i ≡ None
 unfolding entry_at
 entry-none [] es i h = refl
 entry-none (t ∷ ts) es zero h = absurd (omega arith)
@@ -46,8 +45,8 @@ names-long (t ∷ ts) = ap suc (names-long ts)
 
 pub place_is : (h : List ℕ) (o : Option Entry) → place_of h o ≡ place_in h o
 unfolding place_of place_in
-place_is h none = refl
-place_is h (some e) = refl
+place_is h None = refl
+place_is h (Some e) = refl
 
 -- ---- objects begin with a brace
 
@@ -90,11 +89,11 @@ module _ {h : List ℕ} {p : ℕ} (k : Skips h 0 p) where
   abbrev opens : Bool
   opens = ltb p (length h) && eqb (get_or h p 0) 0x7B
 
-  none_told : (s : EncoderSettings) (before : List ℕ) → opens ≡ false → (t : Text 32 h) → (damaged p ≡ opened t) × (before ≡ placed s t before)
+  none_told : (s : EncoderSettings) (before : List ℕ) → opens ≡ false → (t : Text 32 h) → (Err (damaged p) ≡ opened t) × (before ≡ placed s t before)
   unfolding opened placed
-  none_told s before f (text w v u) = let e : is_object v ≡ false = sym (first w v) ∙ f in rw (e) (ap damaged (place w v), refl)
+  none_told s before f (text w v u) = let e : is_object v ≡ false = sym (first w v) ∙ f in rw (e) (ap (λ (i : ℕ). Err (damaged i)) (place w v), refl)
 
-  pub no-object : (s : EncoderSettings) (before : List ℕ) → opens ≡ false → Found s h before before (damaged p)
+  pub no-object : (s : EncoderSettings) (before : List ℕ) → opens ≡ false → Found s h before before (Err (damaged p))
   no-object s before f = record { told = none_told s before f }
 
   -- the place of each
@@ -111,7 +110,7 @@ module _ {h : List ℕ} {p : ℕ} (k : Skips h 0 p) where
           ∙ place_is h (lookup (name_at (names (tensors s)) i) (entries_of v)) ∙ ap (place_in h) (sym (entry-is (tensors s) (entries_of v) i c))
       of (no c) = e.beyond (omega arith) ∙ ap (place_in h) (sym (entry-none (tensors s) (entries_of v) i (omega arith)))
 
-  object-told : (s : EncoderSettings) (before after : List ℕ) → length after ≡ length before → opens ≡ true → Walked s h (p + 1) after → (t : Text 32 h) → (Open (length h) ≡ opened t) × (after ≡ placed s t before)
+  object-told : (s : EncoderSettings) (before after : List ℕ) → length after ≡ length before → opens ≡ true → Walked s h (p + 1) after → (t : Text 32 h) → (Ok (length h) ≡ opened t) × (after ≡ placed s t before)
   unfolding opened placed
   object-told s before after n f g (text w v u) =
       let e : is_object v ≡ true = sym (first w v) ∙ f in
@@ -120,5 +119,5 @@ module _ {h : List ℕ} {p : ℕ} (k : Skips h 0 p) where
       ∙ tab-ext (length before) (λ i. get_or after i 0) (λ i. place_in h (entry_at (tensors s) (entries_of v) i)) (λ i c. each-place s w v i (get_or after i 0) f (g.each i (rw n c))) in
       rw (e) (refl, q)
 
-  pub an-object : (s : EncoderSettings) (before after : List ℕ) → length after ≡ length before → opens ≡ true → Walked s h (p + 1) after → Found s h before after (Open (length h))
+  pub an-object : (s : EncoderSettings) (before after : List ℕ) → length after ≡ length before → opens ≡ true → Walked s h (p + 1) after → Found s h before after (Ok (length h))
   an-object s before after n f g = record { told = object-told s before after n f g }

@@ -15,8 +15,9 @@ use Rattle.json_grammar.specs.Grammar.{Ws, Value, Text, text}
 use Rattle.json_grammar.specs.Judge.{Stopped, Deepened, Judged}
 use Rattle.json_grammar.specs.inner.Machine.{read}
 use Rattle.json_grammar.specs.inner.Steps.{located}
-use Rattle.json_grammar.specs.declared.scan.Read.{Read}
-use Rattle.json_grammar.specs.declared.scan.Read.TheVariants as R
+use Rattle.json_grammar.specs.Judge.{Read}
+use Rattle.std.specs.Prelude.{Ok, Err}
+use Rattle.json_grammar.specs.declared.scan.Fault.TheVariants as F
 use Rattle.json_grammar.proofs.Verdict.{verdict}
 use Rattle.json_members.specs.Names.{entries_of}
 use Rattle.json_members.specs.inner.Turns.{place_of, Stands}
@@ -25,10 +26,8 @@ use Rattle.picture_limits.specs.declared.Refusal.{Refusal}
 use Rattle.encoder_settings.specs.declared.EncoderSettings.{EncoderSettings}
 use Rattle.encoder_settings.specs.Settings.{allowed}
 use Rattle.tensor_header.specs.Tensors.{tensors, entry_at}
-use Rattle.tensor_header.specs.Header.{header_length, framed, header_of, is_object, place_in, damaged, opened, Opening}
+use Rattle.tensor_header.specs.Header.{header_length, framed, header_of, is_object, place_in, Opened, damaged, refused, opened, Opening}
 use Rattle.tensor_header.specs.inner.Named.{names, name_at}
-use Rattle.tensor_header.specs.declared.Opened.{Opened}
-use Rattle.tensor_header.specs.declared.Opened.TheVariants.{Open, Refused}
 use Rattle.tensor_header.proofs.Told.{entry-is, place_is, names-long}
 
 pub data Case (s : EncoderSettings) (file : List ℕ) : Type 0 where
@@ -45,9 +44,9 @@ case-of s file = of (allowed s) refl (framed file) refl (located (header_of file
     of : (a : Bool) → allowed s ≡ a → (f : Bool) → framed file ≡ f → (r : Read) → Judged 32 (header_of file) r → Case s file
     of false e f g r j = not-allowed e
     of true e false g r j = not-framed e g
-    of true e true g (R.Past n) j = is-text e g j.1
-    of true e true g (R.Stop n) j = stops e g n j
-    of true e true g (R.Deep n) j = deepens e g n j
+    of true e true g (Ok n) j = is-text e g j.1
+    of true e true g (Err (F.Stop n)) j = stops e g n j
+    of true e true g (Err (F.Deep n)) j = deepens e g n j
 
 pub open-unique : (s : EncoderSettings) (file before after also : List ℕ) (a b : Opened) → Opening s file before after a → Opening s file before also b → (a ≡ b) × (after ≡ also)
 open-unique s file before after also a b x y = of (case-of s file)
@@ -68,18 +67,18 @@ pub record Opens (s : EncoderSettings) (file : List ℕ) (n : ℕ) : Type 0 wher
   pub inside : header_length file ≤ length file - 8
   pub long : n ≡ header_length file
 
-pub open-not : (n : ℕ) (why : Refusal) (p : ℕ) → Open n ≡ Refused why p → ⊥
+pub open-not : (n : ℕ) (why : Refusal) (p : ℕ) → ◌≡◌ {A = Opened} (Ok n) (refused why p) → ⊥
 open-not n why p e = let z : ◌≡◌ {A = ℕ} 0 1 = cc in omega arith
 
-pub one_of : (b : Bool) (n m p : ℕ) → Open n ≡ cond b (Open m) (damaged p) → (b ≡ true) × (n ≡ m)
+pub one_of : (b : Bool) (n m p : ℕ) → ◌≡◌ {A = Opened} (Ok n) (cond b (Ok m) (Err (damaged p))) → (b ≡ true) × (n ≡ m)
 one_of true n m p e = let h : n ≡ m = cc in (refl, h)
 one_of false n m p e = absurd (open-not n _ _ e)
 
-text-opens : {h : List ℕ} (s : EncoderSettings) (t : Text 32 h) (n : ℕ) → Open n ≡ opened t → n ≡ length h
+text-opens : {h : List ℕ} (s : EncoderSettings) (t : Text 32 h) (n : ℕ) → Ok n ≡ opened t → n ≡ length h
 unfolding opened
 text-opens {h} s (text {m = m} w v u) n e = (one_of (is_object v) n (length h) (length h - length m) e).1
 
-pub opens : (s : EncoderSettings) (file before after : List ℕ) (n : ℕ) → Opening s file before after (Open n) → Opens s file n
+pub opens : (s : EncoderSettings) (file before after : List ℕ) (n : ℕ) → Opening s file before after (Ok n) → Opens s file n
 opens s file before after n x = of (case-of s file)
   where
     of : Case s file → Opens s file n

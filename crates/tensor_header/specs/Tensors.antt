@@ -1,7 +1,6 @@
 -- The tensors that `load_pixtral_encoder_inner` asks a file for: the parts of the weights' table, in its order, each by its
 -- name in the file and its count of floats. Assumes nothing.
-use Rattle.std.specs.Prelude.{cond, List, [], ◌∷◌, ◌++◌, ℕ, zero, suc, ◌+◌, ◌*◌, ◌/◌, ◌%◌, ltb}
-use Rattle.std.proofs.Math.Option.{Option, none}
+use Rattle.std.specs.Prelude.{cond, List, [], ◌∷◌, ◌++◌, ℕ, zero, suc, ◌+◌, ◌*◌, ◌/◌, ◌%◌, ltb, Option, None}
 use Prim.Native.String.{String}
 use lib.Text.{eqt}
 use Rattle.buffers.specs.Rows.{rows}
@@ -71,7 +70,7 @@ tensors s = embedding_tensors s ++ (rows s.num_layers (layer_tensors s) ++ proje
 
 -- the entry of tensor i: the last member of its name, if there is one
 unfoldable pub entry_at : List Tensor → List Entry → ℕ → Option Entry
-entry_at [] es i = none
+entry_at [] es i = None
 entry_at (t ∷ ts) es zero = lookup t.name es
 entry_at (t ∷ ts) es (suc i) = entry_at ts es i
 

@@ -5,20 +5,32 @@ mod names;
 mod walk;
 
 ghost use Rattle.std.specs.Prelude.{◌≡◌, ◌≤◌, ◌<◌, length, get_or};
+ghost use Rattle.tensor_header.specs.Header as D;
 ghost use Rattle.tensor_header.specs.Header.{header_length, Headed, Opening};
 
 use crate::walk::find;
 use encoder_settings::EncoderSettings;
 use encoder_settings::settings::settings_allowed;
-use json_grammar::scan::Read;
+use json_grammar::scan::Fault;
 use json_read::value::read_text;
 use picture_limits::Refusal;
 
-// How many bytes the header has, from byte 8 on; or why the file is refused, and at which of its bytes.
-#[derive(Drop)]
-pub enum Opened {
-    Open(usize),
-    Refused { why: Refusal, place: usize },
+// Why a file is refused, and at which of its bytes.
+#[derive(Clone, Copy, PartialEq, Eq, Debug)]
+pub struct Misread {
+    pub why: Refusal,
+    pub place: usize,
+}
+
+// The header is none, at the n-th of its bytes.
+pub(crate) fn damaged(n: usize) -> Misread
+    requires { n ≤ 0xFFFFFFFFFFFFFFF7 }
+    ensures { result ≡ D.damaged n }
+{
+    Misread {
+        why: Refusal::Header,
+        place: 8 + n,
+    }
 }
 
 fn byte(file: &[u8], i: usize) -> u64
@@ -39,44 +51,38 @@ fn header_length(file: &[u8]) -> u64
 }
 
 // A header that is lent alone.
-fn read_header(s: EncoderSettings, h: &[u8], places: &mut [usize]) -> Opened
+fn read_header(s: EncoderSettings, h: &[u8], places: &mut [usize]) -> Result<usize, Misread>
     requires { s.num_layers ≤ 48 }
     ensures { Headed s h.now places.old places.new result }
 {
     match read_text(h, 32) {
-        Read::Past(_) => find(s, h, places),
-        Read::Stop(n) => Opened::Refused {
-            why: Refusal::Header,
-            place: 8 + n,
-        },
-        Read::Deep(n) => Opened::Refused {
-            why: Refusal::Header,
-            place: 8 + n,
-        },
+        Ok(_) => find(s, h, places),
+        Err(Fault::Stop(n)) => Err(damaged(n)),
+        Err(Fault::Deep(n)) => Err(damaged(n)),
     }
 }
 
-// The file's header, and where it has the entries of the tensors.
-pub fn open(s: EncoderSettings, file: &[u8], places: &mut [usize]) -> Opened
+// How many bytes the file's header has, from byte 8 on; and, in `places`, where it has the entries of the tensors.
+pub fn open(s: EncoderSettings, file: &[u8], places: &mut [usize]) -> Result<usize, Misread>
     ensures { Opening s file.now places.old places.new result }
 {
     if !settings_allowed(s) {
-        return Opened::Refused {
+        return Err(Misread {
             why: Refusal::Setting,
             place: 0,
-        };
+        });
     }
-    let damaged = Opened::Refused {
+    let unframed = Misread {
         why: Refusal::Header,
         place: 0,
     };
     if file.len() < 8 {
-        return damaged;
+        return Err(unframed);
     }
     let n = header_length(file);
     let room = (file.len() - 8) as u64;
     if room < n {
-        return damaged;
+        return Err(unframed);
     }
     let e = 8 + n as usize;
     read_header(s, &file[8..e], places)

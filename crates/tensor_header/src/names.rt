@@ -1,12 +1,12 @@
 // The names of the tensors that the loader asks for, in the order of the weights' table.
 ghost use Rattle.std.specs.Prelude.{◌≡◌, true, ◌++◌, ◌<◌, ◌≤◌, drop};
 ghost use Rattle.json_members.specs.Names.{word};
-ghost use Rattle.json_members.specs.inner.Bytes.{behind_at, placed, followed};
+ghost use Rattle.json_members.specs.inner.Bytes.{behind_at, followed};
 ghost use Rattle.tensor_header.specs.Tensors.{decimal, tensors};
-ghost use Rattle.tensor_header.specs.inner.Named.{names, named_at, embedding_names, part_names, projector_names, rest_is};
+ghost use Rattle.tensor_header.specs.inner.Named.{names, named_at, embedding_names, part_names, projector_names};
 
 use encoder_settings::EncoderSettings;
-use json_members::name::{Rest, behind, name_is};
+use json_members::name::{behind, name_is};
 
 // Whether a name of the header h is that of part i of the embedding.
 fn embedding_is(h: &[u8], at: usize, i: usize) -> bool
@@ -101,9 +101,9 @@ fn projector_is(h: &[u8], at: usize, i: usize, bias: bool) -> bool
 }
 
 // Behind a layer's number and the dot.
-fn behind_number(h: &[u8], at: usize, l: usize) -> Rest
+fn behind_number(h: &[u8], at: usize, l: usize) -> Option<usize>
     requires { l < 100 }
-    ensures { placed result ≡ behind_at h.now at (decimal l ++ word ".") }
+    ensures { result ≡ behind_at h.now at (decimal l ++ word ".") }
 {
     let tens = b'0' + (l / 10) as u8;
     let ones = b'0' + (l % 10) as u8;
@@ -114,8 +114,8 @@ fn behind_number(h: &[u8], at: usize, l: usize) -> Rest
 }
 
 // Behind what the names of all layers begin with: whether a name does, and where.
-pub(crate) fn behind_layers(h: &[u8], at: usize) -> Rest
-    ensures { placed result ≡ behind_at h.now at (word "vision_tower.transformer.layers.") }
+pub(crate) fn behind_layers(h: &[u8], at: usize) -> Option<usize>
+    ensures { result ≡ behind_at h.now at (word "vision_tower.transformer.layers.") }
 {
     behind(h, at, b"vision_tower.transformer.layers.")
 }
@@ -125,22 +125,21 @@ fn layer_is(h: &[u8], at: usize, l: usize, i: usize) -> bool
     ensures { result ≡ followed (behind_at h.now at (decimal l ++ word ".")) (λ n. named_at part_names i (drop n h.now)) }
 {
     match behind_number(h, at, l) {
-        Rest::From(n) => part_is(h, n, i),
-        Rest::Not => false,
+        Some(n) => part_is(h, n, i),
+        None => false,
     }
 }
 
-// Whether a name of the header is that of tensor i; `found` tells whether it begins as those of layers do, and `behind` where it goes on.
+// Whether a name of the header is that of tensor i; `rest` is where it goes on, if it begins as those of layers do.
 pub(crate) fn tensor_is(
     s: EncoderSettings,
     h: &[u8],
     at: usize,
-    found: bool,
-    rest: usize,
+    rest: Option<usize>,
     i: usize,
 ) -> bool
     requires num_layers_bound { s.num_layers ≤ 48 }
-    requires rest_value { rest_is found rest ≡ behind_at h.now at (word "vision_tower.transformer.layers.") }
+    requires rest_value { rest ≡ behind_at h.now at (word "vision_tower.transformer.layers.") }
     ensures { result ≡ named_at (names (tensors s)) i (drop at h.now) }
 {
     if i < 2 {
@@ -149,10 +148,10 @@ pub(crate) fn tensor_is(
     let k = i - 2;
     let l = k / 9;
     if l < s.num_layers {
-        if found {
-            return layer_is(h, rest, l, k % 9);
-        }
-        return false;
+        return match rest {
+            Some(n) => layer_is(h, n, l, k % 9),
+            None => false,
+        };
     }
     projector_is(h, at, k - 9 * s.num_layers, s.projector_bias == 1)
 }

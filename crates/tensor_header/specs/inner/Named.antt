@@ -1,6 +1,5 @@
 -- The tensors' names, one by one. Assumes nothing.
 use Rattle.std.specs.Prelude.{Bool, true, false, List, [], ◌∷◌, ℕ, zero, suc}
-use Rattle.std.proofs.Math.Option.{Option, none, some}
 use Rattle.encoder_settings.specs.Weights.{embedding, layer, projector}
 use Rattle.json_members.specs.inner.Bytes.{name_is}
 use Rattle.tensor_header.specs.Tensors.{Tensor, tensors_of}
@@ -31,8 +30,3 @@ part_names = names (tensors_of [] (layer 0 0))
 
 abbrev pub projector_names : Bool → List (List ℕ)
 projector_names bias = names (tensors_of [] (projector 0 0 0 bias))
-
--- a place, where one was found
-abbrev pub rest_is : Bool → ℕ → Option ℕ
-rest_is true n = some n
-rest_is false n = none

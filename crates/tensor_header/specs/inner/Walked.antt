@@ -5,9 +5,8 @@ use Rattle.json_grammar.specs.Grammar.{Text}
 use Rattle.json_members.specs.inner.Turns.{Finds}
 use Rattle.encoder_settings.specs.declared.EncoderSettings.{EncoderSettings}
 use Rattle.tensor_header.specs.Tensors.{tensors}
-use Rattle.tensor_header.specs.Header.{opened, placed}
+use Rattle.tensor_header.specs.Header.{Opened, opened, placed}
 use Rattle.tensor_header.specs.inner.Named.{names, named_at, name_at}
-use Rattle.tensor_header.specs.declared.Opened.{Opened}
 
 -- as many zeros
 abbrev pub nowhere : List ℕ → List ℕ

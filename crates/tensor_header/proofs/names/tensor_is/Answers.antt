@@ -8,11 +8,11 @@ use Rattle.tensor_header.proofs.names.tensor_is.Goals as goal
 pub returns-then-i-lt2 : goal.returns-then-i-lt2
 returns-then-i-lt2 c = c.embedding_is.ensures ∙ sym (in-embedding c.args.s c.args.i _ c.if-i-lt2.true)
 
-pub returns-then-found : goal.returns-then-found
-returns-then-found c = c.layer_is.ensures ∙ sym (layer-by c.args.s c.args.h.now c.args.at c.args.i (c.args.i - 2) c.args.rest (omega arith) c.if-l-s.true (rw (← c.requires.rest_value, c.if-found.true) refl))
+pub returns-in-Some : goal.returns-in-Some
+returns-in-Some c = c.layer_is.ensures ∙ sym (layer-by c.args.s c.args.h.now c.args.at c.args.i (c.args.i - 2) c.in-Some.n (omega arith) c.if-l-s.true (sym c.in-Some.is ∙ c.requires.rest_value))
 
-pub returns-then-l-s : goal.returns-then-l-s
-returns-then-l-s c = sym (no-layer-by c.args.s c.args.h.now c.args.at c.args.i (c.args.i - 2) (omega arith) c.if-l-s.true (rw (← c.requires.rest_value, c.if-found.false) refl))
+pub returns-in-None : goal.returns-in-None
+returns-in-None c = sym (no-layer-by c.args.s c.args.h.now c.args.at c.args.i (c.args.i - 2) (omega arith) c.if-l-s.true (sym c.in-None.is ∙ c.requires.rest_value))
 
 pub returns : goal.returns
 returns c = c.projector_is.ensures ∙ sym (in-projector c.args.s c.args.i (c.args.i - 2) _ (omega arith) c.if-l-s.false)

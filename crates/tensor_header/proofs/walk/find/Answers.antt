@@ -10,8 +10,8 @@ overflow_add-at c = omega (arith, c.blank-at.ensures.high)
 pub returns-then-opens : goal.returns-then-opens
 returns-then-opens c = an-object c.blank-at.ensures c.args.s c.args.places.now _ c.walk.auto.places (sym c.opens.ensures ∙ c.if-opens.true) c.walk.ensures
 
-pub overflow_add-result : goal.overflow_add-result
-overflow_add-result c = omega (arith, c.blank-at.ensures.high)
+pub damaged-requires : goal.damaged-requires
+damaged-requires c = omega (arith, c.blank-at.ensures.high)
 
 pub returns : goal.returns
-returns c = no-object c.blank-at.ensures c.args.s c.args.places.now (sym c.opens.ensures ∙ c.if-opens.false)
+returns c = rw c.damaged.ensures (no-object c.blank-at.ensures c.args.s c.args.places.now (sym c.opens.ensures ∙ c.if-opens.false))
