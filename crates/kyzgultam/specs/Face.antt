@@ -2,16 +2,14 @@
 use Rattle.std.specs.Prelude.{◌≡◌, List, ℕ, Result}
 use Rattle.encoder_settings.specs.declared.EncoderSettings.{EncoderSettings}
 use Rattle.config.specs.Config as Conf
-use Rattle.config.specs.Config.{Config}
-use Rattle.config.specs.declared.Configured.{Configured}
+use Rattle.config.specs.Config.{Config, Configured}
 use Rattle.pool.specs.Pool.{Pooled}
 use Rattle.picture_limits.specs.declared.Refusal.{Refusal}
 use Rattle.pool_books.specs.declared.Place.{Place}
 use Rattle.pool.specs.Pool as Pl
 use Rattle.pool_books.specs.Lookup.{found_number, found_start, found_len}
 use Rattle.weights.specs.File as W
-use Rattle.weights.specs.File.{Weighing}
-use Rattle.weights.specs.declared.Weighed.{Weighed}
+use Rattle.weights.specs.File.{Weighing, Weighed}
 use Rattle.face_settings.specs.Settings.{outer_encoder}
 use Rattle.kyzgultam.specs.declared.config_file.ConfigReport.{ConfigReport}
 use Rattle.kyzgultam.specs.declared.pools.PoolReport.{PoolReport}
@@ -26,7 +24,7 @@ abbrev pub pool_place : Result Place Refusal → PoolPlace
 pool_place a = record { number = found_number a; start = found_start a; len = found_len a }
 
 abbrev pub config_report : Configured → ConfigReport
-config_report a = record { number = Conf.number_of a.said; place = Conf.place_of a.said; settings = outer_encoder a.settings }
+config_report a = record { number = Conf.number_of a; place = Conf.place_of a; settings = outer_encoder (Conf.settings_of a) }
 
 -- r reports the answer for a text s; there is one answer alone
 abbrev pub ConfigReports : EncoderSettings → List ℕ → ConfigReport → Type 0

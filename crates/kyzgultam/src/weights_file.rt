@@ -3,7 +3,7 @@ ghost use Rattle.face_settings.specs.Settings.{inner_encoder};
 ghost use Rattle.kyzgultam.specs.Face.{WeightsReports};
 
 use face_settings::{EncoderSettings, encoder_settings};
-use weights::{Weighed, weights};
+use weights::weights;
 
 // How many floats were read; of a refusal the tensor, of which the first is 1 and 0 is none, and the byte of the file.
 #[repr(C)]
@@ -20,17 +20,17 @@ pub extern "C" fn kz_weights(s: EncoderSettings, file: &[u8], out: &mut [u32]) -
     ensures { WeightsReports (inner_encoder s) file.now out.old out.new result }
 {
     match weights(encoder_settings(s), file, out) {
-        Weighed::Floats(floats) => WeightsReport {
+        Ok(floats) => WeightsReport {
             number: 0,
             floats,
             tensor: 0,
             place: 0,
         },
-        Weighed::Refused { why, tensor, place } => WeightsReport {
-            number: picture_limits::settings::number(why),
+        Err(refused) => WeightsReport {
+            number: u32::from(refused.why),
             floats: 0,
-            tensor,
-            place,
+            tensor: refused.tensor,
+            place: refused.place,
         },
     }
 }

@@ -1,8 +1,8 @@
 -- The answer by the first tensors at which a test passes. Assumes nothing.
+use Rattle.std.specs.Prelude.{Option, None, Some}
 use mathlib.Core.Path.{◌≡◌, refl, ap, ◌∙◌}
 use mathlib.Core.Bool.{Bool, true, false, cond}
 use mathlib.Core.List.{List}
-use mathlib.Core.Option.{Option, none, some}
 use Prim.Native.Nat.{ℕ, zero, suc, ◌+◌, ◌-◌, ◌≤◌, ◌<◌}
 use native.Mathlib.Omega.{arith}
 use lib.Dec.{eqb, ltb}
@@ -21,8 +21,8 @@ use Rattle.tensor_header.specs.Header.{place_in}
 use Rattle.weights.specs.File.{found_in, firstly, place_of, at, judged}
 use Rattle.weights.specs.inner.Described.{failing, refused_at, Holds}
 use Rattle.weights.specs.inner.Filled.{AllGood}
-use Rattle.weights.specs.declared.Weighed.{Weighed}
-use Rattle.weights.specs.declared.Weighed.TheVariants.{Floats, Refused}
+use Rattle.weights.specs.File.{Weighed, refuse}
+use Rattle.std.specs.Prelude.{Ok, Err}
 use Rattle.weights.specs.declared.test.Test.{Test}
 use Rattle.weights.specs.declared.test.Test.TheVariants as T
 
@@ -46,13 +46,13 @@ first-fails (suc n) f h j x = of (f zero) refl h j x (λ k i y. first-fails n (�
     of false e k zero y g = e
     of false e k (suc i) y g = g (omega arith) i (omega arith)
 
-no_floats : (why : Refusal) (i p m : ℕ) → Refused why i p ≡ Floats m → ⊥
+no_floats : (why : Refusal) (i p m : ℕ) → refuse why i p ≡ Ok m → ⊥
 no_floats why i p m e = let z : ◌≡◌ {A = ℕ} 0 1 = cc in omega arith
 
-firstly-floats : (n : ℕ) (f : ℕ → Bool) (why : Refusal) (h : List ℕ) (entry : ℕ → Option Entry) (rest : Weighed) (m : ℕ) → firstly n f (at why h entry) rest ≡ Floats m → ((j : ℕ) → j < n → f j ≡ false) × (rest ≡ Floats m)
+firstly-floats : (n : ℕ) (f : ℕ → Bool) (why : Refusal) (h : List ℕ) (entry : ℕ → Option Entry) (rest : Weighed) (m : ℕ) → firstly n f (at why h entry) rest ≡ Ok m → ((j : ℕ) → j < n → f j ≡ false) × (rest ≡ Ok m)
 firstly-floats n f why h entry rest m e = of (ltb (first n f) n) refl e
   where
-    of : (t : Bool) → ltb (first n f) n ≡ t → cond t (at why h entry (first n f)) rest ≡ Floats m → ((j : ℕ) → j < n → f j ≡ false) × (rest ≡ Floats m)
+    of : (t : Bool) → ltb (first n f) n ≡ t → cond t (at why h entry (first n f)) rest ≡ Ok m → ((j : ℕ) → j < n → f j ≡ false) × (rest ≡ Ok m)
     of true k x = absurd (no_floats why _ _ m x)
     of false k x = (first-fails n f (ltb-false (first n f) n k), x)
 
@@ -66,15 +66,15 @@ place-told h k n o (somewhere {e = x} a b q l) e = rw (e, ne_eqb (length h - len
 
 place-le : (h : List ℕ) (o : Option Entry) → J.place_of h o ≤ length h
 unfolding J.place_of
-place-le h none = omega arith
-place-le h (some e) = omega arith
+place-le h None = omega arith
+place-le h (Some e) = omega arith
 
 module _ (s : EncoderSettings) (h places : List ℕ) (es : List Entry) (o : Holds s h places es) (bytes room : ℕ) where
   pub place-high : (i : ℕ) → i < length (tensors s) → get_or places i 0 ≤ length h
   place-high i x = rw (o.place i x) (place-le h (entry_at (tensors s) es i))
 
   refuses : (why : Refusal) (i : ℕ) → i < length (tensors s) → refused_at why (get_or places i 0) i ≡ at why h (entry_at (tensors s) es) i
-  refuses why i x = ap (Refused why (suc i)) (place-told h 32 (get_or places i 0) (entry_at (tensors s) es i) (o.stands i x) (o.place i x))
+  refuses why i x = ap (refuse why (suc i)) (place-told h 32 (get_or places i 0) (entry_at (tensors s) es i) (o.stands i x) (o.place i x))
 
   abbrev passes : Test → ℕ → Bool
   passes test i = failing test bytes (count_at (tensors s) i) (found_in (entry_at (tensors s) es i))
@@ -83,7 +83,7 @@ module _ (s : EncoderSettings) (h places : List ℕ) (es : List Entry) (o : Hold
   FirstOf test i = i ≡ first (length (tensors s)) (passes test)
 
   abbrev last : Weighed
-  last = cond (ltb room (weight_floats s)) (Refused Output 0 0) (Floats (weight_floats s))
+  last = cond (ltb room (weight_floats s)) (refuse Output 0 0) (Ok (weight_floats s))
 
   abbrev third : Weighed
   third = firstly (length (tensors s)) (passes T.Misplaced) (at Offsets h (entry_at (tensors s) es)) last
@@ -116,14 +116,14 @@ module _ (s : EncoderSettings) (h places : List ℕ) (es : List Entry) (o : Hold
         from_last : last ≡ judged s h es bytes room
         from_last = firstly-past _ (passes T.Misplaced) (at Offsets h (entry_at (tensors s) es)) last k g u ∙ from-third
 
-        pub is-5 : room < weight_floats s → Refused Output 0 0 ≡ judged s h es bytes room
+        pub is-5 : room < weight_floats s → refuse Output 0 0 ≡ judged s h es bytes room
         is-5 x = rw (← from_last, lt-ltb room (weight_floats s) x) refl
 
-        pub is-0 : weight_floats s ≤ room → Floats (weight_floats s) ≡ judged s h es bytes room
+        pub is-0 : weight_floats s ≤ room → Ok (weight_floats s) ≡ judged s h es bytes room
         is-0 x = rw (← from_last, le-ltb room (weight_floats s) x) refl
 
   -- every tensor passes, and there is room
-  pub all-good : (m : ℕ) → judged s h es bytes room ≡ Floats m → AllGood s es bytes × (weight_floats s ≤ room)
+  pub all-good : (m : ℕ) → judged s h es bytes room ≡ Ok m → AllGood s es bytes × (weight_floats s ≤ room)
   all-good m e =
       let n = length (tensors s) in
       let a = firstly-floats n (passes T.Damaged) Header h (entry_at (tensors s) es) second m (all-is ∙ e) in
@@ -131,6 +131,6 @@ module _ (s : EncoderSettings) (h places : List ℕ) (es : List Entry) (o : Hold
       let c = firstly-floats n (passes T.Misplaced) Offsets h (entry_at (tensors s) es) last m b.1 in
       (λ i x. record { damaged = a.0 i x; other = b.0 i x; misplaced = c.0 i x }, roomy (ltb room (weight_floats s)) refl c.1)
     where
-      roomy : (t : Bool) → ltb room (weight_floats s) ≡ t → cond t (Refused Output 0 0) (Floats (weight_floats s)) ≡ Floats m → weight_floats s ≤ room
+      roomy : (t : Bool) → ltb room (weight_floats s) ≡ t → cond t (refuse Output 0 0) (Ok (weight_floats s)) ≡ Ok m → weight_floats s ≤ room
       roomy true k x = absurd (no_floats Output 0 0 m x)
       roomy false k x = ltb-false room (weight_floats s) k

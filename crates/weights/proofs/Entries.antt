@@ -1,8 +1,8 @@
 -- What is read at the place of an entry is what the entry says. Assumes nothing.
+use Rattle.std.specs.Prelude.{Option, None, Some}
 use mathlib.Core.Path.{◌≡◌, refl, sym, ap, subst, ◌∙◌}
 use mathlib.Core.Bool.{true, cond}
 use mathlib.Core.List.{List, [], ◌∷◌}
-use mathlib.Core.Option.{Option, none, some}
 use Prim.Native.Nat.{ℕ, suc, ◌+◌, ◌≤◌, ◌<◌}
 use native.Mathlib.Numerals.{add-one}
 use native.Mathlib.Omega.{arith}
@@ -17,10 +17,9 @@ use Rattle.json_members.specs.inner.Turns.{place_of, Ascii, Gets, Stands, nowher
 use Rattle.json_members.proofs.Named.{name-says}
 use Rattle.json_members.proofs.Plain.{plain, ascii}
 use Rattle.json_members.proofs.Suffix.{found}
-use Rattle.json_lists.specs.Lists.{product, held, said_of}
+use Rattle.json_lists.specs.Lists.{product, held, sums_of, said_of}
 use Rattle.json_lists.specs.inner.Bytes.{list_at}
 use Rattle.json_lists.specs.declared.Sizes.{Sizes}
-use Rattle.json_lists.specs.declared.Sizes.TheVariants as S
 use Rattle.json_lists.proofs.Listing.{list_law}
 use Rattle.tensor_values.specs.declared.Kind.{Kind}
 use Rattle.tensor_values.specs.declared.Kind.TheVariants.{F32, BF16, F16}
@@ -35,8 +34,8 @@ use Rattle.weights.specs.declared.entry.Described.TheVariants as D
 
 -- a value begins with byte b, and t stands behind it: a string where b is a quotation mark
 data Strung (b : ℕ) (t : List ℕ) : Option (List ℕ) → Type 0 where
-  unstrung : (b ≡ 0x22 → ⊥) → Strung b t none
-  strung : {s : List ℕ} → b ≡ 0x22 → ((w : List ℕ) → Ascii w → name_is w t ≡ same s w) → Strung b t (some s)
+  unstrung : (b ≡ 0x22 → ⊥) → Strung b t None
+  strung : {s : List ℕ} → b ≡ 0x22 → ((w : List ℕ) → Ascii w → name_is w t ≡ same s w) → Strung b t (Some s)
 
 record Headed (l : List ℕ) (o : Option (List ℕ)) : Type 0 where
   head : ℕ
@@ -44,7 +43,7 @@ record Headed (l : List ℕ) (o : Option (List ℕ)) : Type 0 where
   is : l ≡ head ∷ tail
   told : Strung head tail o
 
-no-quote : (b : ℕ) (t : List ℕ) → (b ≡ 0x22 → ⊥) → Headed (b ∷ t) none
+no-quote : (b : ℕ) (t : List ℕ) → (b ≡ 0x22 → ⊥) → Headed (b ∷ t) None
 no-quote b t h = record { head = b; tail = t; is = refl; told = unstrung h }
 
 headed : {k : ℕ} {l r : List ℕ} (v : Value k l r) → Headed l (string_of v)
@@ -90,7 +89,7 @@ module _ {b : ℕ} {t : List ℕ} where
   no-dtype (strung e f) n = absurd (n e)
 
   -- the three tests, one behind the other
-  dtype-is : {o : Option (List ℕ)} → Strung b t o → b ≡ 0x22 → dtype_by (cond (name_is (word "F32") t) (some F32) (cond (name_is (word "BF16") t) (some BF16) (cond (name_is (word "F16") t) (some F16) none))) ≡ dtype_of o
+  dtype-is : {o : Option (List ℕ)} → Strung b t o → b ≡ 0x22 → dtype_by (cond (name_is (word "F32") t) (Some F32) (cond (name_is (word "BF16") t) (Some BF16) (cond (name_is (word "F16") t) (Some F16) None))) ≡ dtype_of o
   dtype-is (unstrung h) e = absurd (h e)
   dtype-is (strung {s = s} q f) e = rw (f (word "F32") (ascii (word "F32") refl), f (word "BF16") (ascii (word "BF16") refl), f (word "F16") (ascii (word "F16") refl)) refl
 
@@ -109,20 +108,20 @@ module _ (h : List ℕ) (at : ℕ) where
     pub no-string : (get_or h at 0 ≡ 0x22 → ⊥) → Dtyped h at Absent
     no-string x = record { is = λ k o s e. no-dtype (strung-at h at k o s e n (is-inside h at k o s e n)) x }
 
-    pub a-string : get_or h at 0 ≡ 0x22 → (r : Dtype) → r ≡ dtype_by (cond (name_is (word "F32") (drop (at + 1) h)) (some F32) (cond (name_is (word "BF16") (drop (at + 1) h)) (some BF16) (cond (name_is (word "F16") (drop (at + 1) h)) (some F16) none))) → Dtyped h at r
+    pub a-string : get_or h at 0 ≡ 0x22 → (r : Dtype) → r ≡ dtype_by (cond (name_is (word "F32") (drop (at + 1) h)) (Some F32) (cond (name_is (word "BF16") (drop (at + 1) h)) (Some BF16) (cond (name_is (word "F16") (drop (at + 1) h)) (Some F16) None))) → Dtyped h at r
     a-string x r q = record { is = λ k o s e. q ∙ dtype-is (strung-at h at k o s e n (is-inside h at k o s e n)) x }
 
   -- ---- lists
 
-  pub no-list : at ≡ 0 → Sized h at S.Absent
+  pub no-list : at ≡ 0 → Sized h at None
   unfolding said_of
   no-list z = record { is = λ k o s e. of k o s e }
     where
-      of : (k : ℕ) (o : Option Entry) → Stands h k o → at ≡ place_of h o → S.Absent ≡ said_of (sizes_in o)
+      of : (k : ℕ) (o : Option Entry) → Stands h k o → at ≡ place_of h o → None ≡ said_of (sizes_in o)
       of k o nowhere e = refl
       of k o (somewhere a b c l) e = absurd (omega arith)
 
-  pub a-list : (at ≡ 0 → ⊥) → (r : Sizes) → r ≡ list_at (drop at h) → Sized h at r
+  pub a-list : (at ≡ 0 → ⊥) → (r : Option Sizes) → r ≡ list_at (drop at h) → Sized h at r
   unfolding place_of
   a-list n r q = record { is = λ k o s e. of k o s e }
     where
@@ -133,23 +132,23 @@ module _ (h : List ℕ) (at : ℕ) where
 -- ---- together
 
 pub made-is : (a b c : Option (List ℕ)) → made_of (dtype_of a) (said_of b) (said_of c) ≡ summary (described_by a b c)
-unfolding said_of
-made-is none none c = refl
-made-is none (some n) none = refl
-made-is none (some n) (some []) = refl
-made-is none (some n) (some (x ∷ [])) = refl
-made-is none (some n) (some (x ∷ (y ∷ []))) = refl
-made-is none (some n) (some (x ∷ (y ∷ (z ∷ l)))) = rw (ne_eqb (suc (suc (suc (length l)))) 2 (λ e. omega arith)) refl
-made-is (some t) none c = refl
-made-is (some t) (some n) none = refl
-made-is (some t) (some n) (some []) = refl
-made-is (some t) (some n) (some (x ∷ [])) = refl
-made-is (some t) (some n) (some (x ∷ (y ∷ []))) = of (kind_of t)
+unfolding said_of sums_of
+made-is None None c = refl
+made-is None (Some n) None = refl
+made-is None (Some n) (Some []) = refl
+made-is None (Some n) (Some (x ∷ [])) = refl
+made-is None (Some n) (Some (x ∷ (y ∷ []))) = refl
+made-is None (Some n) (Some (x ∷ (y ∷ (z ∷ l)))) = rw (ne_eqb (suc (suc (suc (length l)))) 2 (λ e. omega arith)) refl
+made-is (Some t) None c = refl
+made-is (Some t) (Some n) None = refl
+made-is (Some t) (Some n) (Some []) = refl
+made-is (Some t) (Some n) (Some (x ∷ [])) = refl
+made-is (Some t) (Some n) (Some (x ∷ (y ∷ []))) = of (kind_of t)
   where
     of : (k : Option Kind) → by_kind (dtype_by k) (held (product n)) x y ≡ summary_by n x y k
-    of none = refl
-    of (some k) = refl
-made-is (some t) (some n) (some (x ∷ (y ∷ (z ∷ l)))) = rw (ne_eqb (suc (suc (suc (length l)))) 2 (λ e. omega arith)) refl
+    of None = refl
+    of (Some k) = refl
+made-is (Some t) (Some n) (Some (x ∷ (y ∷ (z ∷ l)))) = rw (ne_eqb (suc (suc (suc (length l)))) 2 (λ e. omega arith)) refl
 
 module _ (h : List ℕ) (at : ℕ) where
   pub no-entry : at ≡ 0 → Describes h at D.Missing
@@ -161,12 +160,12 @@ module _ (h : List ℕ) (at : ℕ) where
 
   module _ {t s o : ℕ} (f : Gets h at 32 (word "dtype") t) (g : Gets h at 32 (word "shape") s) (i : Gets h at 32 (word "data_offsets") o) where
     -- a member of the entry stands where it was found
-    member-at : {n j : ℕ} (w : List ℕ) → plain w ≡ true → Gets h at 32 w n → (x : Entry) → at ≡ place_of h (some x) → drop (place_of h (some x)) h ≡ x.from → x.level < j → j ≤ 32 → (Stands h x.level (lookup w (entries_of x.value))) × (n ≡ place_of h (lookup w (entries_of x.value)))
+    member-at : {n j : ℕ} (w : List ℕ) → plain w ≡ true → Gets h at 32 w n → (x : Entry) → at ≡ place_of h (Some x) → drop (place_of h (Some x)) h ≡ x.from → x.level < j → j ≤ 32 → (Stands h x.level (lookup w (entries_of x.value))) × (n ≡ place_of h (lookup w (entries_of x.value)))
     member-at {n} {j} w a z x e b l q =
         let u : drop at h ≡ x.from = ap (λ (m : ℕ). drop m h) e ∙ b in
         (found h w at x.value u, z.value x.level x.from x.to u (omega arith) (ascii w a) x.value)
 
-    pub an-entry : (at ≡ 0 → ⊥) → {d : Dtype} {u v : Sizes} {r : Described} → Dtyped h t d → Sized h s u → Sized h o v → r ≡ made_of d u v → Describes h at r
+    pub an-entry : (at ≡ 0 → ⊥) → {d : Dtype} {u v : Option Sizes} {r : Described} → Dtyped h t d → Sized h s u → Sized h o v → r ≡ made_of d u v → Describes h at r
     unfolding found_by place_of
     an-entry n {d} {u} {v} {r} x y z m = record { is = λ k p q w e. of k p q w e }
       where

@@ -1,8 +1,8 @@
 -- Tensors written one behind the other. Assumes nothing.
+use Rattle.std.specs.Prelude.{Option, None, Some}
 use mathlib.Core.Path.{◌≡◌, refl, sym, ap, ◌∙◌}
 use mathlib.Core.Bool.{true, false, ◌&&◌, false≢true}
 use mathlib.Core.List.{List, ◌++◌, append-nil}
-use mathlib.Core.Option.{Option, none, some}
 use Prim.Native.Nat.{ℕ, zero, suc, ◌+◌, ◌-◌, ◌*◌, ◌/◌, ◌≤◌, ◌<◌}
 use native.Mathlib.Numerals.{add-one}
 use native.Mathlib.Nat.{zero-add}
@@ -52,13 +52,13 @@ record Stored (bytes count : ℕ) (f : Found) : Type 0 where
   end : ℕ
   kind : Kind
   is : f ≡ described dtype shape begin end
-  kind-is : kind_of dtype ≡ some kind
+  kind-is : kind_of dtype ≡ Some kind
   long : end - begin ≡ count * size_of kind
   inside : begin + count * size_of kind ≤ bytes
 
 stored-by : (bytes count : ℕ) (dtype shape : List ℕ) (begin end : ℕ) (k : Option Kind) → kind_of dtype ≡ k → other_count count shape k ≡ false → misplaced_by bytes count begin end k ≡ false → Stored bytes count (described dtype shape begin end)
-stored-by bytes count dtype shape begin end none e x y = absurd (false≢true (sym x))
-stored-by bytes count dtype shape begin end (some k) e x y =
+stored-by bytes count dtype shape begin end None e x y = absurd (false≢true (sym x))
+stored-by bytes count dtype shape begin end (Some k) e x y =
     let z = not-false (leb begin end && (leb end bytes && eqb (end - begin) (count * size_of k))) y in
     let u = and_right (leb begin end) (leb end bytes && eqb (end - begin) (count * size_of k)) z in
     let l : end - begin ≡ count * size_of k = eqb-true (end - begin) (count * size_of k) (and_right (leb end bytes) (eqb (end - begin) (count * size_of k)) u) in
@@ -76,10 +76,10 @@ whole count F32 = omega arith
 whole count BF16 = omega arith
 whole count F16 = omega arith
 
-floats-of : (bytes : List ℕ) (f : Found) (dtype shape : List ℕ) (begin end : ℕ) (k : Kind) (n : ℕ) → f ≡ described dtype shape begin end → kind_of dtype ≡ some k → end - begin ≡ n → floats_in bytes f ≡ values_of k (region bytes begin n)
+floats-of : (bytes : List ℕ) (f : Found) (dtype shape : List ℕ) (begin end : ℕ) (k : Kind) (n : ℕ) → f ≡ described dtype shape begin end → kind_of dtype ≡ Some k → end - begin ≡ n → floats_in bytes f ≡ values_of k (region bytes begin n)
 floats-of bytes f dtype shape begin end k n e q l = rw (e, q, l) refl
 
-summary-of : (f : Found) (dtype shape : List ℕ) (begin end : ℕ) (k : Kind) → f ≡ described dtype shape begin end → kind_of dtype ≡ some k → summary f ≡ D.Known k (held (product shape)) begin end
+summary-of : (f : Found) (dtype shape : List ℕ) (begin end : ℕ) (k : Kind) → f ≡ described dtype shape begin end → kind_of dtype ≡ Some k → summary f ≡ D.Known k (held (product shape)) begin end
 summary-of f dtype shape begin end k e q = rw (e, q) refl
 
 known : {k m : Kind} {n o begin x end y : ℕ} → D.Known k n begin end ≡ D.Known m o x y → (k ≡ m) × (begin ≡ x)

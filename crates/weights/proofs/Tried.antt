@@ -1,8 +1,8 @@
 -- The tests on what is kept of an entry are those on what the header says. Assumes nothing.
+use Rattle.std.specs.Prelude.{Option, None, Some}
 use mathlib.Core.Path.{◌≡◌, refl, sym, ap, ◌∙◌}
 use mathlib.Core.Bool.{Bool, true, false, not}
 use mathlib.Core.List.{List}
-use mathlib.Core.Option.{Option, none, some}
 use Prim.Native.Nat.{ℕ, ◌^◌, ◌<◌}
 use native.Mathlib.Decide.{dec_lt}
 use native.Mathlib.Omega.{arith}
@@ -32,16 +32,16 @@ held-eq p n h k = of (dec_lt p (2 ^ 64))
     of (no x) = ap (λ (q : ℕ). eqb q n) (held_out p (omega arith)) ∙ ne_eqb 0 n (λ e. omega arith) ∙ sym (ne_eqb p n (λ e. omega arith))
 
 damaged-is : (shape : List ℕ) (begin end : ℕ) (k : Option Kind) → fails_damaged (summary_by shape begin end k) ≡ false
-damaged-is shape begin end none = refl
-damaged-is shape begin end (some k) = refl
+damaged-is shape begin end None = refl
+damaged-is shape begin end (Some k) = refl
 
 other-is : (count : ℕ) → 0 < count → count < 2 ^ 64 → (shape : List ℕ) (begin end : ℕ) (k : Option Kind) → fails_other count (summary_by shape begin end k) ≡ other_count count shape k
-other-is count h l shape begin end none = refl
-other-is count h l shape begin end (some k) = ap not (held-eq (product shape) count h l)
+other-is count h l shape begin end None = refl
+other-is count h l shape begin end (Some k) = ap not (held-eq (product shape) count h l)
 
 misplaced-is : (bytes count : ℕ) (shape : List ℕ) (begin end : ℕ) (k : Option Kind) → fails_misplaced bytes count (summary_by shape begin end k) ≡ misplaced_by bytes count begin end k
-misplaced-is bytes count shape begin end none = refl
-misplaced-is bytes count shape begin end (some k) = refl
+misplaced-is bytes count shape begin end None = refl
+misplaced-is bytes count shape begin end (Some k) = refl
 
 fails-is : (test : Test) (bytes count : ℕ) → 0 < count → count < 2 ^ 64 → (f : Found) → fails test bytes count (summary f) ≡ failing test bytes count f
 fails-is T.Damaged bytes count h l missing = refl

@@ -5,7 +5,7 @@ ghost use Rattle.json_members.specs.inner.Turns.{Finds, Gets};
 ghost use Rattle.weights.specs.inner.Described.{Dtyped, Sized, by_kind, made_of, Describes};
 
 use json_lists::{Sizes, read_sizes};
-use json_members::member::{Member, read_member};
+use json_members::member::read_member;
 use json_members::name::name_is;
 use tensor_values::Kind;
 
@@ -48,18 +48,14 @@ fn get_in(h: &[u8], at: usize, d: usize, w: &[u8]) -> usize
     let mut found = 0usize;
     let mut i = at;
     loop {
-        match read_member(h, i, d) {
-            Member::None => {
-                return found;
-            }
-            Member::Last { name, value } => {
-                return noted(h, name, w, value, found);
-            }
-            Member::More { name, value, next } => {
-                found = noted(h, name, w, value, found);
-                i = next;
-            }
-        }
+        let Some(member) = read_member(h, i, d) else {
+            return found;
+        };
+        found = noted(h, member.name, w, member.value, found);
+        let Some(next) = member.next else {
+            return found;
+        };
+        i = next;
     }
 }
 
@@ -102,11 +98,11 @@ fn dtype_at(h: &[u8], at: usize) -> Dtype
 }
 
 // The numbers of the list at a place; 0 is none.
-fn sizes_at(h: &[u8], at: usize) -> Sizes
+fn sizes_at(h: &[u8], at: usize) -> Option<Sizes>
     ensures { Sized h.now at result }
 {
     if at == 0 {
-        return Sizes::Absent;
+        return None;
     }
     read_sizes(h, at)
 }
@@ -127,31 +123,19 @@ fn by_kind(dtype: Dtype, count: u64, begin: u64, end: u64) -> Described
 }
 
 // Dtype, shape and exactly two offsets.
-fn made(dtype: Dtype, shape: Sizes, offsets: Sizes) -> Described
+fn made(dtype: Dtype, shape: Option<Sizes>, offsets: Option<Sizes>) -> Described
     ensures { result ≡ made_of dtype shape offsets }
 {
-    let Sizes::Are {
-        count: _,
-        first: _,
-        second: _,
-        product,
-    } = shape
-    else {
+    let Some(shape) = shape else {
         return Described::Damaged;
     };
-    let Sizes::Are {
-        count,
-        first,
-        second,
-        product: _,
-    } = offsets
-    else {
+    let Some(offsets) = offsets else {
         return Described::Damaged;
     };
-    if count != 2 {
+    if offsets.count != 2 {
         return Described::Damaged;
     }
-    by_kind(dtype, product, first, second)
+    by_kind(dtype, shape.product, offsets.first, offsets.second)
 }
 
 // The entry at a place; 0 is none.

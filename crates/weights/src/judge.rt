@@ -4,7 +4,7 @@ ghost use Rattle.encoder_settings.specs.Settings.{allowed};
 ghost use Rattle.tensor_header.specs.Tensors.{tensors};
 ghost use Rattle.weights.specs.inner.Described.{Firsts, Judges, refused_at};
 
-use crate::Weighed;
+use crate::Misread;
 use crate::counts::{count_at, tensor_count, total};
 use crate::entry::describe;
 use crate::test::{Test, fails};
@@ -18,43 +18,41 @@ fn first_at(s: EncoderSettings, h: &[u8], places: &[usize], test: Test, bytes: u
     ensures { Firsts s h.now places.now test bytes result }
 {
     let n = tensor_count(s);
-    let mut i = 0usize;
-    while i < n {
+    for i in 0..n {
         let count = count_at(s, i);
         let d = describe(h, places[i]);
         if fails(test, d, count, bytes) {
             return i;
         }
-        i += 1;
     }
-    i
+    n
 }
 
 // A refusal at tensor i, whose entry's value stands at `at` in the header: the first tensor is 1, and the place is the file's.
-fn refused(why: Refusal, h: &[u8], at: usize, i: usize) -> Weighed
+fn refused(why: Refusal, h: &[u8], at: usize, i: usize) -> Result<usize, Misread>
     requires { i < 440 }
     ensures { at ≤ length h.now → result ≡ refused_at why at i }
 {
     let tensor = i + 1;
     if at == 0 {
-        return Weighed::Refused {
+        return Err(Misread {
             why,
             tensor,
             place: 0,
-        };
+        });
     }
     if h.len() < at {
-        return Weighed::Refused {
+        return Err(Misread {
             why,
             tensor,
             place: 0,
-        };
+        });
     }
-    Weighed::Refused {
+    Err(Misread {
         why,
         tensor,
         place: 8 + at,
-    }
+    })
 }
 
 // The answer for a header with so many bytes of data behind it, and room for so many floats.
@@ -64,7 +62,7 @@ pub(crate) fn judge(
     places: &[usize],
     bytes: usize,
     room: usize,
-) -> Weighed
+) -> Result<usize, Misread>
     requires s_value { allowed s ≡ true }
     requires s_in_bounds { length (tensors s) ≤ length places.now }
     ensures { Judges s h.now places.now bytes room result }
@@ -84,11 +82,11 @@ pub(crate) fn judge(
     }
     let floats = total(s);
     if room < floats {
-        return Weighed::Refused {
+        return Err(Misread {
             why: Refusal::Output,
             tensor: 0,
             place: 0,
-        };
+        });
     }
-    Weighed::Floats(floats)
+    Ok(floats)
 }

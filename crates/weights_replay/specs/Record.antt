@@ -4,8 +4,8 @@ use Rattle.number_floats.specs.Constants.{zero32, one32}
 use Rattle.buffers.specs.Region.{region}
 use Rattle.encoder_settings.specs.declared.EncoderSettings.{EncoderSettings}
 use Rattle.weights.specs.File.{Weighing, number_of}
-use Rattle.weights.specs.declared.Weighed.{Weighed}
-use Rattle.weights.specs.declared.Weighed.TheVariants.{Floats, Refused}
+use Rattle.weights.specs.File.{Weighed, refuse}
+use Rattle.std.specs.Prelude.{Ok, Err}
 use Rattle.replay.specs.Pieces.{piece_len}
 use Rattle.replay.specs.Line.{read_of}
 use Rattle.replay.specs.Hash.{word_hash}
@@ -49,16 +49,16 @@ marked = words marks 2048
 
 -- what an answer reports beside its number
 abbrev pub floats_of : Weighed → ℕ
-floats_of (Floats n) = n
-floats_of (Refused why i n) = 0
+floats_of (Ok n) = n
+floats_of (Err m) = 0
 
 abbrev pub tensor_of : Weighed → ℕ
-tensor_of (Floats n) = 0
-tensor_of (Refused why i n) = i
+tensor_of (Ok n) = 0
+tensor_of (Err m) = m.tensor
 
 abbrev pub place_of : Weighed → ℕ
-place_of (Floats n) = 0
-place_of (Refused why i n) = n
+place_of (Ok n) = 0
+place_of (Err m) = m.place
 
 -- number, floats, tensor and place are those of the record
 unfoldable pub said_agrees : Weighed → List ℕ → Bool

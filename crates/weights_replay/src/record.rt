@@ -4,12 +4,11 @@ ghost use Rattle.weights_replay.specs.Record.{settings_of, lent_of, marked, said
 
 use encoder_settings::EncoderSettings;
 use picture_limits::PictureSettings;
-use picture_limits::settings::number;
 use replay::hash::hash_words;
 use replay::line::{piece_len, read_line};
 use replay::marks::{MARKS, fill_words};
 use std::io::Stdout;
-use weights::{Weighed, weights};
+use weights::{Misread, weights};
 
 // How long the first record is, and whether its file is answered as it says.
 #[derive(Drop)]
@@ -54,13 +53,16 @@ fn lent(n: usize) -> usize
 }
 
 // Whether number, floats, tensor and place are those of the record.
-fn said_agrees(a: Weighed, v: &[usize; 18]) -> bool
+fn said_agrees(a: Result<usize, Misread>, v: &[usize; 18]) -> bool
     ensures { result ≡ said_agrees a v.now }
 {
     match a {
-        Weighed::Floats(n) => (v[13] == 0) & (v[14] == n) & (v[15] == 0) & (v[16] == 0),
-        Weighed::Refused { why, tensor, place } => {
-            (v[13] == number(why) as usize) & (v[14] == 0) & (v[15] == tensor) & (v[16] == place)
+        Ok(n) => (v[13] == 0) & (v[14] == n) & (v[15] == 0) & (v[16] == 0),
+        Err(m) => {
+            (v[13] == u32::from(m.why) as usize)
+                & (v[14] == 0)
+                & (v[15] == m.tensor)
+                & (v[16] == m.place)
         }
     }
 }

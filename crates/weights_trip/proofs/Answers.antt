@@ -16,8 +16,8 @@ use Rattle.encoder_settings.specs.Settings.{weight_floats}
 use Rattle.tensor_values.specs.declared.Kind.{Kind}
 use Rattle.tensor_values.specs.Values.{size_of}
 use Rattle.tensor_header.specs.Tensors.{tensors, entry_at, count_at}
-use Rattle.weights.specs.declared.Weighed.{Weighed}
-use Rattle.weights.specs.declared.Weighed.TheVariants.{Floats}
+use Rattle.weights.specs.File.{Weighed, refuse}
+use Rattle.std.specs.Prelude.{Ok, Err}
 use Rattle.weights.specs.File.{Found, found_in, is_damaged, is_other, is_misplaced, firstly, at, judged}
 use Rattle.weights_trip.proofs.Tiles.{kind-of}
 use Rattle.weights_trip.proofs.Found.{Placed}
@@ -46,7 +46,7 @@ passed n f refused rest h = rw (first-none n f h, le-ltb n n (omega arith)) refl
 pub unrefused :
     (s : EncoderSettings) (k : Kind) (h : List ℕ) (es : List Entry) (bytes room : ℕ) →
     ((i : ℕ) → i < length (tensors s) → Placed k bytes (found_in (entry_at (tensors s) es i)) (count_at (tensors s) i)) →
-    weight_floats s ≤ room → judged s h es bytes room ≡ Floats (weight_floats s)
+    weight_floats s ≤ room → judged s h es bytes room ≡ Ok (weight_floats s)
 unfolding judged
 unrefused s k h es bytes room p w =
     let n = length (tensors s) in

@@ -21,8 +21,8 @@ use Rattle.tensor_values.specs.Values.{size_of, values_of, digits, bytes_of, hal
 use Rattle.tensor_values.proofs.Laws.{length-bytes, values-of-bytes, values-of-bf16s, values-of-halves}
 use Rattle.tensor_header.specs.Tensors.{tensors}
 use Rattle.tensor_header.specs.Header.{header_of, data_of, is_object}
-use Rattle.weights.specs.declared.Weighed.{Weighed}
-use Rattle.weights.specs.declared.Weighed.TheVariants.{Floats}
+use Rattle.weights.specs.File.{Weighed, refuse}
+use Rattle.std.specs.Prelude.{Ok, Err}
 use Rattle.weights.specs.File.{judged, weights_in, answered, left_by, left}
 use Rattle.weights_trip.specs.Plainest.{entries_text, header_text, file_of}
 use Rattle.weights_trip.specs.Back.{ReadAs, Read-back, F32-trip, BF16-trip, F16-trip}
@@ -42,12 +42,12 @@ module _ (s : EncoderSettings) (k : Kind) (bytes out : List ℕ) (n : Apart (ten
   unfolding weights_in
   all-floats es l = tiled bytes l (finds-all l n) (omega arith) ∙ ap (values_of k) (take_all (bytes_of_all k (tensors s)) bytes (omega arith))
 
-  no-refusal : (h : List ℕ) (es : List Entry) → Listed k 0 (tensors s) es → judged s h es (length bytes) (length out) ≡ Floats (weight_floats s)
+  no-refusal : (h : List ℕ) (es : List Entry) → Listed k 0 (tensors s) es → judged s h es (length bytes) (length out) ≡ Ok (weight_floats s)
   no-refusal h es l = unrefused s k h es (length bytes) (length out) (placed (length bytes) l n (omega arith)) w
 
   -- a text, and what is read of it
   abbrev Reads : List ℕ → List ℕ → Type 0
-  Reads h b = (t : Text 32 h) × (answered s t b (length out) ≡ Floats (weight_floats s)) × (left s t b out ≡ over (values_of k bytes) out)
+  Reads h b = (t : Text 32 h) × (answered s t b (length out) ≡ Ok (weight_floats s)) × (left s t b out ≡ over (values_of k bytes) out)
 
   header-reads : Written k 29 0 (tensors s) (entries_text k (tensors s) 0 ++ (0x7D ∷ [])) (0x7D ∷ []) → Reads (header_text k (tensors s)) bytes
   unfolding header_text answered left is_object entries_of

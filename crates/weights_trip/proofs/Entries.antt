@@ -1,7 +1,7 @@
 -- The entries of the plainest header are members of the grammar, and say what was written. Assumes nothing.
+use Rattle.std.specs.Prelude.{Some}
 use mathlib.Core.Path.{◌≡◌, refl, ap}
 use mathlib.Core.List.{List, [], ◌∷◌, ◌++◌, append_assoc}
-use mathlib.Core.Option.{some}
 use Prim.Native.Nat.{ℕ, suc, ◌+◌, ◌^◌, ◌≤◌, ◌<◌}
 use native.Mathlib.Omega.{arith}
 use lib.ListN.{length}
@@ -41,7 +41,7 @@ entry-parts k t a r =
 -- three members in their order
 three :
     (x y z : Entry) {dtype : List ℕ} {n a b : ℕ} → x.name ≡ word "dtype" → y.name ≡ word "shape" → z.name ≡ word "data_offsets" →
-    string_of x.value ≡ some dtype → sizes_of y.value ≡ some (n ∷ []) → sizes_of z.value ≡ some (a ∷ (b ∷ [])) →
+    string_of x.value ≡ Some dtype → sizes_of y.value ≡ Some (n ∷ []) → sizes_of z.value ≡ Some (a ∷ (b ∷ [])) →
     found_by (x ∷ (y ∷ (z ∷ []))) ≡ described dtype (n ∷ []) a b
 unfolding found_by lookup same
 three x y z e f g u v w = rw (e, f, g, u, v, w) refl
@@ -68,7 +68,7 @@ describe d dtype n a b r p h i j =
           (G.member G.unspaced z.str G.unspaced G.unspaced w.value G.unspaced)));
       says =
           three (entry x.str (G.string {d = suc d} v.str)) (entry y.str u.value) (entry z.str w.value)
-          x.says y.says z.says (ap some v.says) u.says w.says;
+          x.says y.says z.says (ap Some v.says) u.says w.says;
     }
 
 -- ---- all of them

@@ -1,8 +1,8 @@
 -- Where no two tensors have the same name, each is found in the plainest header, at its place. Assumes nothing.
+use Rattle.std.specs.Prelude.{None, Some}
 use mathlib.Core.Path.{◌≡◌, refl}
 use mathlib.Core.Bool.{true, false}
 use mathlib.Core.List.{List, [], ◌∷◌}
-use mathlib.Core.Option.{none, some}
 use Prim.Native.Nat.{ℕ, zero, suc, ◌+◌, ◌*◌, ◌≤◌, ◌<◌}
 use native.Mathlib.Omega.{arith}
 use lib.ListN.{length}
@@ -32,7 +32,7 @@ unfolding same
 same_self [] = refl
 same_self (x ∷ w) = rw (eq-eqb x x refl, same_self w) refl
 
-unlisted : {k : Kind} {a : ℕ} {ts : List Tensor} {es : List Entry} {w : List ℕ} → Listed k a ts es → New w ts → lookup w es ≡ none
+unlisted : {k : Kind} {a : ℕ} {ts : List Tensor} {es : List Entry} {w : List ℕ} → Listed k a ts es → New w ts → lookup w es ≡ None
 unfolding lookup
 unlisted nothing new_none = refl
 unlisted (listed e v l) (new h n) = rw (unlisted l n, e, h) refl
@@ -40,7 +40,7 @@ unlisted (listed e v l) (new h n) = rw (unlisted l n, e, h) refl
 -- entries of which each is the one that its name finds
 pub data Finds (all : List Entry) : List Entry → Type 0 where
   finds-none : Finds all []
-  finds : {e : Entry} {es : List Entry} → lookup e.name all ≡ some e → Finds all es → Finds all (e ∷ es)
+  finds : {e : Entry} {es : List Entry} → lookup e.name all ≡ Some e → Finds all es → Finds all (e ∷ es)
 
 finds-more : {all es : List Entry} (x : Entry) → Finds all es → Finds (x ∷ all) es
 unfolding lookup
@@ -51,7 +51,7 @@ pub finds-all : {k : Kind} {a : ℕ} {ts : List Tensor} {es : List Entry} → Li
 unfolding lookup
 finds-all nothing apart_none = finds-none
 finds-all (listed {e = x} {es = es} e v l) (apart n p) =
-    let u : lookup x.name es ≡ none = rw e (unlisted l n) in
+    let u : lookup x.name es ≡ None = rw e (unlisted l n) in
     finds {e = x} (rw (u, same_self x.name) refl) (finds-more x (finds-all l p))
 
 -- ---- by its number

@@ -1,9 +1,9 @@
 -- Names of plain characters, decimal numbers and lists of them are strings, numbers and arrays of the grammar, and say what was
 -- written. Assumes nothing.
+use Rattle.std.specs.Prelude.{Some}
 use mathlib.Core.Path.{◌≡◌, refl, ap, ◌∙◌}
 use mathlib.Core.Bool.{Bool, true, false, cond, ◌&&◌}
 use mathlib.Core.List.{List, [], ◌∷◌, ◌++◌, append_assoc}
-use mathlib.Core.Option.{some}
 use Prim.Native.Nat.{ℕ, zero, suc, ◌+◌, ◌-◌, ◌*◌, ◌/◌, ◌%◌, ◌^◌, ◌≤◌, ◌<◌}
 use native.Mathlib.Omega.{arith}
 use lib.Dec.{leb, ltb}
@@ -108,7 +108,7 @@ whole (suc n) r = let q = counted (suc (suc n)) (suc n) r (omega arith) (omega a
 -- a value that is the size n
 pub record Size (d : ℕ) (l r : List ℕ) (n : ℕ) : Type 0 where
   pub value : Value d l r
-  pub says : size_of value ≡ some n
+  pub says : size_of value ≡ Some n
 
 pub size : (d n : ℕ) (r : List ℕ) → n < 2 ^ 64 → Size d (decimal n ++ r) r n
 unfolding size_of number_size
@@ -121,7 +121,7 @@ size d n r h =
 -- an array of the sizes ns
 pub record Sizes (d : ℕ) (l r ns : List ℕ) : Type 0 where
   pub value : Value d l r
-  pub says : sizes_of value ≡ some ns
+  pub says : sizes_of value ≡ Some ns
 
 pub one : (d n : ℕ) (r : List ℕ) → n < 2 ^ 64 → Sizes (suc d) (0x5B ∷ (decimal n ++ (0x5D ∷ r))) r (n ∷ [])
 unfolding sizes_of element_sizes

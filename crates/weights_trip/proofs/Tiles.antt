@@ -1,7 +1,7 @@
 -- Tensors whose bytes stand one behind the other have, joined, the values of all the bytes. Assumes nothing.
+use Rattle.std.specs.Prelude.{Some}
 use mathlib.Core.Path.{◌≡◌, refl, sym, ap, ◌∙◌}
 use mathlib.Core.List.{List, [], ◌∷◌, ◌++◌, append_assoc, append-nil}
-use mathlib.Core.Option.{some}
 use Prim.Native.Nat.{ℕ, zero, suc, ◌+◌, ◌*◌, ◌/◌, ◌≤◌, ◌<◌}
 use native.Mathlib.Nat.{add-sub_cancel_left, add-mul}
 use native.Mathlib.Omega.{arith}
@@ -67,7 +67,7 @@ unfolding rows
 rows-front zero f = sym (append-nil (f 0))
 rows-front (suc n) f = ap (λ (l : List ℕ). l ++ f (suc n)) (rows-front n f) ∙ append_assoc (f 0) (rows n (λ i. f (suc i))) (f (suc n))
 
-pub kind-of : (k : Kind) → kind_of (dtype_of k) ≡ some k
+pub kind-of : (k : Kind) → kind_of (dtype_of k) ≡ Some k
 unfolding same
 kind-of F32 = refl
 kind-of BF16 = refl

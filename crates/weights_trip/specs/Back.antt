@@ -14,8 +14,8 @@ use Rattle.tensor_values.specs.Values.{size_of, values_of, bytes_of, halves_of}
 use Rattle.tensor_values.specs.Laws.{Halfwords}
 use Rattle.tensor_header.specs.Tensors.{tensors}
 use Rattle.tensor_header.specs.Header.{framed, header_of, data_of}
-use Rattle.weights.specs.declared.Weighed.{Weighed}
-use Rattle.weights.specs.declared.Weighed.TheVariants.{Floats}
+use Rattle.weights.specs.File.{Weighed, refuse}
+use Rattle.std.specs.Prelude.{Ok, Err}
 use Rattle.weights.specs.File.{answered, left, Weighing}
 use Rattle.weights_trip.specs.Plainest.{file_of}
 
@@ -24,9 +24,9 @@ use Rattle.weights_trip.specs.Plainest.{file_of}
 pub record ReadAs (s : EncoderSettings) (file out floats : List ℕ) : Type 0 where
   pub frame : framed file ≡ true
   pub header : Text 32 (header_of file)
-  pub answer : answered s header (data_of file) (length out) ≡ Floats (weight_floats s)
+  pub answer : answered s header (data_of file) (length out) ≡ Ok (weight_floats s)
   pub slice : left s header (data_of file) out ≡ over floats out
-  pub weighed : (after : List ℕ) (r : Weighed) → Weighing s file out after r → (r ≡ Floats (weight_floats s)) × (after ≡ over floats out)
+  pub weighed : (after : List ℕ) (r : Weighed) → Weighing s file out after r → (r ≡ Ok (weight_floats s)) × (after ≡ over floats out)
 
 -- the file of any bytes, of as many as the weights have, has their values
 abbrev pub Read-back : Type 0

@@ -11,7 +11,8 @@ use Rattle.tensor_header.specs.Tensors.{tensors}
 use Rattle.tensor_header.specs.Header.{header_length, data_of}
 use Rattle.tensor_header.proofs.Unique.{opens}
 use Rattle.weights.proofs.Sums.{few-tensors}
-use Rattle.weights.proofs.Weighs.{opening-as, when-refused, when-open}
+use Rattle.weights.proofs.Weighs.{when-refused, when-open}
+use Rattle.std.proofs.lemmas.Result.{err_from_is_err_and}
 use Rattle.weights.proofs.weights.Goals as goal
 
 -- the data: all that is behind the header
@@ -19,22 +20,22 @@ rest : (file : List ℕ) (n : ℕ) → n ≡ header_length file → region file 
 rest file n e = region-rest file (8 + n) (length file - (8 + n)) (omega arith) ∙ ap (λ (m : ℕ). drop (8 + m) file) e
 
 pub overflow_add-e : goal.overflow_add-e
-overflow_add-e c = let o = (opens _ _ _ _ _ (opening-as c.in-Open.is c.«open».ensures)) in omega (arith, o.long, o.inside, o.eight)
+overflow_add-e c = let o = opens _ _ _ _ _ c.in_ok-n.ensures in omega (arith, o.long, o.inside, o.eight)
 
 pub slice_bounds-read-end : goal.slice_bounds-read-end
-slice_bounds-read-end c = let o = (opens _ _ _ _ _ (opening-as c.in-Open.is c.«open».ensures)) in omega (arith, o.long, o.inside, o.eight)
+slice_bounds-read-end c = let o = opens _ _ _ _ _ c.in_ok-n.ensures in omega (arith, o.long, o.inside, o.eight)
 
-pub slice_bounds-read-count-in-Open : goal.slice_bounds-read-count-in-Open
-slice_bounds-read-count-in-Open c = let o = (opens _ _ _ _ _ (opening-as c.in-Open.is c.«open».ensures)) in omega (arith, o.long, o.inside, o.eight)
+pub slice_bounds-read-count : goal.slice_bounds-read-count
+slice_bounds-read-count c = let o = opens _ _ _ _ _ c.in_ok-n.ensures in omega (arith, o.long, o.inside, o.eight)
 
 pub read-requires : goal.read-requires
-read-requires c = let o = (opens _ _ _ _ _ (opening-as c.in-Open.is c.«open».ensures)) in record {
+read-requires c = let o = opens _ _ _ _ _ c.in_ok-n.ensures in record {
   s_value = o.settings;
   s_in_bounds = subst (λ (n : ℕ). length (tensors c.args.s) ≤ n) (sym (c.«open».auto.places ∙ length-replicate {A = ℕ} 440 0)) (few-tensors c.args.s o.settings);
 }
 
-pub returns-in-Open : goal.returns-in-Open
-returns-in-Open c = let o = (opens _ _ _ _ _ (opening-as c.in-Open.is c.«open».ensures)) in when-open c.args.s c.args.file.now _ _ c.args.out.now _ _ _ (subst (λ (n : ℕ). length (tensors c.args.s) ≤ n) (sym (length-replicate {A = ℕ} 440 0)) (few-tensors c.args.s o.settings)) (opening-as c.in-Open.is c.«open».ensures) _ _ (ap (λ (n : ℕ). take n (drop 8 c.args.file.now)) (add-sub_cancel_left 8 _ ∙ o.long)) (rest c.args.file.now _ o.long) c.read.ensures
+pub returns : goal.returns
+returns c = let o = opens _ _ _ _ _ c.in_ok-n.ensures in when-open c.args.s c.args.file.now _ _ c.args.out.now _ _ _ (subst (λ (n : ℕ). length (tensors c.args.s) ≤ n) (sym (length-replicate {A = ℕ} 440 0)) (few-tensors c.args.s o.settings)) c.in_ok-n.ensures _ _ (ap (λ (n : ℕ). take n (drop 8 c.args.file.now)) (add-sub_cancel_left 8 _ ∙ o.long)) (rest c.args.file.now _ o.long) c.read.ensures
 
-pub returns-in-Refused : goal.returns-in-Refused
-returns-in-Refused c = when-refused c.args.s c.args.file.now _ _ c.args.out.now _ _ (opening-as c.in-Refused.is c.«open».ensures)
+pub returns-in_err-n : goal.returns-in_err-n
+returns-in_err-n c = let p = err_from_is_err_and c.from_residual.result c.from_residual.ensures.1 in rw (p.1, p.2) (when-refused c.args.s c.args.file.now _ _ c.args.out.now _ c.in_err-n.ensures)

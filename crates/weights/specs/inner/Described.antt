@@ -1,20 +1,17 @@
 -- What the functions inside keep of an entry. Assumes nothing.
-use Rattle.std.specs.Prelude.{◌≡◌, Bool, true, false, cond, not, ◌&&◌, List, ℕ, suc, ◌+◌, ◌-◌, ◌*◌, ◌≤◌, ◌<◌, eqb, leb, length, get_or}
-use Rattle.std.proofs.Math.Option.{Option, none, some}
+use Rattle.std.specs.Prelude.{◌≡◌, Bool, true, false, cond, not, ◌&&◌, List, ℕ, suc, ◌+◌, ◌-◌, ◌*◌, ◌≤◌, ◌<◌, eqb, leb, length, get_or, Option, None, Some}
 use Rattle.buffers.specs.Rows.{first}
 use Rattle.json_members.specs.Names.{Entry}
 use Rattle.json_members.specs.inner.Turns.{place_of, Stands}
 use Rattle.json_lists.specs.Lists.{product, held, said_of}
 use Rattle.json_lists.specs.declared.Sizes.{Sizes}
-use Rattle.json_lists.specs.declared.Sizes.TheVariants as S
 use Rattle.encoder_settings.specs.declared.EncoderSettings.{EncoderSettings}
 use Rattle.tensor_values.specs.declared.Kind.{Kind}
 use Rattle.tensor_values.specs.Values.{size_of}
 use Rattle.tensor_header.specs.Tensors.{tensors, entry_at, count_at}
 use Rattle.weights.specs.File.{string_in, sizes_in, Found, missing, damaged, described, found_in, kind_of, is_damaged, is_other, is_misplaced, judged}
 use Rattle.picture_limits.specs.declared.Refusal.{Refusal}
-use Rattle.weights.specs.declared.Weighed.{Weighed}
-use Rattle.weights.specs.declared.Weighed.TheVariants as W
+use Rattle.weights.specs.File.{Weighed, refuse}
 use Rattle.weights.specs.declared.test.Test.{Test}
 use Rattle.weights.specs.declared.test.Test.TheVariants as T
 use Rattle.weights.specs.declared.entry.Dtype.{Dtype}
@@ -25,18 +22,18 @@ use Rattle.weights.specs.declared.entry.Described.TheVariants as D
 -- ---- one by one
 
 abbrev pub dtype_by : Option Kind → Dtype
-dtype_by none = Other
-dtype_by (some k) = Is k
+dtype_by None = Other
+dtype_by (Some k) = Is k
 
 abbrev pub dtype_of : Option (List ℕ) → Dtype
-dtype_of none = Absent
-dtype_of (some t) = dtype_by (kind_of t)
+dtype_of None = Absent
+dtype_of (Some t) = dtype_by (kind_of t)
 
 -- at the place of what is found
 pub record Dtyped (h : List ℕ) (at : ℕ) (r : Dtype) : Type 0 where
   pub is : (k : ℕ) (o : Option Entry) → Stands h k o → at ≡ place_of h o → r ≡ dtype_of (string_in o)
 
-pub record Sized (h : List ℕ) (at : ℕ) (r : Sizes) : Type 0 where
+pub record Sized (h : List ℕ) (at : ℕ) (r : Option Sizes) : Type 0 where
   pub is : (k : ℕ) (o : Option Entry) → Stands h k o → at ≡ place_of h o → r ≡ said_of (sizes_in o)
 
 -- ---- together
@@ -46,14 +43,14 @@ by_kind (Is k) count begin end = D.Known k count begin end
 by_kind Other count begin end = D.Unknown
 by_kind Absent count begin end = D.Damaged
 
-abbrev pub made_of : Dtype → Sizes → Sizes → Described
-made_of t (S.Are a b c count) (S.Are n begin end p) = cond (eqb n 2) (by_kind t count begin end) D.Damaged
-made_of t (S.Are a b c count) S.Absent = D.Damaged
-made_of t S.Absent offsets = D.Damaged
+abbrev pub made_of : Dtype → Option Sizes → Option Sizes → Described
+made_of t (Some a) (Some b) = cond (eqb b.count 2) (by_kind t a.product b.first b.second) D.Damaged
+made_of t (Some a) None = D.Damaged
+made_of t None offsets = D.Damaged
 
 abbrev pub summary_by : List ℕ → ℕ → ℕ → Option Kind → Described
-summary_by shape begin end none = D.Unknown
-summary_by shape begin end (some k) = D.Known k (held (product shape)) begin end
+summary_by shape begin end None = D.Unknown
+summary_by shape begin end (Some k) = D.Known k (held (product shape)) begin end
 
 abbrev pub summary : Found → Described
 summary missing = D.Missing
@@ -112,4 +109,4 @@ pub record Judges (s : EncoderSettings) (h places : List ℕ) (bytes room : ℕ)
 
 -- a refusal at tensor i, whose entry's value stands at a place of the header; 0 is none
 abbrev pub refused_at : Refusal → ℕ → ℕ → Weighed
-refused_at why n i = W.Refused why (suc i) (cond (eqb n 0) 0 (8 + n))
+refused_at why n i = refuse why (suc i) (cond (eqb n 0) 0 (8 + n))

@@ -4,8 +4,8 @@ use lib.ListN.{length}
 use Rattle.json_members.proofs.Finding.{Going}
 use Rattle.weights.proofs.entry.get_in.Given as goal
 
-abbrev pub invariant-loop-name : goal.invariant-loop-name
-invariant-loop-name l = Going l.h l.at l.d l.w l.i l.found
+abbrev pub invariant-loop-member : goal.invariant-loop-member
+invariant-loop-member l = Going l.h l.at l.d l.w l.i l.found
 
-abbrev pub decreases-loop-name : goal.decreases-loop-name
-decreases-loop-name l = length l.h - l.i
+abbrev pub decreases-loop-member : goal.decreases-loop-member
+decreases-loop-member l = length l.h - l.i

@@ -7,10 +7,10 @@ pub returns-in_default : goal.returns-in_default
 returns-in_default c = rw c.in_default.is refl
 
 pub returns-in_default-offsets : goal.returns-in_default-offsets
-returns-in_default-offsets c = rw (c.in-Are.is, c.in_default-offsets.is) refl
+returns-in_default-offsets c = rw (c.in-Some.is, c.in_default-offsets.is) refl
 
-pub returns-then-count-ne2 : goal.returns-then-count-ne2
-returns-then-count-ne2 c = rw (c.in-Are.is, c.in-Are-offsets.is, ne_eqb _ 2 c.if-count-ne2.true) refl
+pub returns-then-offsets-ne2 : goal.returns-then-offsets-ne2
+returns-then-offsets-ne2 c = rw (c.in-Some.is, c.in-Some-offsets.is, ne_eqb _ 2 c.if-offsets-ne2.true) refl
 
 pub returns : goal.returns
-returns c = c.by_kind.ensures ∙ rw (c.in-Are.is, c.in-Are-offsets.is, eq-eqb _ 2 c.if-count-ne2.false) refl
+returns c = c.by_kind.ensures ∙ rw (c.in-Some.is, c.in-Some-offsets.is, eq-eqb _ 2 c.if-offsets-ne2.false) refl

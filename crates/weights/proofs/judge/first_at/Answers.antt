@@ -33,4 +33,4 @@ pub loop-i-preserved : goal.loop-i-preserved
 loop-i-preserved c = (omega arith, λ es o. one_more (λ (j : ℕ). failing c.args.test c.args.bytes (count_at (tensors c.args.s) j) (found_in (entry_at (tensors c.args.s) es j))) c.loop-i.i (c.loop-i.invariant.1 es o) (sym (tried c.args.s c.args.h.now c.args.places.now es c.requires.s_value o c.args.test c.args.bytes c.loop-i.i (rw (← c.tensor_count-n.ensures.value) c.loop-i-test.true) _ _ _ c.count_at-count.ensures c.describe-d.ensures c.fails.ensures) ∙ c.if-fails.false))
 
 pub returns : goal.returns
-returns c = let e : c.loop-i.i ≡ length (tensors c.args.s) = omega (arith, c.tensor_count-n.ensures.value, c.loop-i.invariant.0) in record { is = λ es o. e ∙ sym (first-none (length (tensors c.args.s)) _ (λ j h. c.loop-i.invariant.1 es o j (rw e h))) }
+returns c = let e : c.loop-i.i ≡ length (tensors c.args.s) = omega (arith, c.tensor_count-n.ensures.value, c.loop-i.invariant.0) in record { is = λ es o. c.tensor_count-n.ensures.value ∙ sym (first-none (length (tensors c.args.s)) _ (λ j h. c.loop-i.invariant.1 es o j (rw e h))) }

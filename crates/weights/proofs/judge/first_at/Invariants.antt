@@ -17,6 +17,3 @@ Passed s h places test bytes i = (es : List Entry) → Holds s h places es → (
 
 abbrev pub invariant-loop-i : goal.invariant-loop-i
 invariant-loop-i l = (l.i ≤ l.n) × Passed l.s l.h l.places l.test l.bytes l.i
-
-abbrev pub decreases-loop-i : goal.decreases-loop-i
-decreases-loop-i l = l.n - l.i

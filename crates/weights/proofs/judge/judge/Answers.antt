@@ -1,7 +1,7 @@
 -- `judge::judge` meets its contract. Assumes nothing.
 use mathlib.Core.Path.{ap, ◌∙◌}
 use native.Mathlib.Omega.{arith}
-use Rattle.weights.specs.declared.Weighed.TheVariants.{Floats}
+use Rattle.std.specs.Prelude.{Ok, Err}
 use Rattle.weights.proofs.Answers.{place-high, is-16, is-17, is-18, is-5, is-0}
 use Rattle.weights.proofs.judge.judge.Goals as goal
 
@@ -27,4 +27,4 @@ pub returns-then-room-floats : goal.returns-then-room-floats
 returns-then-room-floats c = record { is = λ es o. is-5 c.args.s c.args.h.now c.args.places.now es o c.args.bytes c.args.room c.first_at-i.result (c.first_at-i.ensures.is es o) (rw (← c.tensor_count-n.ensures.value) c.if-i-n.false) c.first_at-j.result (c.first_at-j.ensures.is es o) (rw (← c.tensor_count-n.ensures.value) c.if-j-n.false) c.first_at-k.result (c.first_at-k.ensures.is es o) (rw (← c.tensor_count-n.ensures.value) c.if-k-n.false) (rw (← c.total-floats.ensures) c.if-room-floats.true) }
 
 pub returns : goal.returns
-returns c = record { is = λ es o. ap Floats c.total-floats.ensures ∙ is-0 c.args.s c.args.h.now c.args.places.now es o c.args.bytes c.args.room c.first_at-i.result (c.first_at-i.ensures.is es o) (rw (← c.tensor_count-n.ensures.value) c.if-i-n.false) c.first_at-j.result (c.first_at-j.ensures.is es o) (rw (← c.tensor_count-n.ensures.value) c.if-j-n.false) c.first_at-k.result (c.first_at-k.ensures.is es o) (rw (← c.tensor_count-n.ensures.value) c.if-k-n.false) (rw (← c.total-floats.ensures) c.if-room-floats.false) }
+returns c = record { is = λ es o. ap Ok c.total-floats.ensures ∙ is-0 c.args.s c.args.h.now c.args.places.now es o c.args.bytes c.args.room c.first_at-i.result (c.first_at-i.ensures.is es o) (rw (← c.tensor_count-n.ensures.value) c.if-i-n.false) c.first_at-j.result (c.first_at-j.ensures.is es o) (rw (← c.tensor_count-n.ensures.value) c.if-j-n.false) c.first_at-k.result (c.first_at-k.ensures.is es o) (rw (← c.tensor_count-n.ensures.value) c.if-k-n.false) (rw (← c.total-floats.ensures) c.if-room-floats.false) }

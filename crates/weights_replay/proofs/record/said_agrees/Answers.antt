@@ -3,10 +3,10 @@ use mathlib.Core.Path.{refl}
 use Rattle.weights_replay.specs.Record.{said_agrees}
 use Rattle.weights_replay.proofs.record.said_agrees.Goals as goal
 
-pub returns-in-Floats : goal.returns-in-Floats
+pub returns-in-Ok : goal.returns-in-Ok
 unfolding said_agrees
-returns-in-Floats c = rw c.in-Floats.is refl
+returns-in-Ok c = rw c.in-Ok.is refl
 
-pub returns-in-Refused : goal.returns-in-Refused
+pub returns-in-Err : goal.returns-in-Err
 unfolding said_agrees
-returns-in-Refused c = rw (c.in-Refused.is, ← c.number.ensures) refl
+returns-in-Err c = rw (c.in-Err.is, ← c.from.ensures) refl
