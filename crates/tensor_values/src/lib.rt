@@ -13,7 +13,7 @@ use crate::half::widen_f16;
 use crate::plain::{widen_bf16, widen_f32};
 
 // The kinds of floats that a file may hold.
-#[derive(Clone, Copy)]
+#[derive(Clone, Copy, PartialEq, Eq, Debug)]
 pub enum Kind {
     F32,
     BF16,
