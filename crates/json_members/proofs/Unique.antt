@@ -5,8 +5,7 @@ use mathlib.Core.List.{List, [], ◌∷◌}
 use Prim.Native.Nat.{ℕ}
 use native.Mathlib.Omega.{arith}
 use Rattle.json_grammar.specs.Judge.{Read}
-use Rattle.std.specs.Prelude.{Ok, Err, Option}
-use Rattle.json_grammar.specs.declared.scan.Fault.TheVariants as F
+use Rattle.std.specs.Prelude.{Ok, Option}
 use Rattle.json_grammar.specs.inner.Machine.{value, key, colon}
 use Rattle.json_grammar.specs.inner.Steps.{place, Lexes, Skips, Reads}
 use Rattle.json_grammar.proofs.Unique.{skips-unique, lexes-unique, reads-unique}

@@ -8,8 +8,7 @@ use lib.ListN.{length, get_or, drop}
 use Rattle.json_grammar.specs.inner.Machine.{value, values, spaced, natural, digits, frac, exp, settle, alts, pick, within, height, weight, ready, nullable}
 use Rattle.json_grammar.specs.inner.Steps.{is_blank, is_digit, is_more, Lexes, LexesTo}
 use Rattle.json_grammar.specs.Judge.{Read}
-use Rattle.std.specs.Prelude.{Ok, Err}
-use Rattle.json_grammar.specs.declared.scan.Fault.TheVariants as F
+use Rattle.std.specs.Prelude.{Ok}
 use Rattle.json_grammar.proofs.Steps.{go-took, go-alike, frame-flat, ends-past, passes, takes, alike, moved}
 use Rattle.json_grammar.proofs.Lexing.{natural-more, more-none}
 use Rattle.json_read.specs.inner.Steps.{Minus, minus, no_minus, Whole}

@@ -22,7 +22,7 @@ use Rattle.weights.specs.File.{found_in, firstly, place_of, at, judged}
 use Rattle.weights.specs.inner.Described.{failing, refused_at, Holds}
 use Rattle.weights.specs.inner.Filled.{AllGood}
 use Rattle.weights.specs.File.{Weighed, refuse}
-use Rattle.std.specs.Prelude.{Ok, Err}
+use Rattle.std.specs.Prelude.{Ok}
 use Rattle.weights.specs.declared.test.Test.{Test}
 use Rattle.weights.specs.declared.test.Test.TheVariants as T
 

@@ -5,7 +5,7 @@ use Prim.Native.Nat.{ℕ}
 use Rattle.encoder_settings.specs.declared.EncoderSettings.{EncoderSettings}
 use Rattle.tensor_header.proofs.Unique.{Case, case-of, not-allowed, not-framed, stops, deepens, is-text}
 use Rattle.weights.specs.File.{Weighing}
-use Rattle.weights.specs.File.{Weighed, refuse}
+use Rattle.weights.specs.File.{Weighed}
 
 both : {A B : Type 0} {a b c : A} {x y z : B} → (a ≡ c) × (x ≡ z) → (b ≡ c) × (y ≡ z) → (a ≡ b) × (x ≡ y)
 both p q = (p.0 ∙ sym q.0, p.1 ∙ sym q.1)

@@ -12,7 +12,7 @@ use lib.Seq.{take_all, drop-drop}
 use Rattle.buffers.specs.Region.{region, over}
 use Rattle.encoder_settings.specs.declared.EncoderSettings.{EncoderSettings}
 use Rattle.weights.specs.File.{Weighing}
-use Rattle.weights.specs.File.{Weighed, refuse}
+use Rattle.weights.specs.File.{Weighed}
 use Rattle.replay.specs.Hash.{word_hash}
 use Rattle.replay.specs.Line.{Read, read_of}
 use Rattle.replay.proofs.Lines.{read_whole}

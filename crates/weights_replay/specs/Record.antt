@@ -4,7 +4,7 @@ use Rattle.number_floats.specs.Constants.{zero32, one32}
 use Rattle.buffers.specs.Region.{region}
 use Rattle.encoder_settings.specs.declared.EncoderSettings.{EncoderSettings}
 use Rattle.weights.specs.File.{Weighing, number_of}
-use Rattle.weights.specs.File.{Weighed, refuse}
+use Rattle.weights.specs.File.{Weighed}
 use Rattle.std.specs.Prelude.{Ok, Err}
 use Rattle.replay.specs.Pieces.{piece_len}
 use Rattle.replay.specs.Line.{read_of}

@@ -16,8 +16,8 @@ use Rattle.encoder_settings.specs.Settings.{weight_floats}
 use Rattle.tensor_values.specs.declared.Kind.{Kind}
 use Rattle.tensor_values.specs.Values.{size_of}
 use Rattle.tensor_header.specs.Tensors.{tensors, entry_at, count_at}
-use Rattle.weights.specs.File.{Weighed, refuse}
-use Rattle.std.specs.Prelude.{Ok, Err}
+use Rattle.weights.specs.File.{Weighed}
+use Rattle.std.specs.Prelude.{Ok}
 use Rattle.weights.specs.File.{Found, found_in, is_damaged, is_other, is_misplaced, firstly, at, judged}
 use Rattle.weights_trip.proofs.Tiles.{kind-of}
 use Rattle.weights_trip.proofs.Found.{Placed}

@@ -21,8 +21,8 @@ use Rattle.tensor_values.specs.Values.{size_of, values_of, digits, bytes_of, hal
 use Rattle.tensor_values.proofs.Laws.{length-bytes, values-of-bytes, values-of-bf16s, values-of-halves}
 use Rattle.tensor_header.specs.Tensors.{tensors}
 use Rattle.tensor_header.specs.Header.{header_of, data_of, is_object}
-use Rattle.weights.specs.File.{Weighed, refuse}
-use Rattle.std.specs.Prelude.{Ok, Err}
+use Rattle.weights.specs.File.{Weighed}
+use Rattle.std.specs.Prelude.{Ok}
 use Rattle.weights.specs.File.{judged, weights_in, answered, left_by, left}
 use Rattle.weights_trip.specs.Plainest.{entries_text, header_text, file_of}
 use Rattle.weights_trip.specs.Back.{ReadAs, Read-back, F32-trip, BF16-trip, F16-trip}

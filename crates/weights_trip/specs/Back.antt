@@ -14,8 +14,8 @@ use Rattle.tensor_values.specs.Values.{size_of, values_of, bytes_of, halves_of}
 use Rattle.tensor_values.specs.Laws.{Halfwords}
 use Rattle.tensor_header.specs.Tensors.{tensors}
 use Rattle.tensor_header.specs.Header.{framed, header_of, data_of}
-use Rattle.weights.specs.File.{Weighed, refuse}
-use Rattle.std.specs.Prelude.{Ok, Err}
+use Rattle.weights.specs.File.{Weighed}
+use Rattle.std.specs.Prelude.{Ok}
 use Rattle.weights.specs.File.{answered, left, Weighing}
 use Rattle.weights_trip.specs.Plainest.{file_of}
 

@@ -1,5 +1,5 @@
 -- `numbers_from` meets its contract. Assumes nothing.
-use Rattle.std.proofs.Common.{Ok, refl, ap, sym, ◌∙◌, ◌≤◌, ◌<◌, length, arith}
+use Rattle.std.proofs.Common.{Ok, refl, ap, sym, ◌∙◌, arith}
 use Rattle.json_read.proofs.Values.{parts-told}
 use Rattle.json_lists.proofs.Turns.{begin, turn, turn-none, turn_end, count-few, goes_on, closes, stops}
 use Rattle.json_lists.proofs.numbers_from.Goals as goal

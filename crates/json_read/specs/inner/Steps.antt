@@ -2,7 +2,6 @@
 use Rattle.std.specs.Prelude.{◌≡◌, cond, List, [], ◌∷◌, ℕ, ◌+◌, ◌-◌, ◌≤◌, eqb, length, get_or, drop, Result, Ok, Err}
 use Rattle.json_grammar.specs.inner.Machine.{Class, lowest, highest, Sym, range, chars, natural, frac, exp, go, after}
 use Rattle.json_grammar.specs.Judge.{Read}
-use Rattle.json_grammar.specs.declared.scan.Fault.TheVariants as F
 use Rattle.json_grammar.specs.inner.Steps.{seen, place, Lexes, skip}
 use Rattle.json_read.specs.declared.value.Next.{Next}
 use Rattle.json_read.specs.declared.value.Next.TheVariants as N

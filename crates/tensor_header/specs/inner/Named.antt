@@ -1,5 +1,5 @@
 -- The tensors' names, one by one. Assumes nothing.
-use Rattle.std.specs.Prelude.{Bool, true, false, List, [], ◌∷◌, ℕ, zero, suc}
+use Rattle.std.specs.Prelude.{Bool, false, List, [], ◌∷◌, ℕ, zero, suc}
 use Rattle.encoder_settings.specs.Weights.{embedding, layer, projector}
 use Rattle.json_members.specs.inner.Bytes.{name_is}
 use Rattle.tensor_header.specs.Tensors.{Tensor, tensors_of}

@@ -1,5 +1,5 @@
 -- `read` meets its contract. Assumes nothing.
-use Rattle.std.proofs.Common.{Ok, Err, sym, ap, ◌∙◌, length}
+use Rattle.std.proofs.Common.{sym, ap, ◌∙◌, length}
 use Rattle.std.proofs.lemmas.Result.{err_from_is_err_and}
 use Rattle.weights.specs.File.{weights_in, left_by}
 use Rattle.weights.proofs.Answers.{all-good}

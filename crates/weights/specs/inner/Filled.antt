@@ -9,7 +9,7 @@ use Rattle.tensor_values.specs.Values.{values_of}
 use Rattle.tensor_header.specs.Tensors.{tensors, entry_at, count_at}
 use Rattle.weights.specs.File.{Found, found_in, is_damaged, is_other, is_misplaced, floats_in, weights_in, judged, left_by}
 use Rattle.weights.specs.inner.Described.{summary, Holds}
-use Rattle.weights.specs.File.{Weighed, refuse}
+use Rattle.weights.specs.File.{Weighed}
 use Rattle.weights.specs.declared.entry.Described.{Described}
 
 pub record PutsOne (k : Kind) (bytes : List ℕ) (at count : ℕ) (before after : List ℕ) : Type 0 where

@@ -1,5 +1,5 @@
 -- `record::judge` meets its contract. Assumes nothing.
-use Rattle.std.proofs.Common.{◌≡◌, ap, subst, ◌∙◌, Bool, ◌&&◌, List, ℕ, Ok, Err, refl}
+use Rattle.std.proofs.Common.{◌≡◌, ap, subst, ◌∙◌, Bool, ◌&&◌, List, ℕ, Ok, Err}
 use Rattle.std.specs.Result.{result_unwrap_or}
 use Rattle.config.specs.Config.{Config, Configured, zeros, settings_of}
 use Rattle.config.proofs.Unique.{config-unique}

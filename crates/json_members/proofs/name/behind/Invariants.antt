@@ -1,7 +1,7 @@
 -- `name::behind` meets its contract. Assumes nothing.
 use mathlib.Core.Path.{◌≡◌}
-use Prim.Native.Nat.{◌-◌, ◌≤◌}
-use lib.ListN.{length, drop}
+use Prim.Native.Nat.{◌-◌}
+use lib.ListN.{drop}
 use Rattle.json_members.specs.inner.Bytes.{behind_at}
 use Rattle.json_members.proofs.name.behind.Given as goal
 

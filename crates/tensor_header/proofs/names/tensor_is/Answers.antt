@@ -1,5 +1,5 @@
 -- `names::tensor_is` meets its contract. Assumes nothing.
-use mathlib.Core.Path.{refl, sym, ◌∙◌}
+use mathlib.Core.Path.{sym, ◌∙◌}
 use Prim.Native.Nat.{◌-◌}
 use native.Mathlib.Omega.{arith}
 use Rattle.tensor_header.proofs.Listed.{in-embedding, in-projector, layer-by, no-layer-by}

@@ -1,7 +1,7 @@
 -- `judge::judge` meets its contract. Assumes nothing.
 use mathlib.Core.Path.{ap, ◌∙◌}
 use native.Mathlib.Omega.{arith}
-use Rattle.std.specs.Prelude.{Ok, Err}
+use Rattle.std.specs.Prelude.{Ok}
 use Rattle.weights.proofs.Answers.{place-high, is-16, is-17, is-18, is-5, is-0}
 use Rattle.weights.proofs.judge.judge.Goals as goal
 
