@@ -1,11 +1,11 @@
 -- What the two calls of a record answer and leave. Assumes nothing.
-use Rattle.std.specs.Prelude.{ℕ, ◌%◌, List, [], ◌∷◌, ◌++◌, length, get_or, take, drop, Float}
+use Rattle.std.specs.Prelude.{Result, Ok, Err, ℕ, ◌%◌, List, [], ◌∷◌, ◌++◌, length, get_or, take, drop, Float}
 use Rattle.std.specs.Float.{binary32}
 use Rattle.std.specs.Float.Ieee.{of_bits}
 use Rattle.picture_limits.specs.declared.PictureSettings.{PictureSettings}
+use Rattle.picture_limits.specs.declared.Refusal.{Refusal}
 use Rattle.picture_limits.specs.Refusal as R
-use Rattle.picture_tiles.specs.declared.Tiled.{Tiled}
-use Rattle.picture_tiles.specs.declared.Tiled.TheVariants.{Tile, Refused}
+use Rattle.picture_tiles.specs.declared.Tile.{Tile}
 use Rattle.picture_tiles.specs.Answer.{tiled, patches_out, untiled, bytes_out}
 use Rattle.tiles_replay.specs.declared.run.Told.{Told}
 use Rattle.replay.specs.Hash.{byte_hash, float_hash}
@@ -15,9 +15,9 @@ use Rattle.replay.specs.Damage.{damaged}
 -- ---- one call
 
 -- the paper's number and sizes of an answer, 0 for every size of a refusal, and a hash
-abbrev pub told_of : Tiled → ℕ → Told
-told_of (Tile gh gw n t l th tw) k = record { number = 0; grid_h = gh; grid_w = gw; floats = n; top = t; left = l; height = th; width = tw; hash = k }
-told_of (Refused r) k = record { number = R.number r; grid_h = 0; grid_w = 0; floats = 0; top = 0; left = 0; height = 0; width = 0; hash = k }
+abbrev pub told_of : Result Tile Refusal → ℕ → Told
+told_of (Ok a) k = record { number = 0; grid_h = a.grid_h; grid_w = a.grid_w; floats = a.floats; top = a.top; left = a.left; height = a.height; width = a.width; hash = k }
+told_of (Err r) k = record { number = R.number r; grid_h = 0; grid_w = 0; floats = 0; top = 0; left = 0; height = 0; width = 0; hash = k }
 
 -- the output after a tile's preprocess; its answer and the hash of that output
 unfoldable pub made_left : PictureSettings → List ℕ → ℕ → ℕ → ℕ → List Float → List Float

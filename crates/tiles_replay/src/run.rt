@@ -2,8 +2,8 @@
 ghost use Rattle.std.specs.Prelude.{◌≡◌, ◌≤◌, length};
 ghost use Rattle.tiles_replay.specs.Run.{room, at, told_of, made_left, made_of, back_of, float_of, settings_of, first_of, cells_left, second_of};
 
-use picture_limits::PictureSettings;
-use picture_tiles::Tiled;
+use picture_limits::{PictureSettings, Refusal};
+use picture_tiles::Tile;
 use replay::damage::damage;
 use replay::hash::{hash_bytes, hash_floats};
 use replay::marks::{MARKS, fill_bytes};
@@ -25,31 +25,23 @@ pub struct Told {
     pub hash: usize,
 }
 
-fn tell(found: Tiled, hash: usize) -> Told
+fn tell(found: Result<Tile, Refusal>, hash: usize) -> Told
     ensures { result ≡ told_of found hash }
 {
     match found {
-        Tiled::Tile {
-            grid_h,
-            grid_w,
-            floats,
-            top,
-            left,
-            height,
-            width,
-        } => Told {
+        Ok(a) => Told {
             number: 0,
-            grid_h,
-            grid_w,
-            floats,
-            top,
-            left,
-            height,
-            width,
+            grid_h: a.grid_h,
+            grid_w: a.grid_w,
+            floats: a.floats,
+            top: a.top,
+            left: a.left,
+            height: a.height,
+            width: a.width,
             hash,
         },
-        Tiled::Refused(r) => Told {
-            number: picture_limits::settings::number(r) as usize,
+        Err(r) => Told {
+            number: u32::from(r) as usize,
             grid_h: 0,
             grid_w: 0,
             floats: 0,
