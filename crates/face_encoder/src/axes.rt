@@ -5,7 +5,7 @@ ghost use Rattle.face_settings.specs.Settings.{inner_encoder};
 ghost use Rattle.face_encoder.specs.Reports.{forward_report};
 
 use crate::ForwardReport;
-use face_settings::{EncoderSettings, encoder_settings};
+use face_settings::EncoderSettings;
 
 pub fn forward_axes(
     s: EncoderSettings,
@@ -25,7 +25,7 @@ pub fn forward_axes(
     ensures work { scratch.new ≡ scratch_axes (inner_encoder s) grid_h grid_w weights.now row_cos.now row_sin.now column_cos.now column_sin.now patches.now (length out.old) scratch.old }
 {
     let found = encoder::forward::forward_axes(
-        encoder_settings(s),
+        s.into(),
         patches,
         grid_h,
         grid_w,

@@ -11,7 +11,7 @@ ghost use Rattle.face_settings.specs.Settings.{inner_encoder};
 ghost use Rattle.face_encoder.specs.Reports.{forward_report, lengths_report};
 
 use encoder_settings::lengths::Lengths;
-use face_settings::{EncoderSettings, encoder_settings};
+use face_settings::EncoderSettings;
 use picture_limits::Refusal;
 
 #[repr(C)]
@@ -95,7 +95,7 @@ pub fn forward(
     ensures work { scratch.new ≡ scratch_of (inner_encoder s) grid_h grid_w weights.now rope_cos.now rope_sin.now patches.now (length out.old) scratch.old }
 {
     let found = encoder::forward::forward(
-        encoder_settings(s),
+        s.into(),
         patches,
         grid_h,
         grid_w,
@@ -111,6 +111,6 @@ pub fn forward(
 pub fn lengths(s: EncoderSettings, grid_h: usize, grid_w: usize) -> LengthsReport
     ensures { result ≡ lengths_report (needed_of (inner_encoder s) grid_h grid_w) }
 {
-    let found = encoder_settings::lengths::needed(encoder_settings(s), grid_h, grid_w);
+    let found = encoder_settings::lengths::needed(s.into(), grid_h, grid_w);
     LengthsReport::from(found)
 }

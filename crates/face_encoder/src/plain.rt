@@ -5,7 +5,7 @@ ghost use Rattle.face_settings.specs.Settings.{inner_encoder};
 ghost use Rattle.face_encoder.specs.Reports.{forward_report};
 
 use crate::ForwardReport;
-use face_settings::{EncoderSettings, encoder_settings};
+use face_settings::EncoderSettings;
 
 pub fn forward_plain(
     s: EncoderSettings,
@@ -23,7 +23,7 @@ pub fn forward_plain(
     ensures work { scratch.new ≡ scratch_plain (inner_encoder s) grid_h grid_w weights.now rope_cos.now rope_sin.now patches.now (length out.old) scratch.old }
 {
     let found = encoder::forward::forward_plain(
-        encoder_settings(s),
+        s.into(),
         patches,
         grid_h,
         grid_w,

@@ -9,7 +9,7 @@ ghost use Rattle.picture_restore.specs.Restore.{restored, bytes_out};
 ghost use Rattle.face_settings.specs.Settings.{inner};
 ghost use Rattle.face_picture.specs.Reports.{preprocess_report, restore_report, place_of};
 
-use face_settings::{PictureSettings, settings};
+use face_settings::PictureSettings;
 use picture::Patches;
 use picture_limits::Refusal;
 use picture_restore::Picture;
@@ -89,7 +89,7 @@ pub fn preprocess(
     ensures answer { result ≡ preprocess_report (preprocessed (inner s) (length rgb.now) height width (length out.old)) }
     ensures output { out.new ≡ patches_out (inner s) rgb.now height width out.old }
 {
-    let found = picture::preprocess::pixtral_preprocess(settings(s), rgb, height, width, out);
+    let found = picture::preprocess::pixtral_preprocess(s.into(), rgb, height, width, out);
     PreprocessReport::from(found)
 }
 
@@ -103,7 +103,7 @@ pub fn restore(
     ensures answer { result ≡ restore_report (restored (inner s) patches.now grid_h grid_w (length out.old)) }
     ensures output { out.new ≡ bytes_out (inner s) patches.now grid_h grid_w out.old }
 {
-    let found = picture_restore::restore(settings(s), patches, grid_h, grid_w, out);
+    let found = picture_restore::restore(s.into(), patches, grid_h, grid_w, out);
     RestoreReport::from(found)
 }
 

@@ -4,7 +4,7 @@ ghost use Rattle.picture_salvage.specs.Salvage.{salvaged, saved_out, list_out};
 ghost use Rattle.face_settings.specs.Settings.{inner};
 ghost use Rattle.face_picture.specs.Reports.{salvage_report};
 
-use face_settings::{PictureSettings, settings};
+use face_settings::PictureSettings;
 use picture_limits::Refusal;
 use picture_salvage::Salvaged;
 
@@ -51,6 +51,6 @@ pub fn salvage(
     ensures output { out.new ≡ saved_out (inner s) patches.now grid_h grid_w (length list.old) out.old }
     ensures entries { list.new ≡ list_out (inner s) patches.now grid_h grid_w (length out.old) list.old }
 {
-    let found = picture_salvage::salvage(settings(s), patches, grid_h, grid_w, out, list);
+    let found = picture_salvage::salvage(s.into(), patches, grid_h, grid_w, out, list);
     SalvageReport::from(found)
 }

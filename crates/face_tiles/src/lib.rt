@@ -6,7 +6,7 @@ ghost use Rattle.picture_tiles.specs.Answer.{cut_of, tiled, patches_out, untiled
 ghost use Rattle.face_settings.specs.Settings.{inner};
 ghost use Rattle.face_tiles.specs.Reports.{cut_report, tile_report};
 
-use face_settings::{PictureSettings, settings};
+use face_settings::PictureSettings;
 use picture_limits::Refusal;
 use picture_tiles::{Tile, Tiles, preprocess, restore};
 
@@ -87,7 +87,7 @@ impl From<Result<Tile, Refusal>> for TileReport {
 pub fn cut(s: PictureSettings, height: usize, width: usize) -> CutReport
     ensures { result ≡ cut_report (cut_of (inner s) height width) }
 {
-    let found = picture_tiles::cut::cut(settings(s), height, width);
+    let found = picture_tiles::cut::cut(s.into(), height, width);
     CutReport::from(found)
 }
 
@@ -102,7 +102,7 @@ pub fn preprocess_tile(
     ensures answer { result ≡ tile_report (tiled (inner s) (length rgb.now) height width index (length out.old)) }
     ensures output { out.new ≡ patches_out (inner s) rgb.now height width index out.old }
 {
-    let found = preprocess::preprocess_tile(settings(s), rgb, height, width, index, out);
+    let found = preprocess::preprocess_tile(s.into(), rgb, height, width, index, out);
     TileReport::from(found)
 }
 
@@ -117,6 +117,6 @@ pub fn restore_tile(
     ensures answer { result ≡ tile_report (untiled (inner s) patches.now height width index (length out.old)) }
     ensures output { out.new ≡ bytes_out (inner s) patches.now height width index out.old }
 {
-    let found = restore::restore_tile(settings(s), patches, height, width, index, out);
+    let found = restore::restore_tile(s.into(), patches, height, width, index, out);
     TileReport::from(found)
 }

@@ -3,7 +3,7 @@ ghost use Rattle.face_settings.specs.Settings.{inner_encoder};
 ghost use Rattle.kyzgultam.specs.Face.{ConfigReports};
 
 use config::{config, no_settings};
-use face_settings::{EncoderSettings, encoder_settings, outer_settings};
+use face_settings::EncoderSettings;
 
 // The byte of 13 or 14, and the settings: zeros where they were refused.
 #[repr(C)]
@@ -18,16 +18,16 @@ pub struct ConfigReport {
 pub extern "C" fn kz_config(lent: EncoderSettings, text: &[u8]) -> ConfigReport
     ensures { ConfigReports (inner_encoder lent) text.now result }
 {
-    match config(encoder_settings(lent), text) {
+    match config(lent.into(), text) {
         Ok(settings) => ConfigReport {
             number: 0,
             place: 0,
-            settings: outer_settings(settings),
+            settings: settings.into(),
         },
         Err(refused) => ConfigReport {
             number: u32::from(refused.why),
             place: refused.place,
-            settings: outer_settings(no_settings()),
+            settings: no_settings().into(),
         },
     }
 }

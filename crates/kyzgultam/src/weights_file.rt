@@ -2,7 +2,7 @@
 ghost use Rattle.face_settings.specs.Settings.{inner_encoder};
 ghost use Rattle.kyzgultam.specs.Face.{WeightsReports};
 
-use face_settings::{EncoderSettings, encoder_settings};
+use face_settings::EncoderSettings;
 use weights::weights;
 
 // How many floats were read; of a refusal the tensor, of which the first is 1 and 0 is none, and the byte of the file.
@@ -19,7 +19,7 @@ pub struct WeightsReport {
 pub extern "C" fn kz_weights(s: EncoderSettings, file: &[u8], out: &mut [u32]) -> WeightsReport
     ensures { WeightsReports (inner_encoder s) file.now out.old out.new result }
 {
-    match weights(encoder_settings(s), file, out) {
+    match weights(s.into(), file, out) {
         Ok(floats) => WeightsReport {
             number: 0,
             floats,

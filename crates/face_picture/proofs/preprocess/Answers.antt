@@ -8,7 +8,7 @@ use Rattle.face_picture.proofs.preprocess.Goals as goal
 
 pub returns : goal.returns
 returns c =
-    let e = c.settings.ensures in record {
+    let e = c.into.ensures in record {
       answer = c.from.ensures ∙ ap preprocess_report (c.pixtral_preprocess-found.ensures.answer ∙ ap (λ (s : PictureSettings). preprocessed s (length c.args.rgb.now) c.args.height c.args.width (length c.args.out.now)) e);
       output = c.pixtral_preprocess-found.ensures.output ∙ ap (λ (s : PictureSettings). patches_out s c.args.rgb.now c.args.height c.args.width c.args.out.now) e;
     }

@@ -8,7 +8,7 @@ use Rattle.face_picture.proofs.restore.Goals as goal
 
 pub returns : goal.returns
 returns c =
-    let e = c.settings.ensures in record {
+    let e = c.into.ensures in record {
       answer = c.from.ensures ∙ ap restore_report (c.restore-found.ensures.answer ∙ ap (λ (s : PictureSettings). restored s c.args.patches.now c.args.grid_h c.args.grid_w (length c.args.out.now)) e);
       output = c.restore-found.ensures.output ∙ ap (λ (s : PictureSettings). bytes_out s c.args.patches.now c.args.grid_h c.args.grid_w c.args.out.now) e;
     }

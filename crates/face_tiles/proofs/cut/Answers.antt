@@ -6,4 +6,4 @@ use Rattle.face_tiles.specs.Reports.{cut_report}
 use Rattle.face_tiles.proofs.cut.Goals as goal
 
 pub returns : goal.returns
-returns c = c.from.ensures ∙ ap cut_report (c.cut-found.ensures ∙ ap (λ (s : PictureSettings). cut_of s c.args.height c.args.width) c.settings.ensures)
+returns c = c.from.ensures ∙ ap cut_report (c.cut-found.ensures ∙ ap (λ (s : PictureSettings). cut_of s c.args.height c.args.width) c.into.ensures)

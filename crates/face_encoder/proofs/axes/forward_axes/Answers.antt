@@ -8,7 +8,7 @@ use Rattle.face_encoder.proofs.axes.forward_axes.Goals as goal
 
 pub returns : goal.returns
 returns c =
-    let e = c.encoder_settings.ensures in record {
+    let e = c.into.ensures in record {
       answer = c.from.ensures ∙ ap forward_report (c.forward_axes-found.ensures.answer ∙ ap (λ (s : EncoderSettings). encoded_axes s c.args.grid_h c.args.grid_w c.args.weights.now c.args.row_cos.now c.args.row_sin.now c.args.column_cos.now c.args.column_sin.now c.args.patches.now (length c.args.out.now) (length c.args.scratch.now)) e);
       output = c.forward_axes-found.ensures.output ∙ ap (λ (s : EncoderSettings). out_axes s c.args.grid_h c.args.grid_w c.args.weights.now c.args.row_cos.now c.args.row_sin.now c.args.column_cos.now c.args.column_sin.now c.args.patches.now (length c.args.scratch.now) c.args.out.now) e;
       work = c.forward_axes-found.ensures.work ∙ ap (λ (s : EncoderSettings). scratch_axes s c.args.grid_h c.args.grid_w c.args.weights.now c.args.row_cos.now c.args.row_sin.now c.args.column_cos.now c.args.column_sin.now c.args.patches.now (length c.args.out.now) c.args.scratch.now) e;

@@ -8,7 +8,7 @@ use Rattle.face_encoder.proofs.plain.forward_plain.Goals as goal
 
 pub returns : goal.returns
 returns c =
-    let e = c.encoder_settings.ensures in record {
+    let e = c.into.ensures in record {
       answer = c.from.ensures ∙ ap forward_report (c.forward_plain-found.ensures.answer ∙ ap (λ (s : EncoderSettings). encoded_plain s c.args.grid_h c.args.grid_w c.args.weights.now c.args.rope_cos.now c.args.rope_sin.now c.args.patches.now (length c.args.out.now) (length c.args.scratch.now)) e);
       output = c.forward_plain-found.ensures.output ∙ ap (λ (s : EncoderSettings). out_plain s c.args.grid_h c.args.grid_w c.args.weights.now c.args.rope_cos.now c.args.rope_sin.now c.args.patches.now (length c.args.scratch.now) c.args.out.now) e;
       work = c.forward_plain-found.ensures.work ∙ ap (λ (s : EncoderSettings). scratch_plain s c.args.grid_h c.args.grid_w c.args.weights.now c.args.rope_cos.now c.args.rope_sin.now c.args.patches.now (length c.args.out.now) c.args.scratch.now) e;

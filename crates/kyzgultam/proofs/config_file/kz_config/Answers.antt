@@ -9,7 +9,7 @@ lent-as : {s t : EncoderSettings} {l : List ℕ} {a : Configured} → s ≡ t �
 lent-as {s} {t} {l} {a} e k = subst (λ (x : EncoderSettings). Config x l a) e k
 
 pub returns-in-Ok : goal.returns-in-Ok
-returns-in-Ok c = (c.config.result, lent-as c.encoder_settings.ensures c.config.ensures, rw (c.outer_settings.ensures, c.in-Ok.is) refl)
+returns-in-Ok c = (c.config.result, lent-as c.into.ensures c.config.ensures, rw (c.into-in-Ok.ensures, c.in-Ok.is) refl)
 
 pub returns-in-Err : goal.returns-in-Err
-returns-in-Err c = (c.config.result, lent-as c.encoder_settings.ensures c.config.ensures, rw (c.from.ensures, c.outer_settings-in-Err.ensures, c.no_settings.ensures, c.in-Err.is) refl)
+returns-in-Err c = (c.config.result, lent-as c.into.ensures c.config.ensures, rw (c.from.ensures, c.into-in-Err.ensures, c.no_settings.ensures, c.in-Err.is) refl)

@@ -11,7 +11,7 @@ lent-as : {s t : EncoderSettings} {l o n : List ℕ} {a : Weighed} → s ≡ t �
 lent-as {s} {t} {l} {o} {n} {a} e k = subst (λ (x : EncoderSettings). Weighing x l o n a) e k
 
 pub returns-in-Ok : goal.returns-in-Ok
-returns-in-Ok c = (c.weights.result, lent-as c.encoder_settings.ensures c.weights.ensures, rw c.in-Ok.is refl)
+returns-in-Ok c = (c.weights.result, lent-as c.into.ensures c.weights.ensures, rw c.in-Ok.is refl)
 
 pub returns-in-Err : goal.returns-in-Err
-returns-in-Err c = (c.weights.result, lent-as c.encoder_settings.ensures c.weights.ensures, rw (c.from.ensures, c.in-Err.is) refl)
+returns-in-Err c = (c.weights.result, lent-as c.into.ensures c.weights.ensures, rw (c.from.ensures, c.in-Err.is) refl)
