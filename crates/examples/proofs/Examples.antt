@@ -13,17 +13,17 @@ use Rattle.number_floats.specs.Narrow.{narrow}
 use Rattle.number_exp_tanh.specs.Exp.{series, E, exp_bits}
 use Rattle.number_exp_tanh.specs.Tanh.{near_zero, T, tanh_bits}
 use Rattle.picture_limits.specs.declared.PictureSettings.{PictureSettings}
-use Rattle.picture.specs.declared.Preprocessed.{Preprocessed}
 use Rattle.picture_limits.specs.Settings.{allowed}
 use Rattle.picture_samples.specs.Samples.{own_means, own_deviations}
 use Rattle.picture_samples.proofs.Table.{own-allowed}
 use Rattle.picture_limits.specs.Sides.{kept, side, th_of, tw_of}
 use Rattle.picture_resize.specs.Resize.{whole, near, blend, to_byte, mix}
-use Rattle.picture.specs.Preprocess.{preprocessed, resized_bytes}
+use Rattle.std.specs.Prelude.{Ok, Err}
+use Rattle.picture.specs.Preprocess.{sized, preprocessed, resized_bytes}
 use Rattle.picture_limits.specs.declared.Refusal.{Refusal}
 use Rattle.picture_patches.specs.Viewed.{view_at}
-use Rattle.picture_tiles.specs.declared.Cutting.{Cutting}
-use Rattle.picture_tiles.specs.declared.Tiled.{Tiled}
+use Rattle.picture_tiles.specs.declared.Tiles.{Tiles}
+use Rattle.picture_tiles.specs.declared.Tile as D
 use Rattle.picture_tiles.specs.Tile.{tile_bytes}
 use Rattle.picture_tiles.specs.Answer.{cut_of, tiled}
 use Rattle.encoder_run.specs.Stages.{merge_of}
@@ -72,7 +72,7 @@ abbrev vision : ℕ → ℕ → ℕ → PictureSettings
 vision p m n = ruled 1 p m n
 
 -- 1 × 1: grid 2 × 2, 2352 floats, resized 28 × 28
-pub one-pixel : preprocessed (vision 14 2 1540) 3 1 1 2352 ≡ Preprocessed.Patches 2 2 2352
+pub one-pixel : preprocessed (vision 14 2 1540) 3 1 1 2352 ≡ Ok (sized 2 2 2352)
 unfolding preprocessed allowed kept side
 one-pixel = rw own-allowed refl
 
@@ -81,7 +81,7 @@ unfolding kept side
 one-pixel-side = refl
 
 -- 29 × 28: 56 × 28, grid 4 × 2; 28 stays 28
-pub tall : preprocessed (vision 14 2 1540) (29 * 28 * 3) 29 28 4704 ≡ Preprocessed.Patches 4 2 4704
+pub tall : preprocessed (vision 14 2 1540) (29 * 28 * 3) 29 28 4704 ≡ Ok (sized 4 2 4704)
 unfolding preprocessed allowed kept side
 tall = rw own-allowed refl
 
@@ -94,7 +94,7 @@ unfolding kept side
 stays = refl
 
 -- image 100, height and width 200: 84 × 84, grid 6 × 6
-pub cut : preprocessed (vision 14 2 100) (200 * 200 * 3) 200 200 21168 ≡ Preprocessed.Patches 6 6 21168
+pub cut : preprocessed (vision 14 2 100) (200 * 200 * 3) 200 200 21168 ≡ Ok (sized 6 6 21168)
 unfolding preprocessed allowed kept side
 cut = rw own-allowed refl
 
@@ -103,7 +103,7 @@ unfolding kept side
 cut-side = refl
 
 -- rule 2, 3080 × 1540: 1540 × 784, grid 110 × 56; rule 1: grid 110 × 110
-pub panoramic : preprocessed (ruled 2 14 2 1540) (3080 * 1540 * 3) 3080 1540 3622080 ≡ Preprocessed.Patches 110 56 3622080
+pub panoramic : preprocessed (ruled 2 14 2 1540) (3080 * 1540 * 3) 3080 1540 3622080 ≡ Ok (sized 110 56 3622080)
 unfolding preprocessed allowed kept side
 panoramic = rw own-allowed refl
 
@@ -111,12 +111,12 @@ pub panoramic-sides : (th_of (ruled 2 14 2 1540) 3080 1540 ≡ 1540) × (tw_of (
 unfolding kept side
 panoramic-sides = (refl, refl)
 
-pub squashed : preprocessed (vision 14 2 1540) (3080 * 1540 * 3) 3080 1540 7114800 ≡ Preprocessed.Patches 110 110 7114800
+pub squashed : preprocessed (vision 14 2 1540) (3080 * 1540 * 3) 3080 1540 7114800 ≡ Ok (sized 110 110 7114800)
 unfolding preprocessed allowed kept side
 squashed = rw own-allowed refl
 
 -- rule 2, 8192 × 1, patch 1, merge 1, image 2: the shorter side, which would become 0, is 1
-pub thin : preprocessed (ruled 2 1 1 2) (8192 * 1 * 3) 8192 1 6 ≡ Preprocessed.Patches 2 1 6
+pub thin : preprocessed (ruled 2 1 1 2) (8192 * 1 * 3) 8192 1 6 ≡ Ok (sized 2 1 6)
 unfolding preprocessed allowed kept side
 thin = rw own-allowed refl
 
@@ -134,61 +134,67 @@ narrower = refl
 
 -- ---- tiles: side, tiles down and across; a tile's grid, floats, first row and column, own rows and columns
 
+abbrev cut_in : ℕ → ℕ → ℕ → Tiles
+cut_in n r c = record { side = n; rows = r; columns = c }
+
+abbrev tile_at : ℕ → ℕ → ℕ → ℕ → ℕ → ℕ → ℕ → D.Tile
+tile_at gh gw n t l h w = record { grid_h = gh; grid_w = gw; floats = n; top = t; left = l; height = h; width = w }
+
 -- 1540 × 1540, exactly s: one tile, all of it its own
-pub exact-cut : cut_of (vision 14 2 1540) 1540 1540 ≡ Cutting.Tiles 1540 1 1
+pub exact-cut : cut_of (vision 14 2 1540) 1540 1540 ≡ Ok (cut_in 1540 1 1)
 unfolding cut_of allowed
 exact-cut = rw own-allowed refl
 
-pub exact-tile : tiled (vision 14 2 1540) (1540 * 1540 * 3) 1540 1540 0 7114800 ≡ Tiled.Tile 110 110 7114800 0 0 1540 1540
+pub exact-tile : tiled (vision 14 2 1540) (1540 * 1540 * 3) 1540 1540 0 7114800 ≡ Ok (tile_at 110 110 7114800 0 0 1540 1540)
 unfolding tiled allowed
 exact-tile = rw own-allowed refl
 
 -- 1541 × 1540, s + 1: a second tile, of one row padded to 28
-pub one-more-cut : cut_of (vision 14 2 1540) 1541 1540 ≡ Cutting.Tiles 1540 2 1
+pub one-more-cut : cut_of (vision 14 2 1540) 1541 1540 ≡ Ok (cut_in 1540 2 1)
 unfolding cut_of allowed
 one-more-cut = rw own-allowed refl
 
-pub one-more-tile : tiled (vision 14 2 1540) (1541 * 1540 * 3) 1541 1540 1 129360 ≡ Tiled.Tile 2 110 129360 1540 0 1 1540
+pub one-more-tile : tiled (vision 14 2 1540) (1541 * 1540 * 3) 1541 1540 1 129360 ≡ Ok (tile_at 2 110 129360 1540 0 1 1540)
 unfolding tiled allowed
 one-more-tile = rw own-allowed refl
 
 -- 1 × 1: one tile, padded to 28 × 28
-pub one-pixel-tile : tiled (vision 14 2 1540) 3 1 1 0 2352 ≡ Tiled.Tile 2 2 2352 0 0 1 1
+pub one-pixel-tile : tiled (vision 14 2 1540) 3 1 1 0 2352 ≡ Ok (tile_at 2 2 2352 0 0 1 1)
 unfolding tiled allowed
 one-pixel-tile = rw own-allowed refl
 
 -- 8192 × 8192 with the largest image size: s is 2044; the last of 25 tiles has 16 × 16; one more is 20, before 5
-pub largest-cut : cut_of (vision 14 2 2048) 8192 8192 ≡ Cutting.Tiles 2044 5 5
+pub largest-cut : cut_of (vision 14 2 2048) 8192 8192 ≡ Ok (cut_in 2044 5 5)
 unfolding cut_of allowed
 largest-cut = rw own-allowed refl
 
-pub largest-last : tiled (vision 14 2 2048) (8192 * 8192 * 3) 8192 8192 24 2352 ≡ Tiled.Tile 2 2 2352 8176 8176 16 16
+pub largest-last : tiled (vision 14 2 2048) (8192 * 8192 * 3) 8192 8192 24 2352 ≡ Ok (tile_at 2 2 2352 8176 8176 16 16)
 unfolding tiled allowed
 largest-last = rw own-allowed refl
 
-pub largest-past : tiled (vision 14 2 2048) (8192 * 8192 * 3) 8192 8192 25 0 ≡ Tiled.Refused Refusal.Tile
+pub largest-past : tiled (vision 14 2 2048) (8192 * 8192 * 3) 8192 8192 25 0 ≡ Err Refusal.Tile
 unfolding tiled allowed
 largest-past = rw own-allowed refl
 
 -- and with the smallest, 28: 293 × 293 tiles; of 1, with patch 1 and merge 1, a tile for each pixel
-pub smallest-cut : cut_of (vision 14 2 28) 8192 8192 ≡ Cutting.Tiles 28 293 293
+pub smallest-cut : cut_of (vision 14 2 28) 8192 8192 ≡ Ok (cut_in 28 293 293)
 unfolding cut_of allowed
 smallest-cut = rw own-allowed refl
 
-pub smallest-last : tiled (vision 14 2 28) (8192 * 8192 * 3) 8192 8192 85848 2352 ≡ Tiled.Tile 2 2 2352 8176 8176 16 16
+pub smallest-last : tiled (vision 14 2 28) (8192 * 8192 * 3) 8192 8192 85848 2352 ≡ Ok (tile_at 2 2 2352 8176 8176 16 16)
 unfolding tiled allowed
 smallest-last = rw own-allowed refl
 
-pub pixel-last : tiled (vision 1 1 1) (8192 * 8192 * 3) 8192 8192 67108863 3 ≡ Tiled.Tile 1 1 3 8191 8191 1 1
+pub pixel-last : tiled (vision 1 1 1) (8192 * 8192 * 3) 8192 8192 67108863 3 ≡ Ok (tile_at 1 1 3 8191 8191 1 1)
 unfolding tiled allowed
 pixel-last = rw own-allowed refl
 
-pub pixel-past : tiled (vision 1 1 1) (8192 * 8192 * 3) 8192 8192 67108864 3 ≡ Tiled.Refused Refusal.Tile
+pub pixel-past : tiled (vision 1 1 1) (8192 * 8192 * 3) 8192 8192 67108864 3 ≡ Err Refusal.Tile
 unfolding tiled allowed
 pixel-past = rw own-allowed refl
 
 -- image 27 is below patch × merge
-pub no_tile : cut_of (vision 14 2 27) 1 1 ≡ Cutting.Refused Refusal.ImageSize
+pub no_tile : cut_of (vision 14 2 27) 1 1 ≡ Err Refusal.ImageSize
 unfolding cut_of allowed
 no_tile = rw own-allowed refl
 

@@ -1,7 +1,7 @@
 -- The statements of specs/Log.antt: a call's answer reads lengths and numbers, and no pixel. Assumes nothing.
 use mathlib.Core.Path.{◌≡◌, sym, ap, ◌∙◌}
 use Prim.Native.Nat.{ℕ}
-use Rattle.picture.specs.declared.Preprocessed.{Preprocessed}
+use Rattle.picture_limits.specs.Refusal.{number_of}
 use Rattle.picture.specs.Preprocess as Pre
 use Rattle.picture_tiles.specs.Answer.{tiled}
 use Rattle.face_picture.specs.declared.PreprocessReport.{PreprocessReport}
@@ -29,7 +29,7 @@ preprocess-unseen s rgb rgb' height width out out' r r' l p q =
 pub answer-unseen : AnswerUnseen
 answer-unseen s rgb rgb' height width out out' a a' l p q =
     let e : a ≡ a' = same (λ n m. Pre.preprocessed s n height width m) _ _ _ _ a a' l.bytes l.room p q in
-    record { number = ap Pre.number e; grid-h = ap Pre.grid_h e; grid-w = ap Pre.grid_w e; floats = ap Pre.floats e }
+    record { number = ap number_of e; grid-h = ap Pre.grid_h e; grid-w = ap Pre.grid_w e; floats = ap Pre.floats e }
 
 pub tile-unseen : TileUnseen
 tile-unseen s rgb rgb' height width index out out' r r' l p q =

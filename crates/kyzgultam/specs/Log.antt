@@ -2,11 +2,13 @@
 -- of equal height and width, with equal settings, equal lengths of RGB and equal lengths of output, each call below returns the
 -- same number, the same sizes and the same places, whatever the pixels are and whatever the outputs held. A statement speaks of
 -- any two results that the call may return, by its contract; proofs/Log.antt proves them. Assumes nothing.
-use Rattle.std.specs.Prelude.{◌≡◌, List, ℕ, length, Float}
+use Rattle.std.specs.Prelude.{◌≡◌, List, ℕ, length, Float, Result}
 use Rattle.picture_limits.specs.declared.PictureSettings as P
-use Rattle.picture.specs.declared.Preprocessed.{Preprocessed}
+use Rattle.picture_limits.specs.declared.Refusal.{Refusal}
+use Rattle.picture_limits.specs.Refusal.{number_of}
+use Rattle.picture.specs.declared.Patches.{Patches}
 use Rattle.picture.specs.Preprocess as Pre
-use Rattle.picture_tiles.specs.declared.Tiled.{Tiled}
+use Rattle.picture_tiles.specs.declared.Tile.{Tile}
 use Rattle.picture_tiles.specs.Answer.{cut_of, tiled}
 use Rattle.face_settings.specs.declared.PictureSettings.{PictureSettings}
 use Rattle.face_picture.specs.declared.PreprocessReport.{PreprocessReport}
@@ -40,18 +42,18 @@ PreprocessUnseen = (s : PictureSettings) (rgb rgb' : List ℕ) (height width : �
     → Reports s rgb' height width out' r'
     → SameReport r r'
 
--- and of the call behind it, whose answer is an enum
-abbrev pub Answers : P.PictureSettings → List ℕ → ℕ → ℕ → List Float → Preprocessed → Type 0
+-- and of the call behind it, whose answer is a Result
+abbrev pub Answers : P.PictureSettings → List ℕ → ℕ → ℕ → List Float → Result Patches Refusal → Type 0
 Answers s rgb height width out a = a ≡ Pre.preprocessed s (length rgb) height width (length out)
 
-pub record SameAnswer (a a' : Preprocessed) : Type 0 where
-  pub number : Pre.number a ≡ Pre.number a'
+pub record SameAnswer (a a' : Result Patches Refusal) : Type 0 where
+  pub number : number_of a ≡ number_of a'
   pub grid-h : Pre.grid_h a ≡ Pre.grid_h a'
   pub grid-w : Pre.grid_w a ≡ Pre.grid_w a'
   pub floats : Pre.floats a ≡ Pre.floats a'
 
 abbrev pub AnswerUnseen : Type 0
-AnswerUnseen = (s : P.PictureSettings) (rgb rgb' : List ℕ) (height width : ℕ) (out out' : List Float) (a a' : Preprocessed)
+AnswerUnseen = (s : P.PictureSettings) (rgb rgb' : List ℕ) (height width : ℕ) (out out' : List Float) (a a' : Result Patches Refusal)
     → Alike rgb rgb' out out'
     → Answers s rgb height width out a
     → Answers s rgb' height width out' a'
@@ -80,7 +82,7 @@ TileUnseen = (s : PictureSettings) (rgb rgb' : List ℕ) (height width index : �
     → SameTile r r'
 
 abbrev pub TileAnswerUnseen : Type 0
-TileAnswerUnseen = (s : P.PictureSettings) (rgb rgb' : List ℕ) (height width index : ℕ) (out out' : List Float) (a a' : Tiled)
+TileAnswerUnseen = (s : P.PictureSettings) (rgb rgb' : List ℕ) (height width index : ℕ) (out out' : List Float) (a a' : Result Tile Refusal)
     → Alike rgb rgb' out out'
     → a ≡ tiled s (length rgb) height width index (length out)
     → a' ≡ tiled s (length rgb') height width index (length out')

@@ -13,14 +13,13 @@ use lib.ListN.{length, get_or}
 use Rattle.picture_limits.specs.declared.PictureSettings.{PictureSettings}
 use Rattle.picture_limits.specs.declared.Refusal.{Refusal}
 use Rattle.picture_limits.specs.declared.Refusal.TheVariants.{Setting, Side, RgbLength, ImageSize, Output, Grid, PatchesLength, Sample, WeightsLength, TableLength, Scratch, NotFinite, ConfigText, ConfigDepth, ConfigVision, Header, Tensor, Offsets, Channel, Tile, KeyHeld, NoVectors, PoolFull, KeyUnknown, PoolSlice}
-use Rattle.picture.specs.declared.Preprocessed.{Preprocessed}
-use Rattle.picture.specs.declared.Preprocessed.TheVariants as P
-use Rattle.picture_restore.specs.declared.Restored.{Restored}
-use Rattle.picture_restore.specs.declared.Restored.TheVariants as R
+use Rattle.picture.specs.declared.Patches.{Patches}
+use Rattle.std.specs.Prelude.{Result, Ok, Err}
+use Rattle.picture_restore.specs.declared.Picture.{Picture}
 use Rattle.picture_limits.specs.Refusal.{number}
 use Rattle.picture_limits.specs.Settings.{align}
 use Rattle.picture_limits.specs.Sides.{th_of, tw_of, gw_of}
-use Rattle.picture.specs.Preprocess.{floats_of, preprocessed, resized_pixel, resized_bytes, patches_of}
+use Rattle.picture.specs.Preprocess.{sized, floats_of, preprocessed, resized_pixel, resized_bytes, patches_of}
 use Rattle.picture_restore.specs.Restore.{restored, bytes_of}
 use Rattle.buffers.specs.Lent.{Bytes}
 use Rattle.picture_resize.proofs.Same.{byte-below}
@@ -88,17 +87,17 @@ grid-differs : (a b d : ℕ) (l : List ℕ) → grid_line a b d ++ l ≡ outside
 unfolding grid_line
 grid-differs a b d l e = let z : ◌≡◌ {A = ℕ} 103 114 = ap (λ (l : List ℕ). get_or l 0 0) e in omega arith
 
-restored-differs : (s : PictureSettings) (gh gw : ℕ) (bs : List ℕ) (o : Restored) → restored_text s gh gw bs o ≡ outside_line → ⊥
-restored-differs s gh gw bs (R.Picture h w) = grid-differs gh gw _ (row_lines h (w * 3) bs)
-restored-differs s gh gw bs (R.Refused r) = refused-differs r
+restored-differs : (s : PictureSettings) (gh gw : ℕ) (bs : List ℕ) (o : Result Picture Refusal) → restored_text s gh gw bs o ≡ outside_line → ⊥
+restored-differs s gh gw bs (Ok o) = grid-differs gh gw _ (row_lines o.height (o.width * 3) bs)
+restored-differs s gh gw bs (Err r) = refused-differs r
 
 ran-differs : (s : PictureSettings) (rgb : List ℕ) (h w : ℕ) → ran s rgb h w ≡ outside_line → ⊥
 unfolding ran
 ran-differs s rgb h w = go (preprocessed s (length rgb) h w (floats_of s h w))
   where
-    go : (o : Preprocessed) → preprocessed_text s rgb h w o ≡ outside_line → ⊥
-    go (P.Patches gh gw n) = restored-differs s gh gw _ (restored s (patches_of s rgb h w) gh gw (gh * s.patch_size * (gw * s.patch_size) * 3))
-    go (P.Refused r) = refused-differs r
+    go : (o : Result Patches Refusal) → preprocessed_text s rgb h w o ≡ outside_line → ⊥
+    go (Ok o) = restored-differs s o.grid_h o.grid_w _ (restored s (patches_of s rgb h w) o.grid_h o.grid_w (o.grid_h * s.patch_size * (o.grid_w * s.patch_size) * 3))
+    go (Err r) = refused-differs r
 
 pub outside-then : (t : List ℕ) → form t ≡ None → answer t ≡ outside_line
 unfolding answer
@@ -180,7 +179,7 @@ pub record Printed (t : List ℕ) (gh gw m h w : ℕ) (bs : List ℕ) : Type 0 w
   pub read : read_rows 0 (lines (row_lines h (w * 3) bs)) ≡ Some bs
 
 module _ (t : List ℕ) (q : Request) (gh gw n : ℕ) (inside : form t ≡ Some q)
-    (call : preprocessed (settings q) (length q.rgb) q.height q.width (floats_of (settings q) q.height q.width) ≡ P.Patches gh gw n) where
+    (call : preprocessed (settings q) (length q.rgb) q.height q.width (floats_of (settings q) q.height q.width) ≡ Ok (sized gh gw n)) where
   -- an accepted picture: the resized one
   pub printed : Printed t gh gw q.merge (th_of (settings q) q.height q.width) (tw_of (settings q) q.height q.width) (resized_bytes (settings q) q.rgb q.height q.width)
   unfolding answer ran
@@ -206,7 +205,7 @@ module _ (t : List ℕ) (q : Request) (gh gw n : ℕ) (inside : form t ≡ Some 
         text =
             ap answered inside ∙ ap (preprocessed_text s q.rgb h w) call
             ∙ ap (restored_text s gh gw (bytes_of s (patches_of s q.rgb h w) gh gw)) u.answer
-            ∙ ap (λ (l : List ℕ). restored_text s gh gw l (R.Picture (th_of s h w) (tw_of s h w))) u.bytes;
+            ∙ ap (λ (l : List ℕ). restored_text s gh gw l (Ok (pictured (th_of s h w) (tw_of s h w)))) u.bytes;
         read = rows_back (th_of s h w) (tw_of s h w * 3) (resized_bytes s q.rgb h w) bs (omega (arith, wide.span, times 1 1 (gw_of s h w) p g.low o.patch-low)) (length-picture (th_of s h w) (tw_of s h w) v);
       }
 

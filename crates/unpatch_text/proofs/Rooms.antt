@@ -1,5 +1,5 @@
 -- Rooms that are enough, and what preprocess and restore answer with them where no side is above 64. Assumes nothing.
-use mathlib.Core.Path.{◌≡◌, refl}
+use mathlib.Core.Path.{◌≡◌, refl, sym, ap}
 use mathlib.Core.Bool.{◌&&◌}
 use mathlib.Core.List.{List}
 use Prim.Native.Nat.{ℕ, ◌*◌, ◌≤◌, max}
@@ -13,23 +13,23 @@ use lib.Ieee.{Float}
 use Rattle.picture_limits.specs.declared.PictureSettings.{PictureSettings}
 use Rattle.picture_limits.specs.declared.Refusal.{Refusal}
 use Rattle.picture_limits.specs.declared.Refusal.TheVariants.{Setting, Channel, Output, Grid, PatchesLength, Sample}
-use Rattle.picture.specs.declared.Preprocessed.{Preprocessed}
-use Rattle.picture.specs.declared.Preprocessed.TheVariants as P
-use Rattle.picture_restore.specs.declared.Restored.{Restored}
-use Rattle.picture_restore.specs.declared.Restored.TheVariants.{Picture, Refused}
+use Rattle.picture.specs.declared.Patches.{Patches}
+use Rattle.std.specs.Prelude.{Result, Ok, Err}
+use Rattle.picture_restore.specs.declared.Picture.{Picture}
+use Rattle.picture.specs.Undo.{pictured}
 use Rattle.picture_limits.specs.Settings.{align, allowed}
 use Rattle.picture_limits.specs.Sides.{kept, resized, grid_of, gh_of, gw_of}
 use Rattle.picture_limits.specs.Places.{patch_floats}
 use Rattle.picture_limits.specs.Shape.{grid_allowed}
 use Rattle.picture.specs.Preprocess.{floats_of, preprocessed, patches_of}
 use Rattle.picture_view.specs.Known.{known}
-use Rattle.picture_restore.specs.Restore.{restored, bytes_of, bytes_left}
+use Rattle.picture_restore.specs.Restore.{height, width, restored, bytes_of, bytes_left}
 use Rattle.picture_samples.specs.Samples.{channels_allowed, value_of, pattern_of}
 use Rattle.picture_limits.proofs.Places.{times, length-picture}
 use Rattle.picture_limits.proofs.Sides.{side-le}
 use Rattle.picture_limits.proofs.Refusals.{passed}
 use Rattle.picture_limits.proofs.Shapes.{Grids, grids-say}
-use Rattle.picture.proofs.Accepts.{acceptance}
+use Rattle.picture.proofs.Accepts.{never, acceptance}
 use Rattle.unpatch_text.specs.Answer.{restored_text, preprocessed_text, ran}
 use Rattle.unpatch_text.proofs.Short.{refused-short, shown-short}
 
@@ -68,24 +68,21 @@ module _ (s : PictureSettings) (l : List Float) (gh gw : ℕ) where
     pub wide : w ≡ gw * s.patch_size
     pub grids : Grids s gh gw
 
-  never : (r : Refusal) (h w : ℕ) → Refused r ≡ Picture h w → ⊥
-  never r h w e = let z : ◌≡◌ {A = ℕ} 0 1 = cc in omega arith
-
-  pub back-says : (room h w : ℕ) → restored s l gh gw room ≡ Picture h w → Back h w
+  pub back-says : (room h w : ℕ) → restored s l gh gw room ≡ Ok (pictured h w) → Back h w
   unfolding restored
   back-says room h w e =
-      let x = Picture h w in
-      let a = passed (allowed s) _ _ x (never Setting h w) e in
-      let k = passed (channels_allowed (value_of s)) _ _ x (never Channel h w) a.1 in
-      let b = passed (grid_allowed s gh && grid_allowed s gw) _ _ x (never Grid h w) k.1 in
-      let c = passed (eqb (length l) (gh * gw * patch_floats s.patch_size)) _ _ x (never PatchesLength h w) b.1 in
-      let d = passed (leb need room) _ _ x (never Output h w) c.1 in
-      let f = passed (known (pattern_of s) s.patch_size l) _ _ x (never Sample h w) d.1 in
+      let x = Ok (pictured h w) in
+      let a = passed (allowed s) _ _ x (never Setting _) e in
+      let k = passed (channels_allowed (value_of s)) _ _ x (never Channel _) a.1 in
+      let b = passed (grid_allowed s gh && grid_allowed s gw) _ _ x (never Grid _) k.1 in
+      let c = passed (eqb (length l) (gh * gw * patch_floats s.patch_size)) _ _ x (never PatchesLength _) b.1 in
+      let d = passed (leb need room) _ _ x (never Output _) c.1 in
+      let f = passed (known (pattern_of s) s.patch_size l) _ _ x (never Sample _) d.1 in
       let g = f.1 in
-      record { tall = cc (g); wide = cc (g); grids = grids-say s gh gw a.0 b.0 }
+      record { tall = sym (ap height g); wide = sym (ap width g); grids = grids-say s gh gw a.0 b.0 }
 
   -- the restored bytes, at the front of what was left
-  pub bytes_back : (room h w : ℕ) (old : List ℕ) → restored s l gh gw room ≡ Picture h w → take (h * (w * 3)) (bytes_left (restored s l gh gw room) (bytes_of s l gh gw) old) ≡ bytes_of s l gh gw
+  pub bytes_back : (room h w : ℕ) (old : List ℕ) → restored s l gh gw room ≡ Ok (pictured h w) → take (h * (w * 3)) (bytes_left (restored s l gh gw room) (bytes_of s l gh gw) old) ≡ bytes_of s l gh gw
   bytes_back room h w old e =
       let k = back-says room h w e in
       rw (e, k.tall, k.wide) (take_at (bytes_of s l gh gw) _ _ length-bytes)
@@ -111,18 +108,18 @@ module _ (s : PictureSettings) (l : List Float) (gh gw : ℕ) where
   pub restored-short : gh * s.patch_size ≤ 64 → gw * s.patch_size ≤ 64 → (bs : List ℕ) (room : ℕ) → length (restored_text s gh gw bs (restored s l gh gw room)) ≤ 25094
   restored-short a b bs room = go (restored s l gh gw room) refl
     where
-      go : (o : Restored) → restored s l gh gw room ≡ o → length (restored_text s gh gw bs o) ≤ 25094
-      go (Refused r) e = refused-short r
-      go (Picture h w) e =
-          let k = back-small a b h w (back-says room h w e) in
-          shown-short gh gw s.spatial_merge_size h (w * 3) bs k.grid-tall k.grid-wide k.tall k.wide
+      go : (o : Result Picture Refusal) → restored s l gh gw room ≡ o → length (restored_text s gh gw bs o) ≤ 25094
+      go (Err r) e = refused-short r
+      go (Ok o) e =
+          let k = back-small a b o.height o.width (back-says room o.height o.width e) in
+          shown-short gh gw s.spatial_merge_size o.height (o.width * 3) bs k.grid-tall k.grid-wide k.tall k.wide
 
 pub ran-short : (s : PictureSettings) (rgb : List ℕ) (h w : ℕ) → s.image_size ≤ 64 → length (ran s rgb h w) ≤ 25094
 unfolding ran
 ran-short s rgb h w i = go (preprocessed s (length rgb) h w (floats_of s h w)) refl
   where
-    go : (o : Preprocessed) → preprocessed s (length rgb) h w (floats_of s h w) ≡ o → length (preprocessed_text s rgb h w o) ≤ 25094
-    go (P.Refused r) e = refused-short r
-    go (P.Patches gh gw n) e =
-        let t = acceptance s (length rgb) h w (floats_of s h w) gh gw n e in
-        restored-short s (patches_of s rgb h w) gh gw (rw t.tall (grid-span s (max h w) h i)) (rw t.wide (grid-span s (max h w) w i)) (bytes_of s (patches_of s rgb h w) gh gw) (gh * s.patch_size * (gw * s.patch_size) * 3)
+    go : (o : Result Patches Refusal) → preprocessed s (length rgb) h w (floats_of s h w) ≡ o → length (preprocessed_text s rgb h w o) ≤ 25094
+    go (Err r) e = refused-short r
+    go (Ok o) e =
+        let t = acceptance s (length rgb) h w (floats_of s h w) o.grid_h o.grid_w o.floats e in
+        restored-short s (patches_of s rgb h w) o.grid_h o.grid_w (rw t.tall (grid-span s (max h w) h i)) (rw t.wide (grid-span s (max h w) w i)) (bytes_of s (patches_of s rgb h w) o.grid_h o.grid_w) (o.grid_h * s.patch_size * (o.grid_w * s.patch_size) * 3)

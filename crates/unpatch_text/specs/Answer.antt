@@ -1,12 +1,11 @@
 -- The output text as a function of the input text. Assumes nothing.
 use Rattle.std.specs.Prelude.{cond, List, ◌++◌, ℕ, ◌*◌, ◌/◌, leb, length}
-use Rattle.std.specs.Prelude.{Option, None, Some}
+use Rattle.std.specs.Prelude.{Option, None, Some, Result, Ok, Err}
 use Rattle.buffers.specs.Region.{over}
 use Rattle.picture_limits.specs.declared.PictureSettings.{PictureSettings}
-use Rattle.picture.specs.declared.Preprocessed.{Preprocessed}
-use Rattle.picture.specs.declared.Preprocessed.TheVariants as P
-use Rattle.picture_restore.specs.declared.Restored.{Restored}
-use Rattle.picture_restore.specs.declared.Restored.TheVariants as R
+use Rattle.picture.specs.declared.Patches.{Patches}
+use Rattle.picture_restore.specs.declared.Picture.{Picture}
+use Rattle.picture_limits.specs.declared.Refusal.{Refusal}
 use Rattle.picture_limits.specs.Refusal.{number}
 use Rattle.picture.specs.Preprocess.{floats_of, preprocessed, patches_of}
 use Rattle.picture_restore.specs.Restore.{restored, bytes_of}
@@ -18,16 +17,16 @@ abbrev pub settings : Request → PictureSettings
 settings q = record { patch_size = q.patch; spatial_merge_size = q.merge; image_size = q.image; resize_rule = 1; mean = own_means; deviation = own_deviations }
 
 -- the restored bytes of a grid's patches, by what restore answers
-abbrev pub restored_text : PictureSettings → ℕ → ℕ → List ℕ → Restored → List ℕ
-restored_text s gh gw bs (R.Picture h w) = grid_line gh gw (gh * gw / (s.spatial_merge_size * s.spatial_merge_size)) ++ row_lines h (w * 3) bs
-restored_text s gh gw bs (R.Refused r) = refused_line (number r)
+abbrev pub restored_text : PictureSettings → ℕ → ℕ → List ℕ → Result Picture Refusal → List ℕ
+restored_text s gh gw bs (Ok b) = grid_line gh gw (gh * gw / (s.spatial_merge_size * s.spatial_merge_size)) ++ row_lines b.height (b.width * 3) bs
+restored_text s gh gw bs (Err r) = refused_line (number r)
 
 -- the text of a picture, by what preprocess answers; restore is given as much room as the bytes take
-abbrev pub preprocessed_text : PictureSettings → List ℕ → ℕ → ℕ → Preprocessed → List ℕ
-preprocessed_text s rgb h w (P.Patches gh gw n) =
-    restored_text s gh gw (bytes_of s (patches_of s rgb h w) gh gw)
-    (restored s (patches_of s rgb h w) gh gw (gh * s.patch_size * (gw * s.patch_size) * 3))
-preprocessed_text s rgb h w (P.Refused r) = refused_line (number r)
+abbrev pub preprocessed_text : PictureSettings → List ℕ → ℕ → ℕ → Result Patches Refusal → List ℕ
+preprocessed_text s rgb h w (Ok p) =
+    restored_text s p.grid_h p.grid_w (bytes_of s (patches_of s rgb h w) p.grid_h p.grid_w)
+    (restored s (patches_of s rgb h w) p.grid_h p.grid_w (p.grid_h * s.patch_size * (p.grid_w * s.patch_size) * 3))
+preprocessed_text s rgb h w (Err r) = refused_line (number r)
 
 -- preprocess is given as much room as the patches take
 unfoldable pub ran : PictureSettings → List ℕ → ℕ → ℕ → List ℕ

@@ -5,11 +5,9 @@ ghost use Rattle.unpatch_text.specs.Answer.{ran, room};
 ghost use Rattle.unpatch_text.specs.inner.Steps.{Wrote, Shown};
 
 use crate::print::{put_grid, put_refused, put_rows};
-use picture::Preprocessed;
 use picture::preprocess::pixtral_preprocess;
 use picture_limits::PictureSettings;
-use picture_limits::settings::number;
-use picture_restore::{Restored, restore};
+use picture_restore::restore;
 
 // The grid with merge m, and h rows of n bytes each.
 fn show(
@@ -42,25 +40,25 @@ pub(crate) fn run(
 {
     let mut patches = [0.0f32; 12288];
     let mut bytes = [0u8; 12288];
-    let made = pixtral_preprocess(s, rgb, height, width, &mut patches);
-    match made {
-        Preprocessed::Refused(r) => put_refused(number(r) as usize, out),
-        Preprocessed::Patches {
-            grid_h,
-            grid_w,
-            floats,
-        } => {
-            let back = restore(s, &patches[..floats], grid_h, grid_w, &mut bytes);
-            match back {
-                Restored::Refused(r) => put_refused(number(r) as usize, out),
-                Restored::Picture {
-                    height: h,
-                    width: w,
-                } => {
-                    let n = w * 3;
-                    let count = h * n;
+    match pixtral_preprocess(s, rgb, height, width, &mut patches) {
+        Err(r) => put_refused(u32::from(r) as usize, out),
+        Ok(made) => {
+            let part = &patches[..made.floats];
+            match restore(s, part, made.grid_h, made.grid_w, &mut bytes) {
+                Err(r) => put_refused(u32::from(r) as usize, out),
+                Ok(back) => {
+                    let n = back.width * 3;
+                    let count = back.height * n;
                     let m = s.spatial_merge_size;
-                    show(grid_h, grid_w, m, h, n, &bytes[..count], out)
+                    show(
+                        made.grid_h,
+                        made.grid_w,
+                        m,
+                        back.height,
+                        n,
+                        &bytes[..count],
+                        out,
+                    )
                 }
             }
         }

@@ -8,9 +8,9 @@ use lib.Seq.{length-take-le}
 use lib.Ieee.{Float}
 use Rattle.number_floats.specs.Constants.{zero32}
 use Rattle.picture_limits.specs.declared.PictureSettings.{PictureSettings}
-use Rattle.picture.specs.declared.Preprocessed.TheVariants as P
-use Rattle.picture_restore.specs.declared.Restored.TheVariants as R
-use Rattle.picture.specs.Preprocess.{floats_of, preprocessed, patches_of}
+use Rattle.std.specs.Prelude.{Result, Ok, Err}
+use Rattle.picture.specs.Undo.{pictured}
+use Rattle.picture.specs.Preprocess.{sized, floats_of, preprocessed, patches_of}
 use Rattle.picture_restore.specs.Restore.{restored, bytes_of}
 use Rattle.picture_limits.proofs.Places.{times}
 use Rattle.picture.proofs.Accepts.{Accepted, acceptance}
@@ -30,7 +30,7 @@ fits : (s : PictureSettings) (h w : ℕ) → s.image_size ≤ 64 → floats_of s
 fits s h w e = rw (length-replicate 12288 zero32) (floats-le s h w e)
 
 -- ---- where preprocess gives a grid and how many floats
-module _ (s : PictureSettings) (rgb : List ℕ) (height width gh gw n : ℕ) (low : s.image_size ≤ 64) (given : preprocessed s (length rgb) height width room ≡ P.Patches gh gw n) where
+module _ (s : PictureSettings) (rgb : List ℕ) (height width gh gw n : ℕ) (low : s.image_size ≤ 64) (given : preprocessed s (length rgb) height width room ≡ Ok (sized gh gw n)) where
   taken : Accepted s (length rgb) height width room gh gw n
   taken = acceptance s (length rgb) height width room _ _ _ given
 
@@ -49,11 +49,11 @@ module _ (s : PictureSettings) (rgb : List ℕ) (height width gh gw n : ℕ) (lo
   unfolding ran
   text lent t =
       let p = s.patch_size in
-      let e : preprocessed s (length rgb) height width (floats_of s height width) ≡ P.Patches gh gw n = sym (preprocess-room s (length rgb) height width room (fits s height width low)) ∙ given in
+      let e : preprocessed s (length rgb) height width (floats_of s height width) ≡ Ok (sized gh gw n) = sym (preprocess-room s (length rgb) height width room (fits s height width low)) ∙ given in
       ap (preprocessed_text s rgb height width) e ∙ sym (ap (λ (z : List Float). restored_text s gh gw (bytes_of s z gh gw) (restored s z gh gw (gh * p * (gw * p) * 3))) t)
 
 -- ---- where restore gives a picture of h rows and w columns
-module _ (s : PictureSettings) (lent : List Float) (gh gw h w : ℕ) (tall : gh * s.patch_size ≤ 64) (wide : gw * s.patch_size ≤ 64) (seen : restored s lent gh gw (length (replicate {A = ℕ} 12288 0)) ≡ R.Picture h w) where
+module _ (s : PictureSettings) (lent : List Float) (gh gw h w : ℕ) (tall : gh * s.patch_size ≤ 64) (wide : gw * s.patch_size ≤ 64) (seen : restored s lent gh gw (length (replicate {A = ℕ} 12288 0)) ≡ Ok (pictured h w)) where
   says : Back s lent gh gw h w
   says = back-says s lent gh gw _ _ _ seen
 
@@ -66,98 +66,98 @@ module _ (s : PictureSettings) (lent : List Float) (gh gw h w : ℕ) (tall : gh 
 -- src/run.rt:47:37
 pub put_refused-requires : goal.put_refused-requires
 put_refused-requires c =
-    rw c.number.ensures (omega (arith, refused-short c.in-Refused.r, c.requires.1))
+    rw c.from.ensures (omega (arith, refused-short c.in-Err.r, c.requires.1))
 
 -- src/run.rt:53:35
 pub slice_bounds-patches-end : goal.slice_bounds-patches-end
 slice_bounds-patches-end c =
     let a = c.args in
-    let f = c.in-Patches in
-    let given : preprocessed a.s (length a.rgb.now) a.height a.width room ≡ P.Patches f.grid_h f.grid_w f.floats = sym c.pixtral_preprocess-made.ensures.answer ∙ f.is in
-    let fit : f.floats ≤ length c.pixtral_preprocess-made.new.out = rw c.pixtral_preprocess-made.auto.out (inside a.s a.rgb.now a.height a.width f.grid_h f.grid_w f.floats c.requires.0 given) in
+    let f = c.in-Ok.made in
+    let given : preprocessed a.s (length a.rgb.now) a.height a.width room ≡ Ok f = sym c.pixtral_preprocess.ensures.answer ∙ c.in-Ok.is in
+    let fit : f.floats ≤ length c.pixtral_preprocess.new.out = rw c.pixtral_preprocess.auto.out (inside a.s a.rgb.now a.height a.width f.grid_h f.grid_w f.floats c.requires.0 given) in
     fit
 
 -- src/run.rt:53:35
-pub slice_bounds-restore-end : goal.slice_bounds-restore-end
-slice_bounds-restore-end c =
+pub slice_bounds-part-end : goal.slice_bounds-part-end
+slice_bounds-part-end c =
     let a = c.args in
-    let f = c.in-Patches in
-    let given : preprocessed a.s (length a.rgb.now) a.height a.width room ≡ P.Patches f.grid_h f.grid_w f.floats = sym c.pixtral_preprocess-made.ensures.answer ∙ f.is in
-    let fit : f.floats ≤ length c.pixtral_preprocess-made.new.out = rw c.pixtral_preprocess-made.auto.out (inside a.s a.rgb.now a.height a.width f.grid_h f.grid_w f.floats c.requires.0 given) in
+    let f = c.in-Ok.made in
+    let given : preprocessed a.s (length a.rgb.now) a.height a.width room ≡ Ok f = sym c.pixtral_preprocess.ensures.answer ∙ c.in-Ok.is in
+    let fit : f.floats ≤ length c.pixtral_preprocess.new.out = rw c.pixtral_preprocess.auto.out (inside a.s a.rgb.now a.height a.width f.grid_h f.grid_w f.floats c.requires.0 given) in
     sym (length-take-le _ _ fit)
 
 -- src/run.rt:55:41
-pub put_refused-requires-in-Refused-back : goal.put_refused-requires-in-Refused-back
-put_refused-requires-in-Refused-back c =
-    rw c.number-in-Refused-back.ensures (omega (arith, refused-short c.in-Refused-back.r, c.requires.1))
+pub put_refused-requires-in-Err-restore : goal.put_refused-requires-in-Err-restore
+put_refused-requires-in-Err-restore c =
+    rw c.from-in-Err-restore.ensures (omega (arith, refused-short c.in-Err-restore.r, c.requires.1))
 
 -- src/run.rt:57:29
 pub overflow_mul-n : goal.overflow_mul-n
 overflow_mul-n c =
     let a = c.args in
-    let f = c.in-Patches in
-    let given : preprocessed a.s (length a.rgb.now) a.height a.width room ≡ P.Patches f.grid_h f.grid_w f.floats = sym c.pixtral_preprocess-made.ensures.answer ∙ f.is in
+    let f = c.in-Ok.made in
+    let given : preprocessed a.s (length a.rgb.now) a.height a.width room ≡ Ok f = sym c.pixtral_preprocess.ensures.answer ∙ c.in-Ok.is in
     let high = tall a.s a.rgb.now a.height a.width f.grid_h f.grid_w f.floats c.requires.0 given in
     let broad = wide a.s a.rgb.now a.height a.width f.grid_h f.grid_w f.floats c.requires.0 given in
-    let lent : List Float = take f.floats c.pixtral_preprocess-made.new.out in
-    let q = c.in-Picture in
-    let seen : restored a.s lent f.grid_h f.grid_w (length (replicate {A = ℕ} 12288 0)) ≡ R.Picture q.h q.w = sym c.restore-back.ensures.answer ∙ q.is in
-    omega (arith, (small a.s lent f.grid_h f.grid_w q.h q.w high broad seen).wide)
+    let lent : List Float = take f.floats c.pixtral_preprocess.new.out in
+    let q = c.in-Ok-restore.back in
+    let seen : restored a.s lent f.grid_h f.grid_w (length (replicate {A = ℕ} 12288 0)) ≡ Ok q = sym c.restore.ensures.answer ∙ c.in-Ok-restore.is in
+    omega (arith, (small a.s lent f.grid_h f.grid_w q.height q.width high broad seen).wide)
 
 -- src/run.rt:58:33
 pub overflow_mul-count : goal.overflow_mul-count
 overflow_mul-count c =
     let a = c.args in
-    let f = c.in-Patches in
-    let given : preprocessed a.s (length a.rgb.now) a.height a.width room ≡ P.Patches f.grid_h f.grid_w f.floats = sym c.pixtral_preprocess-made.ensures.answer ∙ f.is in
+    let f = c.in-Ok.made in
+    let given : preprocessed a.s (length a.rgb.now) a.height a.width room ≡ Ok f = sym c.pixtral_preprocess.ensures.answer ∙ c.in-Ok.is in
     let high = tall a.s a.rgb.now a.height a.width f.grid_h f.grid_w f.floats c.requires.0 given in
     let broad = wide a.s a.rgb.now a.height a.width f.grid_h f.grid_w f.floats c.requires.0 given in
-    let lent : List Float = take f.floats c.pixtral_preprocess-made.new.out in
-    let q = c.in-Picture in
-    let seen : restored a.s lent f.grid_h f.grid_w (length (replicate {A = ℕ} 12288 0)) ≡ R.Picture q.h q.w = sym c.restore-back.ensures.answer ∙ q.is in
-    omega (arith, count-in a.s lent f.grid_h f.grid_w q.h q.w high broad seen)
+    let lent : List Float = take f.floats c.pixtral_preprocess.new.out in
+    let q = c.in-Ok-restore.back in
+    let seen : restored a.s lent f.grid_h f.grid_w (length (replicate {A = ℕ} 12288 0)) ≡ Ok q = sym c.restore.ensures.answer ∙ c.in-Ok-restore.is in
+    omega (arith, count-in a.s lent f.grid_h f.grid_w q.height q.width high broad seen)
 
 -- src/run.rt:60:56
 pub slice_bounds-bytes-end : goal.slice_bounds-bytes-end
 slice_bounds-bytes-end c =
     let a = c.args in
-    let f = c.in-Patches in
-    let given : preprocessed a.s (length a.rgb.now) a.height a.width room ≡ P.Patches f.grid_h f.grid_w f.floats = sym c.pixtral_preprocess-made.ensures.answer ∙ f.is in
+    let f = c.in-Ok.made in
+    let given : preprocessed a.s (length a.rgb.now) a.height a.width room ≡ Ok f = sym c.pixtral_preprocess.ensures.answer ∙ c.in-Ok.is in
     let high = tall a.s a.rgb.now a.height a.width f.grid_h f.grid_w f.floats c.requires.0 given in
     let broad = wide a.s a.rgb.now a.height a.width f.grid_h f.grid_w f.floats c.requires.0 given in
-    let lent : List Float = take f.floats c.pixtral_preprocess-made.new.out in
-    let q = c.in-Picture in
-    let seen : restored a.s lent f.grid_h f.grid_w (length (replicate {A = ℕ} 12288 0)) ≡ R.Picture q.h q.w = sym c.restore-back.ensures.answer ∙ q.is in
-    rw (c.restore-back.auto.out, length-replicate {A = ℕ} 12288 0) (count-in a.s lent f.grid_h f.grid_w q.h q.w high broad seen)
+    let lent : List Float = take f.floats c.pixtral_preprocess.new.out in
+    let q = c.in-Ok-restore.back in
+    let seen : restored a.s lent f.grid_h f.grid_w (length (replicate {A = ℕ} 12288 0)) ≡ Ok q = sym c.restore.ensures.answer ∙ c.in-Ok-restore.is in
+    rw (c.restore.auto.out, length-replicate {A = ℕ} 12288 0) (count-in a.s lent f.grid_h f.grid_w q.height q.width high broad seen)
 
 -- src/run.rt:60:56
 pub slice_bounds-show-end : goal.slice_bounds-show-end
 slice_bounds-show-end c =
     let a = c.args in
-    let f = c.in-Patches in
-    let given : preprocessed a.s (length a.rgb.now) a.height a.width room ≡ P.Patches f.grid_h f.grid_w f.floats = sym c.pixtral_preprocess-made.ensures.answer ∙ f.is in
+    let f = c.in-Ok.made in
+    let given : preprocessed a.s (length a.rgb.now) a.height a.width room ≡ Ok f = sym c.pixtral_preprocess.ensures.answer ∙ c.in-Ok.is in
     let high = tall a.s a.rgb.now a.height a.width f.grid_h f.grid_w f.floats c.requires.0 given in
     let broad = wide a.s a.rgb.now a.height a.width f.grid_h f.grid_w f.floats c.requires.0 given in
-    let lent : List Float = take f.floats c.pixtral_preprocess-made.new.out in
-    let q = c.in-Picture in
-    let seen : restored a.s lent f.grid_h f.grid_w (length (replicate {A = ℕ} 12288 0)) ≡ R.Picture q.h q.w = sym c.restore-back.ensures.answer ∙ q.is in
-    let fit : q.h * (q.w * 3) ≤ length c.restore-back.new.out = rw (c.restore-back.auto.out, length-replicate {A = ℕ} 12288 0) (count-in a.s lent f.grid_h f.grid_w q.h q.w high broad seen) in
+    let lent : List Float = take f.floats c.pixtral_preprocess.new.out in
+    let q = c.in-Ok-restore.back in
+    let seen : restored a.s lent f.grid_h f.grid_w (length (replicate {A = ℕ} 12288 0)) ≡ Ok q = sym c.restore.ensures.answer ∙ c.in-Ok-restore.is in
+    let fit : q.height * (q.width * 3) ≤ length c.restore.new.out = rw (c.restore.auto.out, length-replicate {A = ℕ} 12288 0) (count-in a.s lent f.grid_h f.grid_w q.height q.width high broad seen) in
     sym (length-take-le _ _ fit)
 
 -- src/run.rt:60:21
 pub show-requires : goal.show-requires
 show-requires c =
     let a = c.args in
-    let f = c.in-Patches in
-    let given : preprocessed a.s (length a.rgb.now) a.height a.width room ≡ P.Patches f.grid_h f.grid_w f.floats = sym c.pixtral_preprocess-made.ensures.answer ∙ f.is in
+    let f = c.in-Ok.made in
+    let given : preprocessed a.s (length a.rgb.now) a.height a.width room ≡ Ok f = sym c.pixtral_preprocess.ensures.answer ∙ c.in-Ok.is in
     let high = tall a.s a.rgb.now a.height a.width f.grid_h f.grid_w f.floats c.requires.0 given in
     let broad = wide a.s a.rgb.now a.height a.width f.grid_h f.grid_w f.floats c.requires.0 given in
-    let lent : List Float = take f.floats c.pixtral_preprocess-made.new.out in
-    let q = c.in-Picture in
-    let seen : restored a.s lent f.grid_h f.grid_w (length (replicate {A = ℕ} 12288 0)) ≡ R.Picture q.h q.w = sym c.restore-back.ensures.answer ∙ q.is in
-    let fit : q.h * (q.w * 3) ≤ length c.restore-back.new.out = rw (c.restore-back.auto.out, length-replicate {A = ℕ} 12288 0) (count-in a.s lent f.grid_h f.grid_w q.h q.w high broad seen) in
-    let k = small a.s lent f.grid_h f.grid_w q.h q.w high broad seen in
-    let g = (says a.s lent f.grid_h f.grid_w q.h q.w high broad seen).grids.settings in
+    let lent : List Float = take f.floats c.pixtral_preprocess.new.out in
+    let q = c.in-Ok-restore.back in
+    let seen : restored a.s lent f.grid_h f.grid_w (length (replicate {A = ℕ} 12288 0)) ≡ Ok q = sym c.restore.ensures.answer ∙ c.in-Ok-restore.is in
+    let fit : q.height * (q.width * 3) ≤ length c.restore.new.out = rw (c.restore.auto.out, length-replicate {A = ℕ} 12288 0) (count-in a.s lent f.grid_h f.grid_w q.height q.width high broad seen) in
+    let k = small a.s lent f.grid_h f.grid_w q.height q.width high broad seen in
+    let g = (says a.s lent f.grid_h f.grid_w q.height q.width high broad seen).grids.settings in
     record {
       tall = k.grid-tall;
       wide = k.grid-wide;
@@ -170,43 +170,43 @@ show-requires c =
     }
 
 -- src/run.rt:39:1
-pub returns-in-Refused : goal.returns-in-Refused
+pub returns-in-Err : goal.returns-in-Err
 unfolding ran
-returns-in-Refused c =
-    let r = c.in-Refused.r in
+returns-in-Err c =
+    let r = c.in-Err.r in
     let rgb = c.args.rgb.now in
-    let e : preprocessed c.args.s (length rgb) c.args.height c.args.width (floats_of c.args.s c.args.height c.args.width) ≡ P.Refused r = sym (preprocess-room c.args.s (length rgb) c.args.height c.args.width room (fits c.args.s c.args.height c.args.width c.requires.0)) ∙ sym c.pixtral_preprocess-made.ensures.answer ∙ c.in-Refused.is in
-    wrote_as (ap refused_line c.number.ensures ∙ sym (ap (preprocessed_text c.args.s rgb c.args.height c.args.width) e)) c.put_refused.ensures
+    let e : preprocessed c.args.s (length rgb) c.args.height c.args.width (floats_of c.args.s c.args.height c.args.width) ≡ Err r = sym (preprocess-room c.args.s (length rgb) c.args.height c.args.width room (fits c.args.s c.args.height c.args.width c.requires.0)) ∙ sym c.pixtral_preprocess.ensures.answer ∙ c.in-Err.is in
+    wrote_as (ap refused_line c.from.ensures ∙ sym (ap (preprocessed_text c.args.s rgb c.args.height c.args.width) e)) c.put_refused.ensures
 
 -- src/run.rt:39:1
-pub returns-in-Refused-back : goal.returns-in-Refused-back
-returns-in-Refused-back c =
+pub returns-in-Err-restore : goal.returns-in-Err-restore
+returns-in-Err-restore c =
     let a = c.args in
-    let f = c.in-Patches in
-    let given : preprocessed a.s (length a.rgb.now) a.height a.width room ≡ P.Patches f.grid_h f.grid_w f.floats = sym c.pixtral_preprocess-made.ensures.answer ∙ f.is in
+    let f = c.in-Ok.made in
+    let given : preprocessed a.s (length a.rgb.now) a.height a.width room ≡ Ok f = sym c.pixtral_preprocess.ensures.answer ∙ c.in-Ok.is in
     let high = tall a.s a.rgb.now a.height a.width f.grid_h f.grid_w f.floats c.requires.0 given in
     let broad = wide a.s a.rgb.now a.height a.width f.grid_h f.grid_w f.floats c.requires.0 given in
-    let lent : List Float = take f.floats c.pixtral_preprocess-made.new.out in
-    let t : lent ≡ patches_of a.s a.rgb.now a.height a.width = ap (λ (z : List Float). take f.floats z) c.pixtral_preprocess-made.ensures.output ∙ patches-front a.s a.rgb.now a.height a.width room f.grid_h f.grid_w f.floats _ given in
+    let lent : List Float = take f.floats c.pixtral_preprocess.new.out in
+    let t : lent ≡ patches_of a.s a.rgb.now a.height a.width = ap (λ (z : List Float). take f.floats z) c.pixtral_preprocess.ensures.output ∙ patches-front a.s a.rgb.now a.height a.width room f.grid_h f.grid_w f.floats _ given in
     let said = text a.s a.rgb.now a.height a.width f.grid_h f.grid_w f.floats c.requires.0 given lent t in
-    let r = c.in-Refused-back.r in
-    let e : restored a.s lent f.grid_h f.grid_w _ ≡ R.Refused r = sym (restore-room a.s lent f.grid_h f.grid_w (length (replicate {A = ℕ} 12288 0)) (bytes_fit a.s.patch_size f.grid_h f.grid_w high broad)) ∙ sym c.restore-back.ensures.answer ∙ c.in-Refused-back.is in
-    wrote_as (ap refused_line c.number-in-Refused-back.ensures ∙ sym (said ∙ ap (restored_text a.s f.grid_h f.grid_w (bytes_of a.s lent f.grid_h f.grid_w)) e)) c.put_refused-in-Refused-back.ensures
+    let r = c.in-Err-restore.r in
+    let e : restored a.s lent f.grid_h f.grid_w _ ≡ Err r = sym (restore-room a.s lent f.grid_h f.grid_w (length (replicate {A = ℕ} 12288 0)) (bytes_fit a.s.patch_size f.grid_h f.grid_w high broad)) ∙ sym c.restore.ensures.answer ∙ c.in-Err-restore.is in
+    wrote_as (ap refused_line c.from-in-Err-restore.ensures ∙ sym (said ∙ ap (restored_text a.s f.grid_h f.grid_w (bytes_of a.s lent f.grid_h f.grid_w)) e)) c.put_refused-in-Err-restore.ensures
 
 -- src/run.rt:39:1
-pub returns-in-Picture : goal.returns-in-Picture
-returns-in-Picture c =
+pub returns-in-Ok-restore : goal.returns-in-Ok-restore
+returns-in-Ok-restore c =
     let a = c.args in
-    let f = c.in-Patches in
-    let given : preprocessed a.s (length a.rgb.now) a.height a.width room ≡ P.Patches f.grid_h f.grid_w f.floats = sym c.pixtral_preprocess-made.ensures.answer ∙ f.is in
+    let f = c.in-Ok.made in
+    let given : preprocessed a.s (length a.rgb.now) a.height a.width room ≡ Ok f = sym c.pixtral_preprocess.ensures.answer ∙ c.in-Ok.is in
     let high = tall a.s a.rgb.now a.height a.width f.grid_h f.grid_w f.floats c.requires.0 given in
     let broad = wide a.s a.rgb.now a.height a.width f.grid_h f.grid_w f.floats c.requires.0 given in
-    let lent : List Float = take f.floats c.pixtral_preprocess-made.new.out in
-    let t : lent ≡ patches_of a.s a.rgb.now a.height a.width = ap (λ (z : List Float). take f.floats z) c.pixtral_preprocess-made.ensures.output ∙ patches-front a.s a.rgb.now a.height a.width room f.grid_h f.grid_w f.floats _ given in
+    let lent : List Float = take f.floats c.pixtral_preprocess.new.out in
+    let t : lent ≡ patches_of a.s a.rgb.now a.height a.width = ap (λ (z : List Float). take f.floats z) c.pixtral_preprocess.ensures.output ∙ patches-front a.s a.rgb.now a.height a.width room f.grid_h f.grid_w f.floats _ given in
     let said = text a.s a.rgb.now a.height a.width f.grid_h f.grid_w f.floats c.requires.0 given lent t in
-    let q = c.in-Picture in
-    let seen : restored a.s lent f.grid_h f.grid_w (length (replicate {A = ℕ} 12288 0)) ≡ R.Picture q.h q.w = sym c.restore-back.ensures.answer ∙ q.is in
+    let q = c.in-Ok-restore.back in
+    let seen : restored a.s lent f.grid_h f.grid_w (length (replicate {A = ℕ} 12288 0)) ≡ Ok q = sym c.restore.ensures.answer ∙ c.in-Ok-restore.is in
     let m = a.s.spatial_merge_size in
-    let e : restored a.s lent f.grid_h f.grid_w _ ≡ R.Picture q.h q.w = sym (restore-room a.s lent f.grid_h f.grid_w (length (replicate {A = ℕ} 12288 0)) (bytes_fit a.s.patch_size f.grid_h f.grid_w high broad)) ∙ seen in
-    let written = ap (λ (z : List ℕ). take (q.h * (q.w * 3)) z) c.restore-back.ensures.output ∙ bytes_back a.s lent f.grid_h f.grid_w _ q.h q.w _ seen in
-    wrote_as (ap (λ (z : List ℕ). grid_line f.grid_h f.grid_w (f.grid_h * f.grid_w / (m * m)) ++ row_lines q.h (q.w * 3) z) written ∙ sym (said ∙ ap (restored_text a.s f.grid_h f.grid_w (bytes_of a.s lent f.grid_h f.grid_w)) e)) c.show.ensures
+    let e : restored a.s lent f.grid_h f.grid_w _ ≡ Ok q = sym (restore-room a.s lent f.grid_h f.grid_w (length (replicate {A = ℕ} 12288 0)) (bytes_fit a.s.patch_size f.grid_h f.grid_w high broad)) ∙ seen in
+    let written = ap (λ (z : List ℕ). take (q.height * (q.width * 3)) z) c.restore.ensures.output ∙ bytes_back a.s lent f.grid_h f.grid_w _ q.height q.width _ seen in
+    wrote_as (ap (λ (z : List ℕ). grid_line f.grid_h f.grid_w (f.grid_h * f.grid_w / (m * m)) ++ row_lines q.height (q.width * 3) z) written ∙ sym (said ∙ ap (restored_text a.s f.grid_h f.grid_w (bytes_of a.s lent f.grid_h f.grid_w)) e)) c.show.ensures
