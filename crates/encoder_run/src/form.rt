@@ -30,7 +30,7 @@ pub fn forward_by(
         grid_w,
         patches.len(),
         weights.len(),
-        tables,
+        tables.lengths(),
         out.len(),
         scratch.len(),
         f,

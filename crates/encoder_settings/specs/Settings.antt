@@ -14,6 +14,8 @@ use Rattle.picture_limits.specs.Shape.{most, shaped}
 use Rattle.encoder_settings.specs.declared.EncoderSettings.{EncoderSettings}
 use Rattle.encoder_settings.specs.declared.Tables.{Tables}
 use Rattle.encoder_settings.specs.declared.Tables.TheVariants.{Full, Axes}
+use Rattle.encoder_settings.specs.declared.TableLengths.{TableLengths}
+use Rattle.encoder_settings.specs.declared.TableLengths.TheVariants as L
 use Rattle.encoder_settings.specs.declared.Attention.{Attention}
 use Rattle.encoder_settings.specs.declared.Attention.TheVariants.{RowWise, Plain}
 use Rattle.encoder_settings.specs.declared.settings.Accepted.{Accepted}
@@ -54,11 +56,19 @@ abbrev pub axis_tables : EncoderSettings → ℕ → ℕ → ℕ → ℕ → Boo
 axis_tables s row_cos row_sin column_cos column_sin =
     (eqb row_cos (axis_floats s) && eqb row_sin (axis_floats s)) && (eqb column_cos (axis_floats s) && eqb column_sin (axis_floats s))
 
--- by the tables of a call
+-- by the lengths of a call's tables
+abbrev pub lengths_fit : EncoderSettings → TableLengths → Bool
+lengths_fit s (L.Full cos sin) = full_tables s cos sin
+lengths_fit s (L.Axes row_cos row_sin column_cos column_sin) = axis_tables s row_cos row_sin column_cos column_sin
+
+abbrev pub lengths_of : Tables → TableLengths
+lengths_of (Full cos sin) = L.Full (length cos.now) (length sin.now)
+lengths_of (Axes row_cos row_sin column_cos column_sin) =
+    L.Axes (length row_cos.now) (length row_sin.now) (length column_cos.now) (length column_sin.now)
+
+-- and by the tables
 abbrev pub tables_fit : EncoderSettings → Tables → Bool
-tables_fit s (Full cos sin) = full_tables s (length cos.now) (length sin.now)
-tables_fit s (Axes row_cos row_sin column_cos column_sin) =
-    axis_tables s (length row_cos.now) (length row_sin.now) (length column_cos.now) (length column_sin.now)
+tables_fit s tables = lengths_fit s (lengths_of tables)
 
 abbrev pub scratch_floats : EncoderSettings → ℕ → ℕ → ℕ
 scratch_floats s t o =

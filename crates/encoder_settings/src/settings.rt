@@ -1,10 +1,10 @@
 // What a call's settings and lengths say before anything is read or written.
 ghost use Rattle.std.specs.Prelude.{◌≡◌, true};
 ghost use Rattle.encoder_settings.specs.Settings as S;
-ghost use Rattle.encoder_settings.specs.Settings.{ranged, scaling_allowed, allowed, weight_floats, table_floats, axis_floats, scratch_floats, tables_fit, few_tokens, scratch_by, checked_by};
+ghost use Rattle.encoder_settings.specs.Settings.{ranged, scaling_allowed, allowed, weight_floats, table_floats, axis_floats, scratch_floats, lengths_fit, few_tokens, scratch_by, checked_by};
 ghost use Rattle.encoder_settings.specs.inner.Bounds.{Bounded, Counted};
 
-use crate::{Attention, EncoderSettings, Tables};
+use crate::{Attention, EncoderSettings, TableLengths};
 use picture_limits::Refusal;
 use picture_limits::settings::shape;
 
@@ -95,24 +95,23 @@ pub(crate) fn few_tokens(t: usize, f: Attention) -> bool
 }
 
 // The tables have the lengths that they need.
-pub(crate) fn tables_fit(s: EncoderSettings, tables: Tables) -> bool
+pub(crate) fn tables_fit(s: EncoderSettings, tables: TableLengths) -> bool
     requires { Bounded s }
-    ensures { result ≡ tables_fit s tables.entry }
+    ensures { result ≡ lengths_fit s tables }
 {
     match tables {
-        Tables::Full { cos, sin } => {
+        TableLengths::Full { cos, sin } => {
             let n = tables_needed(s);
-            (cos.len() == n) & (sin.len() == n)
+            (cos == n) & (sin == n)
         }
-        Tables::Axes {
+        TableLengths::Axes {
             row_cos,
             row_sin,
             column_cos,
             column_sin,
         } => {
             let n = axes_needed(s);
-            ((row_cos.len() == n) & (row_sin.len() == n))
-                & ((column_cos.len() == n) & (column_sin.len() == n))
+            ((row_cos == n) & (row_sin == n)) & ((column_cos == n) & (column_sin == n))
         }
     }
 }
@@ -174,12 +173,12 @@ pub fn checked(
     grid_w: usize,
     patches: usize,
     weights: usize,
-    tables: Tables,
+    tables: TableLengths,
     out: usize,
     scratch: usize,
     f: Attention,
 ) -> Result<Accepted, Refusal>
-    ensures { result ≡ checked_by f s grid_h grid_w patches weights (tables_fit s tables.entry) out scratch }
+    ensures { result ≡ checked_by f s grid_h grid_w patches weights (lengths_fit s tables) out scratch }
 {
     if !settings_allowed(s) {
         return Err(Refusal::Setting);
