@@ -15,7 +15,7 @@ use Rattle.buffers.proofs.Regions.{length-region}
 use Rattle.picture_limits.specs.declared.Refusal as F
 use Rattle.pool_books.specs.declared.Held.{Held}
 use Rattle.pool_books.specs.declared.Pool.{Pool}
-use Rattle.pool.specs.Pool.{Pooled}
+use Rattle.pool.specs.Pool.{Pooled, Outcome}
 use Rattle.std.specs.Prelude.{Ok, Err}
 use Rattle.pool_books.specs.Lookup.{place}
 use Rattle.pool_books.specs.Book.{held, entries, with, floats, in_order, well_made, laid, has, without, key_of}
@@ -156,7 +156,7 @@ drop-case p n k = go (well_made p n) refl (has key_of k (entries p)) refl
 
 -- ---- 4. a refused call moves nothing
 
-never : (r : F.Refusal) → Ok tt ≡ Err r → ⊥
+never : (r : F.Refusal) → ◌≡◌ {A = Outcome} (Ok tt) (Err r) → ⊥
 never r e = let z : ◌≡◌ {A = ℕ} 0 1 = cc in omega arith
 
 pub add-moves : AddMoves
