@@ -20,10 +20,19 @@ some-by : (t : Bool) (n : ℕ) → 0 < cond t 1 (suc n)
 some-by true n = suc-le-suc zero-le
 some-by false n = suc-le-suc zero-le
 
-some : (stop : ℕ) (s : List ℕ) → 0 < length s → 0 < piece_len stop s
+pub some : (stop : ℕ) (s : List ℕ) → 0 < length s → 0 < piece_len stop s
 unfolding piece_len
 some stop [] h = absurd (omega arith)
 some stop (b ∷ bs) h = some-by (eqb b stop) (piece_len stop bs)
+
+-- the first piece and the rest, as a text is split behind it
+pub first_split : (stop : ℕ) (s front back : List ℕ) (n : ℕ) → 0 < length s → n ≡ piece_len stop s → front ≡ take n s → back ≡ drop n s → pieces stop s ≡ front ∷ pieces stop back
+first_split stop s front back n h e f b = rw (f, b, e) (first_piece stop s h)
+
+pub none_left : (stop : ℕ) (s : List ℕ) → length s ≤ 0 → pieces stop s ≡ []
+unfolding pieces
+none_left stop [] h = refl
+none_left stop (b ∷ bs) h = absurd (omega (arith, h))
 
 -- the whole of what is left from `at` on, as `&s[at..]` has it
 pub rest : {A : Type 0} (s : List A) (at : ℕ) → take (length s - at) (drop at s) ≡ drop at s

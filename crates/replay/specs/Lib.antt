@@ -1,6 +1,7 @@
 pub mod Decimal
 pub mod Pieces
 pub mod Line
+pub mod Lines
 pub mod Hash
 pub mod Marks
 pub mod Damage

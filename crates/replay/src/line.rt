@@ -1,8 +1,10 @@
-// The numbers of a line.
+// The lines of a text, and the numbers of a line.
 ghost use Rattle.std.specs.Prelude.{◌≡◌, ◌≤◌, length};
+ghost use Rattle.std.specs.Iterator.{at_most};
 ghost use Rattle.buffers.specs.Region.{over};
 ghost use Rattle.replay.specs.Pieces.{piece_len};
 ghost use Rattle.replay.specs.Line.{stop_of, field_of, read_of};
+ghost use Rattle.replay.specs.Lines.{bytes_left, GivesLine};
 
 use crate::decimal::read_decimal;
 
@@ -17,6 +19,36 @@ pub fn piece_len(text: &[u8], stop: u8) -> usize
         }
     }
     text.len()
+}
+
+// The lines that are left of a text, each with the newline that ends it, which the last may lack.
+#[derive(Drop)]
+pub struct Lines<'a> {
+    rest: &'a [u8],
+}
+
+pub fn lines_of(text: &[u8]) -> Lines<'_>
+    ensures { bytes_left result ≡ text.now }
+{
+    Lines { rest: text }
+}
+
+impl<'a> Iterator for Lines<'a> {
+    type Item = &'a [u8];
+
+    ghost next_gives = { GivesLine };
+
+    ghost remaining = { λ s. at_most (length (bytes_left s)) };
+
+    fn next(&mut self) -> Option<&'a [u8]> {
+        let rest = self.rest;
+        if rest.is_empty() {
+            return None;
+        }
+        let (line, after) = rest.split_at(piece_len(rest, b'\n'));
+        self.rest = after;
+        Some(line)
+    }
 }
 
 // A decimal and the byte after it.
