@@ -1,57 +1,24 @@
 -- `text::replay` meets its contract: the counts so far and the lines that are left give the tally of the whole. Assumes nothing.
-use borrow.Author.Rules.{rules}
-use Prim.Native.Nat.{ℕ, ◌+◌, ◌≤◌, ◌<◌}
-use native.Mathlib.Nat.{add-sub_cancel_left, le_trans}
-use native.Mathlib.Omega.{arith}
-use mathlib.Core.Path.{◌≡◌, sym, ◌∙◌}
-use mathlib.Core.List.{List, ◌∷◌}
-use lib.ListN.{length, take, drop, drop_of_length-le}
+use Rattle.std.proofs.Common.{◌≡◌, ℕ, ◌<◌, List, [], ◌∷◌, sym, ◌∙◌}
 use Rattle.salvage_replay.specs.Record.{place_in, tally}
-use Rattle.replay.specs.Pieces.{pieces}
 use Rattle.replay.specs.Counts.{bump}
-use Rattle.replay.proofs.Counted.{zeros, bumped}
-use Rattle.replay.proofs.Cuts.{next-piece, next-some}
+use Rattle.replay.specs.Lines.{lines_left}
+use Rattle.replay.proofs.Counted.{spent}
 use Rattle.salvage_replay.proofs.text.replay.Goals as goal
 
--- the line of r bytes from `at` on is counted
-turn : (s c : List ℕ) (at r p : ℕ)
-    → pieces 10 (drop at s) ≡ take r (drop at s) ∷ pieces 10 (drop (at + r) s)
-    → p ≡ place_in (take r (drop at s))
-    → tally c (pieces 10 (drop at s)) ≡ tally (bump c p) (pieces 10 (drop (at + r) s))
+-- one more line is counted
+turn : (c : List ℕ) (p : ℕ) (l : List ℕ) (ls rest : List (List ℕ)) → ls ≡ l ∷ rest → p ≡ place_in l → tally c ls ≡ tally (bump c p) rest
 unfolding tally
-turn s c at r p first judged = rw (first, judged)
+turn c p l ls rest first judged = rw (first, judged)
 
-pub loop-at-init : goal.loop-at-init
-loop-at-init c = (search rules, search rules, zeros 12)
-
-pub overflow_add-counts : goal.overflow_add-counts
-overflow_add-counts c =
-    omega (arith, c.loop-at.invariant.2 c.judge-i.result)
-
-pub loop-at-smaller : goal.loop-at-smaller
-loop-at-smaller c =
-    let s = c.args.text.now in
-    let h : c.loop-at.at < length s = omega arith in
-    omega (arith, next-some 10 s c.loop-at.at c.piece_len.result h c.piece_len.ensures.first)
-
-pub loop-at-preserved : goal.loop-at-preserved
-loop-at-preserved c =
-    let s = c.args.text.now in
-    let r = c.piece_len.result in
-    let p = c.judge-i.result in
-    let h : c.loop-at.at < length s = omega arith in
-    let first = next-piece 10 s c.loop-at.at r h c.piece_len.ensures.first in
-    let some = next-some 10 s c.loop-at.at r h c.piece_len.ensures.first in
-    let judged : p ≡ place_in (take r (drop c.loop-at.at s)) = rw (add-sub_cancel_left c.loop-at.at r) at c.judge-i.ensures.0 in
-    let more : c.loop-at.at + 1 ≤ c.loop-at.at + r = omega arith in (
-      search rules,
-      sym (turn s c.loop-at.counts c.loop-at.at r p first judged) ∙ c.loop-at.invariant.1,
-      λ i. le_trans (bumped c.loop-at.counts p c.loop-at.at c.loop-at.invariant.2 i) more,
-    )
+pub loop-line-preserved : goal.loop-line-preserved
+loop-line-preserved c = (
+  sym (turn c.loop-line.counts c.judge-i.result _ _ _ c.in-Some.ensures.steps.0 c.judge-i.ensures.0) ∙ c.loop-line.invariant.0,
+  spent c.loop-line.counts c.judge-i.result _ _ _ c.loop-line.invariant.1 c.in-Some.ensures.steps.1,
+)
 
 pub returns : goal.returns
-unfolding pieces tally
+unfolding tally
 returns c =
-    let s = c.args.text.now in
-    let h : length s ≤ c.loop-at.at = omega arith in
-    rw (drop_of_length-le s {i = c.loop-at.at} h) at c.loop-at.invariant.1
+    let e : lines_left c.loop-line.line-iterator ≡ [] = c.in-None.ensures.steps in
+    rw e at c.loop-line.invariant.0
