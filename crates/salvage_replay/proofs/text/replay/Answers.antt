@@ -1,5 +1,5 @@
 -- `text::replay` meets its contract: the counts so far and the lines that are left give the tally of the whole. Assumes nothing.
-use Rattle.std.proofs.Common.{◌≡◌, ℕ, ◌<◌, List, [], ◌∷◌, sym, ◌∙◌}
+use Rattle.std.proofs.Common.{◌≡◌, ℕ, List, [], ◌∷◌, sym, ◌∙◌}
 use Rattle.salvage_replay.specs.Record.{place_in, tally}
 use Rattle.replay.specs.Counts.{bump}
 use Rattle.replay.specs.Lines.{lines_left}
