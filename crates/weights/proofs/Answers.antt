@@ -18,13 +18,11 @@ use Rattle.picture_limits.specs.declared.Refusal.{Refusal}
 use Rattle.picture_limits.specs.declared.Refusal.TheVariants.{Output, Header, Tensor, Offsets}
 use Rattle.tensor_header.specs.Tensors.{tensors, entry_at, count_at}
 use Rattle.tensor_header.specs.Header.{place_in}
-use Rattle.weights.specs.File.{found_in, firstly, place_of, at, judged}
-use Rattle.weights.specs.inner.Described.{failing, refused_at, Holds}
+use Rattle.weights.specs.File.{Found, found_in, is_damaged, is_other, is_misplaced, firstly, place_of, at, judged}
+use Rattle.weights.specs.inner.Described.{refused_at, Holds}
 use Rattle.weights.specs.inner.Filled.{AllGood}
 use Rattle.weights.specs.File.{Weighed, refuse}
 use Rattle.std.specs.Prelude.{Ok}
-use Rattle.weights.specs.declared.test.Test.{Test}
-use Rattle.weights.specs.declared.test.Test.TheVariants as T
 
 -- ---- one test behind the other
 
@@ -76,45 +74,45 @@ module _ (s : EncoderSettings) (h places : List ℕ) (es : List Entry) (o : Hold
   refuses : (why : Refusal) (i : ℕ) → i < length (tensors s) → refused_at why (get_or places i 0) i ≡ at why h (entry_at (tensors s) es) i
   refuses why i x = ap (refuse why (suc i)) (place-told h 32 (get_or places i 0) (entry_at (tensors s) es i) (o.stands i x) (o.place i x))
 
-  abbrev passes : Test → ℕ → Bool
-  passes test i = failing test bytes (count_at (tensors s) i) (found_in (entry_at (tensors s) es i))
+  abbrev passes : (ℕ → Found → Bool) → ℕ → Bool
+  passes test i = test (count_at (tensors s) i) (found_in (entry_at (tensors s) es i))
 
-  abbrev FirstOf : Test → ℕ → Type 0
+  abbrev FirstOf : (ℕ → Found → Bool) → ℕ → Type 0
   FirstOf test i = i ≡ first (length (tensors s)) (passes test)
 
   abbrev last : Weighed
   last = cond (ltb room (weight_floats s)) (refuse Output 0 0) (Ok (weight_floats s))
 
   abbrev third : Weighed
-  third = firstly (length (tensors s)) (passes T.Misplaced) (at Offsets h (entry_at (tensors s) es)) last
+  third = firstly (length (tensors s)) (passes (is_misplaced bytes)) (at Offsets h (entry_at (tensors s) es)) last
 
   abbrev second : Weighed
-  second = firstly (length (tensors s)) (passes T.Other) (at Tensor h (entry_at (tensors s) es)) third
+  second = firstly (length (tensors s)) (passes is_other) (at Tensor h (entry_at (tensors s) es)) third
 
-  all-is : firstly (length (tensors s)) (passes T.Damaged) (at Header h (entry_at (tensors s) es)) second ≡ judged s h es bytes room
+  all-is : firstly (length (tensors s)) (passes (λ n f. is_damaged f)) (at Header h (entry_at (tensors s) es)) second ≡ judged s h es bytes room
   unfolding judged
   all-is = refl
 
-  pub is-16 : (i : ℕ) → FirstOf T.Damaged i → i < length (tensors s) → refused_at Header (get_or places i 0) i ≡ judged s h es bytes room
-  is-16 i e x = refuses Header i x ∙ firstly-at _ (passes T.Damaged) (at Header h (entry_at (tensors s) es)) second i e x ∙ all-is
+  pub is-16 : (i : ℕ) → FirstOf (λ n f. is_damaged f) i → i < length (tensors s) → refused_at Header (get_or places i 0) i ≡ judged s h es bytes room
+  is-16 i e x = refuses Header i x ∙ firstly-at _ (passes (λ n f. is_damaged f)) (at Header h (entry_at (tensors s) es)) second i e x ∙ all-is
 
-  module _ (i : ℕ) (e : FirstOf T.Damaged i) (p : length (tensors s) ≤ i) where
+  module _ (i : ℕ) (e : FirstOf (λ n f. is_damaged f) i) (p : length (tensors s) ≤ i) where
     from_second : second ≡ judged s h es bytes room
-    from_second = firstly-past _ (passes T.Damaged) (at Header h (entry_at (tensors s) es)) second i e p ∙ all-is
+    from_second = firstly-past _ (passes (λ n f. is_damaged f)) (at Header h (entry_at (tensors s) es)) second i e p ∙ all-is
 
-    pub is-17 : (j : ℕ) → FirstOf T.Other j → j < length (tensors s) → refused_at Tensor (get_or places j 0) j ≡ judged s h es bytes room
-    is-17 j f x = refuses Tensor j x ∙ firstly-at _ (passes T.Other) (at Tensor h (entry_at (tensors s) es)) third j f x ∙ from_second
+    pub is-17 : (j : ℕ) → FirstOf is_other j → j < length (tensors s) → refused_at Tensor (get_or places j 0) j ≡ judged s h es bytes room
+    is-17 j f x = refuses Tensor j x ∙ firstly-at _ (passes is_other) (at Tensor h (entry_at (tensors s) es)) third j f x ∙ from_second
 
-    module _ (j : ℕ) (f : FirstOf T.Other j) (q : length (tensors s) ≤ j) where
+    module _ (j : ℕ) (f : FirstOf is_other j) (q : length (tensors s) ≤ j) where
       from-third : third ≡ judged s h es bytes room
-      from-third = firstly-past _ (passes T.Other) (at Tensor h (entry_at (tensors s) es)) third j f q ∙ from_second
+      from-third = firstly-past _ (passes is_other) (at Tensor h (entry_at (tensors s) es)) third j f q ∙ from_second
 
-      pub is-18 : (k : ℕ) → FirstOf T.Misplaced k → k < length (tensors s) → refused_at Offsets (get_or places k 0) k ≡ judged s h es bytes room
-      is-18 k g x = refuses Offsets k x ∙ firstly-at _ (passes T.Misplaced) (at Offsets h (entry_at (tensors s) es)) last k g x ∙ from-third
+      pub is-18 : (k : ℕ) → FirstOf (is_misplaced bytes) k → k < length (tensors s) → refused_at Offsets (get_or places k 0) k ≡ judged s h es bytes room
+      is-18 k g x = refuses Offsets k x ∙ firstly-at _ (passes (is_misplaced bytes)) (at Offsets h (entry_at (tensors s) es)) last k g x ∙ from-third
 
-      module _ (k : ℕ) (g : FirstOf T.Misplaced k) (u : length (tensors s) ≤ k) where
+      module _ (k : ℕ) (g : FirstOf (is_misplaced bytes) k) (u : length (tensors s) ≤ k) where
         from_last : last ≡ judged s h es bytes room
-        from_last = firstly-past _ (passes T.Misplaced) (at Offsets h (entry_at (tensors s) es)) last k g u ∙ from-third
+        from_last = firstly-past _ (passes (is_misplaced bytes)) (at Offsets h (entry_at (tensors s) es)) last k g u ∙ from-third
 
         pub is-5 : room < weight_floats s → refuse Output 0 0 ≡ judged s h es bytes room
         is-5 x = rw (← from_last, lt-ltb room (weight_floats s) x) refl
@@ -126,9 +124,9 @@ module _ (s : EncoderSettings) (h places : List ℕ) (es : List Entry) (o : Hold
   pub all-good : (m : ℕ) → judged s h es bytes room ≡ Ok m → AllGood s es bytes × (weight_floats s ≤ room)
   all-good m e =
       let n = length (tensors s) in
-      let a = firstly-floats n (passes T.Damaged) Header h (entry_at (tensors s) es) second m (all-is ∙ e) in
-      let b = firstly-floats n (passes T.Other) Tensor h (entry_at (tensors s) es) third m a.1 in
-      let c = firstly-floats n (passes T.Misplaced) Offsets h (entry_at (tensors s) es) last m b.1 in
+      let a = firstly-floats n (passes (λ n f. is_damaged f)) Header h (entry_at (tensors s) es) second m (all-is ∙ e) in
+      let b = firstly-floats n (passes is_other) Tensor h (entry_at (tensors s) es) third m a.1 in
+      let c = firstly-floats n (passes (is_misplaced bytes)) Offsets h (entry_at (tensors s) es) last m b.1 in
       (λ i x. record { damaged = a.0 i x; other = b.0 i x; misplaced = c.0 i x }, roomy (ltb room (weight_floats s)) refl c.1)
     where
       roomy : (t : Bool) → ltb room (weight_floats s) ≡ t → cond t (refuse Output 0 0) (Ok (weight_floats s)) ≡ Ok m → weight_floats s ≤ room

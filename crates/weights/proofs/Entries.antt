@@ -1,5 +1,5 @@
 -- What is read at the place of an entry is what the entry says. Assumes nothing.
-use Rattle.std.specs.Prelude.{Option, None, Some}
+use Rattle.std.specs.Prelude.{Option, None, Some, Result, Ok, Err}
 use mathlib.Core.Path.{◌≡◌, refl, sym, ap, subst, ◌∙◌}
 use mathlib.Core.Bool.{true, cond}
 use mathlib.Core.List.{List, [], ◌∷◌}
@@ -24,11 +24,9 @@ use Rattle.json_lists.proofs.Listing.{list_law}
 use Rattle.tensor_values.specs.declared.Kind.{Kind}
 use Rattle.tensor_values.specs.declared.Kind.TheVariants.{F32, BF16, F16}
 use Rattle.weights.specs.File.{string_of, string_in, sizes_in, described_by, found_by, found_in, kind_of}
-use Rattle.weights.specs.inner.Described.{dtype_by, dtype_of, Dtyped, Sized, by_kind, made_of, summary_by, summary, Describes}
-use Rattle.weights.specs.declared.entry.Dtype.{Dtype}
-use Rattle.weights.specs.declared.entry.Dtype.TheVariants.{Absent}
-use Rattle.weights.specs.declared.entry.Described.{Described}
-use Rattle.weights.specs.declared.entry.Described.TheVariants as D
+use Rattle.weights.specs.inner.Described.{dtype_by, dtype_of, Dtyped, Sized, Kept, made_of, summary, Describes}
+use Rattle.weights.specs.declared.entry.Undescribed.{Undescribed}
+use Rattle.weights.specs.declared.entry.Undescribed.TheVariants.{Missing, Damaged}
 
 -- ---- strings
 
@@ -84,7 +82,7 @@ module _ (h : List ℕ) (at : ℕ) where
 -- ---- dtypes
 
 module _ {b : ℕ} {t : List ℕ} where
-  no-dtype : {o : Option (List ℕ)} → Strung b t o → (b ≡ 0x22 → ⊥) → Absent ≡ dtype_of o
+  no-dtype : {o : Option (List ℕ)} → Strung b t o → (b ≡ 0x22 → ⊥) → Err Damaged ≡ dtype_of o
   no-dtype (unstrung h) n = refl
   no-dtype (strung e f) n = absurd (n e)
 
@@ -94,21 +92,21 @@ module _ {b : ℕ} {t : List ℕ} where
   dtype-is (strung {s = s} q f) e = rw (f (word "F32") (ascii (word "F32") refl), f (word "BF16") (ascii (word "BF16") refl), f (word "F16") (ascii (word "F16") refl)) refl
 
 module _ (h : List ℕ) (at : ℕ) where
-  pub no_place : at ≡ 0 → Dtyped h at Absent
+  pub no_place : at ≡ 0 → Dtyped h at (Err Damaged)
   no_place z = record { is = λ k o s e. of k o s e }
     where
-      of : (k : ℕ) (o : Option Entry) → Stands h k o → at ≡ place_of h o → Absent ≡ dtype_of (string_in o)
+      of : (k : ℕ) (o : Option Entry) → Stands h k o → at ≡ place_of h o → Err Damaged ≡ dtype_of (string_in o)
       of k o nowhere e = refl
       of k o (somewhere a b c l) e = absurd (omega arith)
 
   module _ (n : at ≡ 0 → ⊥) where
-    pub past-text : length h ≤ at → Dtyped h at Absent
+    pub past-text : length h ≤ at → Dtyped h at (Err Damaged)
     past-text x = record { is = λ k o s e. let i = is-inside h at k o s e n in absurd (omega arith) }
 
-    pub no-string : (get_or h at 0 ≡ 0x22 → ⊥) → Dtyped h at Absent
+    pub no-string : (get_or h at 0 ≡ 0x22 → ⊥) → Dtyped h at (Err Damaged)
     no-string x = record { is = λ k o s e. no-dtype (strung-at h at k o s e n (is-inside h at k o s e n)) x }
 
-    pub a-string : get_or h at 0 ≡ 0x22 → (r : Dtype) → r ≡ dtype_by (cond (name_is (word "F32") (drop (at + 1) h)) (Some F32) (cond (name_is (word "BF16") (drop (at + 1) h)) (Some BF16) (cond (name_is (word "F16") (drop (at + 1) h)) (Some F16) None))) → Dtyped h at r
+    pub a-string : get_or h at 0 ≡ 0x22 → (r : Result Kind Undescribed) → r ≡ dtype_by (cond (name_is (word "F32") (drop (at + 1) h)) (Some F32) (cond (name_is (word "BF16") (drop (at + 1) h)) (Some BF16) (cond (name_is (word "F16") (drop (at + 1) h)) (Some F16) None))) → Dtyped h at r
     a-string x r q = record { is = λ k o s e. q ∙ dtype-is (strung-at h at k o s e n (is-inside h at k o s e n)) x }
 
   -- ---- lists
@@ -143,18 +141,14 @@ made-is (Some t) None c = refl
 made-is (Some t) (Some n) None = refl
 made-is (Some t) (Some n) (Some []) = refl
 made-is (Some t) (Some n) (Some (x ∷ [])) = refl
-made-is (Some t) (Some n) (Some (x ∷ (y ∷ []))) = of (kind_of t)
-  where
-    of : (k : Option Kind) → by_kind (dtype_by k) (held (product n)) x y ≡ summary_by n x y k
-    of None = refl
-    of (Some k) = refl
+made-is (Some t) (Some n) (Some (x ∷ (y ∷ []))) = refl
 made-is (Some t) (Some n) (Some (x ∷ (y ∷ (z ∷ l)))) = rw (ne_eqb (suc (suc (suc (length l)))) 2 (λ e. omega arith)) refl
 
 module _ (h : List ℕ) (at : ℕ) where
-  pub no-entry : at ≡ 0 → Describes h at D.Missing
+  pub no-entry : at ≡ 0 → Describes h at (Err Missing)
   no-entry z = record { is = λ k o q s e. of k o s e }
     where
-      of : (k : ℕ) (o : Option Entry) → Stands h k o → at ≡ place_of h o → D.Missing ≡ summary (found_in o)
+      of : (k : ℕ) (o : Option Entry) → Stands h k o → at ≡ place_of h o → Err Missing ≡ summary (found_in o)
       of k o nowhere e = refl
       of k o (somewhere a b c l) e = absurd (omega arith)
 
@@ -165,7 +159,7 @@ module _ (h : List ℕ) (at : ℕ) where
         let u : drop at h ≡ x.from = ap (λ (m : ℕ). drop m h) e ∙ b in
         (found h w at x.value u, z.value x.level x.from x.to u (omega arith) (ascii w a) x.value)
 
-    pub an-entry : (at ≡ 0 → ⊥) → {d : Dtype} {u v : Option Sizes} {r : Described} → Dtyped h t d → Sized h s u → Sized h o v → r ≡ made_of d u v → Describes h at r
+    pub an-entry : (at ≡ 0 → ⊥) → {d : Result Kind Undescribed} {u v : Option Sizes} {r : Kept} → Dtyped h t d → Sized h s u → Sized h o v → r ≡ made_of d u v → Describes h at r
     unfolding found_by place_of
     an-entry n {d} {u} {v} {r} x y z m = record { is = λ k p q w e. of k p q w e }
       where

@@ -1,5 +1,5 @@
 -- Tensors written one behind the other. Assumes nothing.
-use Rattle.std.specs.Prelude.{Option, None, Some}
+use Rattle.std.specs.Prelude.{Option, None, Some, Ok}
 use mathlib.Core.Path.{◌≡◌, refl, sym, ap, ◌∙◌}
 use mathlib.Core.Bool.{true, false, ◌&&◌, false≢true}
 use mathlib.Core.List.{List, ◌++◌, append-nil}
@@ -25,12 +25,11 @@ use Rattle.tensor_values.specs.Values.{size_of, values_of}
 use Rattle.tensor_values.proofs.Laws.{length-values}
 use Rattle.tensor_header.specs.Tensors.{tensors, entry_at, count_at}
 use Rattle.weights.specs.File.{Found, missing, damaged, described, found_in, kind_of, other_count, misplaced_by, floats_in, weights_in}
-use Rattle.weights.specs.inner.Described.{summary}
+use Rattle.weights.specs.inner.Described.{Kept, summary}
 use Rattle.weights.specs.inner.Sums.{sum_to}
 use Rattle.weights.specs.inner.Filled.{PutsOne, Good, AllGood}
 use Rattle.weights.proofs.Sums.{sum_is}
 use Rattle.weights.specs.declared.entry.Described.{Described}
-use Rattle.weights.specs.declared.entry.Described.TheVariants as D
 
 -- ---- one
 
@@ -79,10 +78,10 @@ whole count F16 = omega arith
 floats-of : (bytes : List ℕ) (f : Found) (dtype shape : List ℕ) (begin end : ℕ) (k : Kind) (n : ℕ) → f ≡ described dtype shape begin end → kind_of dtype ≡ Some k → end - begin ≡ n → floats_in bytes f ≡ values_of k (region bytes begin n)
 floats-of bytes f dtype shape begin end k n e q l = rw (e, q, l) refl
 
-summary-of : (f : Found) (dtype shape : List ℕ) (begin end : ℕ) (k : Kind) → f ≡ described dtype shape begin end → kind_of dtype ≡ Some k → summary f ≡ D.Known k (held (product shape)) begin end
+summary-of : (f : Found) (dtype shape : List ℕ) (begin end : ℕ) (k : Kind) → f ≡ described dtype shape begin end → kind_of dtype ≡ Some k → summary f ≡ Ok (record { kind = k; count = held (product shape); begin = begin; end = end })
 summary-of f dtype shape begin end k e q = rw (e, q) refl
 
-known : {k m : Kind} {n o begin x end y : ℕ} → D.Known k n begin end ≡ D.Known m o x y → (k ≡ m) × (begin ≡ x)
+known : {v w : Described} → ◌≡◌ {A = Kept} (Ok v) (Ok w) → (v.kind ≡ w.kind) × (v.begin ≡ w.begin)
 known e = (cc, cc)
 
 values-long : (bytes : List ℕ) (begin count : ℕ) (k : Kind) → begin + count * size_of k ≤ length bytes → length (values_of k (region bytes begin (count * size_of k))) ≡ count
@@ -95,14 +94,14 @@ module _ (bytes : List ℕ) (count : ℕ) (f : Found) (g : Good (length bytes) c
       let o = stored (length bytes) count f g in
       ap length (floats-of bytes f o.dtype o.shape o.begin o.end o.kind (count * size_of o.kind) o.is o.kind-is o.long) ∙ values-long bytes o.begin count o.kind o.inside
 
-  pub kept_by : (d : Described) → d ≡ summary f → (k : Kind) (n begin end : ℕ) → d ≡ D.Known k n begin end → floats_in bytes f ≡ values_of k (region bytes begin (count * size_of k))
-  kept_by d e k n begin end h =
+  pub kept_by : (d : Kept) → d ≡ summary f → (v : Described) → d ≡ Ok v → floats_in bytes f ≡ values_of v.kind (region bytes v.begin (count * size_of v.kind))
+  kept_by d e v h =
       let o = stored (length bytes) count f g in
       let z = known (sym h ∙ e ∙ summary-of f o.dtype o.shape o.begin o.end o.kind o.is o.kind-is) in
       floats-of bytes f o.dtype o.shape o.begin o.end o.kind (count * size_of o.kind) o.is o.kind-is o.long ∙ rw (z.0, z.1) refl
 
-  pub not_known : (d : Described) → d ≡ summary f → ((k : Kind) (n begin end : ℕ) → d ≡ D.Known k n begin end → ⊥) → ⊥
-  not_known d e h = let o = stored (length bytes) count f g in h o.kind (held (product o.shape)) o.begin o.end (e ∙ summary-of f o.dtype o.shape o.begin o.end o.kind o.is o.kind-is)
+  pub not_known : (d : Kept) → d ≡ summary f → ((v : Described) → d ≡ Ok v → ⊥) → ⊥
+  not_known d e h = let o = stored (length bytes) count f g in h _ (e ∙ summary-of f o.dtype o.shape o.begin o.end o.kind o.is o.kind-is)
 
 -- no count of bytes wraps
 pub few : (n r : ℕ) (k : Kind) → r ≡ size_of k → n ≤ 67108864 → n * r ≤ 268435456
@@ -112,13 +111,13 @@ few n r F16 e h = rw e (omega arith)
 
 -- its bytes as the code takes them
 pub known-part :
-    (bytes : List ℕ) (count : ℕ) (f : Found) (g : Good (length bytes) count f) (d : Described) → d ≡ summary f →
-    (k : Kind) (n begin end : ℕ) → d ≡ D.Known k n begin end →
+    (bytes : List ℕ) (count : ℕ) (f : Found) (g : Good (length bytes) count f) (d : Kept) → d ≡ summary f →
+    (t : Described) → d ≡ Ok t →
     (at : ℕ) (before after : List ℕ) → at + count ≤ length before →
-    (size : ℕ) → size ≡ size_of k → (own : List ℕ) → own ≡ region bytes begin (count * size) → PutsOne k own at count before after →
+    (size : ℕ) → size ≡ size_of t.kind → (own : List ℕ) → own ≡ region bytes t.begin (count * size) → PutsOne t.kind own at count before after →
     after ≡ put before at (floats_in bytes f)
-known-part bytes count f g d e k n begin end q at before after h size z own o p =
-    let v : floats_in bytes f ≡ values_of k own = kept_by bytes count f g d e k n begin end q ∙ sym (ap (values_of k) (o ∙ ap (λ (m : ℕ). region bytes begin (count * m)) z)) in
+known-part bytes count f g d e t q at before after h size z own o p =
+    let v : floats_in bytes f ≡ values_of t.kind own = kept_by bytes count f g d e t q ∙ sym (ap (values_of t.kind) (o ∙ ap (λ (m : ℕ). region bytes t.begin (count * m)) z)) in
     p.is (sym (ap length v) ∙ floats-long bytes count f g) h ∙ ap (put before at) (sym v)
 
 -- ---- one behind the other

@@ -1,6 +1,6 @@
 -- The tests on what is kept of an entry are those on what the header says. Assumes nothing.
 use Rattle.std.specs.Prelude.{Option, None, Some}
-use mathlib.Core.Path.{◌≡◌, refl, sym, ap, ◌∙◌}
+use mathlib.Core.Path.{◌≡◌, refl, sym, ap, subst, ◌∙◌}
 use mathlib.Core.Bool.{Bool, true, false, not}
 use mathlib.Core.List.{List}
 use Prim.Native.Nat.{ℕ, ◌^◌, ◌<◌}
@@ -16,11 +16,8 @@ use Rattle.encoder_settings.specs.declared.EncoderSettings.{EncoderSettings}
 use Rattle.encoder_settings.specs.Settings.{allowed}
 use Rattle.tensor_values.specs.declared.Kind.{Kind}
 use Rattle.tensor_header.specs.Tensors.{tensors, entry_at, count_at}
-use Rattle.weights.specs.File.{Found, missing, damaged, described, found_in, kind_of, other_count, misplaced_by}
-use Rattle.weights.specs.inner.Described.{summary_by, summary, Describes, fails_damaged, fails_other, fails_misplaced, fails, failing, Holds}
-use Rattle.weights.specs.declared.test.Test.{Test}
-use Rattle.weights.specs.declared.test.Test.TheVariants as T
-use Rattle.weights.specs.declared.entry.Described.{Described}
+use Rattle.weights.specs.File.{Found, missing, damaged, described, found_in, kind_of, is_damaged, is_other, is_misplaced, other_count, misplaced_by}
+use Rattle.weights.specs.inner.Described.{summary_by, Kept, summary, Describes, fails_damaged, fails_other, fails_misplaced, Holds}
 use Rattle.weights.proofs.Sums.{counts-positive}
 
 -- a product that is not held is no count
@@ -43,23 +40,27 @@ misplaced-is : (bytes count : ℕ) (shape : List ℕ) (begin end : ℕ) (k : Opt
 misplaced-is bytes count shape begin end None = refl
 misplaced-is bytes count shape begin end (Some k) = refl
 
-fails-is : (test : Test) (bytes count : ℕ) → 0 < count → count < 2 ^ 64 → (f : Found) → fails test bytes count (summary f) ≡ failing test bytes count f
-fails-is T.Damaged bytes count h l missing = refl
-fails-is T.Damaged bytes count h l damaged = refl
-fails-is T.Damaged bytes count h l (described dtype shape begin end) = damaged-is shape begin end (kind_of dtype)
-fails-is T.Other bytes count h l missing = refl
-fails-is T.Other bytes count h l damaged = refl
-fails-is T.Other bytes count h l (described dtype shape begin end) = other-is count h l shape begin end (kind_of dtype)
-fails-is T.Misplaced bytes count h l missing = refl
-fails-is T.Misplaced bytes count h l damaged = refl
-fails-is T.Misplaced bytes count h l (described dtype shape begin end) = misplaced-is bytes count shape begin end (kind_of dtype)
+pub damaged-found : (f : Found) → fails_damaged (summary f) ≡ is_damaged f
+damaged-found missing = refl
+damaged-found damaged = refl
+damaged-found (described dtype shape begin end) = damaged-is shape begin end (kind_of dtype)
+
+pub other-found : (count : ℕ) → 0 < count → count < 2 ^ 64 → (f : Found) → fails_other count (summary f) ≡ is_other count f
+other-found count h l missing = refl
+other-found count h l damaged = refl
+other-found count h l (described dtype shape begin end) = other-is count h l shape begin end (kind_of dtype)
+
+pub misplaced-found : (bytes count : ℕ) (f : Found) → fails_misplaced bytes count (summary f) ≡ is_misplaced bytes count f
+misplaced-found bytes count missing = refl
+misplaced-found bytes count damaged = refl
+misplaced-found bytes count (described dtype shape begin end) = misplaced-is bytes count shape begin end (kind_of dtype)
 
 module _ (s : EncoderSettings) (h places : List ℕ) (es : List Entry) (a : allowed s ≡ true) (o : Holds s h places es) where
   -- what is described at the place of tensor i is what the header says of it
-  pub kept-is : (i : ℕ) → i < length (tensors s) → (d : Described) → Describes h (get_or places i 0) d → d ≡ summary (found_in (entry_at (tensors s) es i))
+  pub kept-is : (i : ℕ) → i < length (tensors s) → (d : Kept) → Describes h (get_or places i 0) d → d ≡ summary (found_in (entry_at (tensors s) es i))
   kept-is i x d q = q.is 32 (entry_at (tensors s) es i) (omega arith) (o.stands i x) (o.place i x)
 
-  pub tried : (test : Test) (bytes i : ℕ) → i < length (tensors s) → (d : Described) (n : ℕ) (r : Bool) → n ≡ count_at (tensors s) i → Describes h (get_or places i 0) d → r ≡ fails test bytes n d → r ≡ failing test bytes (count_at (tensors s) i) (found_in (entry_at (tensors s) es i))
-  tried test bytes i x d n r e q z =
+  pub tried : (answers : Kept → ℕ → Bool → Type 0) (f : ℕ → Found → Bool) → ((x : Found) (count : ℕ) (b : Bool) → 0 < count → count < 2 ^ 64 → answers (summary x) count b → b ≡ f count x) → (i : ℕ) → i < length (tensors s) → (d : Kept) (n : ℕ) (r : Bool) → n ≡ count_at (tensors s) i → Describes h (get_or places i 0) d → answers d n r → r ≡ f (count_at (tensors s) i) (found_in (entry_at (tensors s) es i))
+  tried answers f told i x d n r e q z =
       let c = counts-positive s a i x in
-      z ∙ rw (e, kept-is i x d q) (fails-is test bytes (count_at (tensors s) i) c.0 (omega arith) (found_in (entry_at (tensors s) es i)))
+      told _ _ r c.0 (omega (arith, c.1)) (subst (λ (m : ℕ). answers (summary (found_in (entry_at (tensors s) es i))) m r) e (subst (λ (k : Kept). answers k n r) (kept-is i x d q) z))

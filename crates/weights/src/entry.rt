@@ -2,33 +2,28 @@
 ghost use Rattle.std.specs.Prelude.{◌≡◌, cond, drop};
 ghost use Rattle.json_members.specs.inner.Bytes.{name_is};
 ghost use Rattle.json_members.specs.inner.Turns.{Finds, Gets};
-ghost use Rattle.weights.specs.inner.Described.{Dtyped, Sized, by_kind, made_of, Describes};
+ghost use Rattle.weights.specs.inner.Described.{Dtyped, Sized, made_of, Describes};
 
 use json_lists::{Sizes, read_sizes};
 use json_members::member::read_member;
 use json_members::name::name_is;
 use tensor_values::Kind;
 
-// An entry's dtype: none of the three, or no string.
-#[derive(Drop)]
-pub(crate) enum Dtype {
-    Is(Kind),
-    Other,
-    Absent,
+// What is kept of an entry: `count` is the product of the shape, 0 where it is above 2^64 - 1.
+#[derive(Clone, Copy, PartialEq, Eq, Debug)]
+pub(crate) struct Described {
+    pub(crate) kind: Kind,
+    pub(crate) count: u64,
+    pub(crate) begin: u64,
+    pub(crate) end: u64,
 }
 
-// What is kept of an entry: `count` is the product of the shape, 0 where it is above 2^64 - 1.
-#[derive(Drop)]
-pub(crate) enum Described {
+// Why nothing is kept: there is no entry, it is damaged, or its dtype is none of the three.
+#[derive(Clone, Copy, PartialEq, Eq, Debug)]
+pub(crate) enum Undescribed {
     Missing,
     Damaged,
     Unknown,
-    Known {
-        kind: Kind,
-        count: u64,
-        begin: u64,
-        end: u64,
-    },
 }
 
 // The place of a value whose name is w, or the one found before.
@@ -72,29 +67,29 @@ fn get(h: &[u8], at: usize, w: &[u8]) -> usize
     get_in(h, at + 1, 31, w)
 }
 
-// The dtype at a place; 0 is none.
-fn dtype_at(h: &[u8], at: usize) -> Dtype
+// The kind that the dtype at a place says; 0 is none.
+fn dtype_at(h: &[u8], at: usize) -> Result<Kind, Undescribed>
     ensures { Dtyped h.now at result }
 {
     if at == 0 {
-        return Dtype::Absent;
+        return Err(Undescribed::Damaged);
     }
     if h.len() <= at {
-        return Dtype::Absent;
+        return Err(Undescribed::Damaged);
     }
     if h[at] != b'"' {
-        return Dtype::Absent;
+        return Err(Undescribed::Damaged);
     }
     if name_is(h, at + 1, b"F32") {
-        return Dtype::Is(Kind::F32);
+        return Ok(Kind::F32);
     }
     if name_is(h, at + 1, b"BF16") {
-        return Dtype::Is(Kind::BF16);
+        return Ok(Kind::BF16);
     }
     if name_is(h, at + 1, b"F16") {
-        return Dtype::Is(Kind::F16);
+        return Ok(Kind::F16);
     }
-    Dtype::Other
+    Err(Undescribed::Unknown)
 }
 
 // The numbers of the list at a place; 0 is none.
@@ -107,43 +102,38 @@ fn sizes_at(h: &[u8], at: usize) -> Option<Sizes>
     read_sizes(h, at)
 }
 
-fn by_kind(dtype: Dtype, count: u64, begin: u64, end: u64) -> Described
-    ensures { result ≡ by_kind dtype count begin end }
-{
-    match dtype {
-        Dtype::Is(kind) => Described::Known {
-            kind,
-            count,
-            begin,
-            end,
-        },
-        Dtype::Other => Described::Unknown,
-        Dtype::Absent => Described::Damaged,
-    }
-}
-
-// Dtype, shape and exactly two offsets.
-fn made(dtype: Dtype, shape: Option<Sizes>, offsets: Option<Sizes>) -> Described
+// Dtype, shape and exactly two offsets. What is damaged is told before a dtype that is unknown.
+fn made(
+    dtype: Result<Kind, Undescribed>,
+    shape: Option<Sizes>,
+    offsets: Option<Sizes>,
+) -> Result<Described, Undescribed>
     ensures { result ≡ made_of dtype shape offsets }
 {
     let Some(shape) = shape else {
-        return Described::Damaged;
+        return Err(Undescribed::Damaged);
     };
     let Some(offsets) = offsets else {
-        return Described::Damaged;
+        return Err(Undescribed::Damaged);
     };
     if offsets.count != 2 {
-        return Described::Damaged;
+        return Err(Undescribed::Damaged);
     }
-    by_kind(dtype, shape.product, offsets.first, offsets.second)
+    let kind = dtype?;
+    Ok(Described {
+        kind,
+        count: shape.product,
+        begin: offsets.first,
+        end: offsets.second,
+    })
 }
 
 // The entry at a place; 0 is none.
-pub(crate) fn describe(h: &[u8], at: usize) -> Described
+pub(crate) fn describe(h: &[u8], at: usize) -> Result<Described, Undescribed>
     ensures { Describes h.now at result }
 {
     if at == 0 {
-        return Described::Missing;
+        return Err(Undescribed::Missing);
     }
     let dtype = dtype_at(h, get(h, at, b"dtype"));
     let shape = sizes_at(h, get(h, at, b"shape"));

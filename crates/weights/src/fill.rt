@@ -7,7 +7,7 @@ ghost use Rattle.tensor_header.specs.Tensors.{tensors};
 ghost use Rattle.weights.specs.inner.Filled.{PutsOne, Fills, FillsAll};
 
 use crate::counts::{count_at, tensor_count};
-use crate::entry::{Described, describe};
+use crate::entry::{Described, Undescribed, describe};
 use buffers::room::inside;
 use encoder_settings::EncoderSettings;
 use tensor_values::{Kind, size_of, widen};
@@ -36,23 +36,19 @@ fn put_values(kind: Kind, bytes: &[u8], out: &mut [u32], at: usize, count: usize
     }
 }
 
-fn put_tensor(d: Described, bytes: &[u8], out: &mut [u32], at: usize, count: usize)
+fn put_tensor(
+    d: Result<Described, Undescribed>,
+    bytes: &[u8],
+    out: &mut [u32],
+    at: usize,
+    count: usize,
+)
     requires { count ≤ 67108864 }
     ensures { Fills d bytes.now at count out.old out.new }
 {
-    match d {
-        Described::Known {
-            kind,
-            count: _,
-            begin,
-            end: _,
-        } => {
-            let own = part(bytes, begin as usize, count * size_of(kind));
-            put_values(kind, own, out, at, count);
-        }
-        Described::Missing => {}
-        Described::Damaged => {}
-        Described::Unknown => {}
+    if let Ok(d) = d {
+        let own = part(bytes, d.begin as usize, count * size_of(d.kind));
+        put_values(d.kind, own, out, at, count);
     }
 }
 

@@ -1,27 +1,31 @@
 // The refusals 16, 17, 18 and 5, each over all tensors before the next.
-ghost use Rattle.std.specs.Prelude.{◌≡◌, true, ◌≤◌, ◌<◌, length};
+ghost use Rattle.std.specs.Prelude.{◌≡◌, true, ℕ, ◌≤◌, ◌<◌, length};
 ghost use Rattle.encoder_settings.specs.Settings.{allowed};
 ghost use Rattle.tensor_header.specs.Tensors.{tensors};
-ghost use Rattle.weights.specs.inner.Described.{Firsts, Judges, refused_at};
+ghost use Rattle.weights.specs.inner.Described.{Kept, Firsts, Judges, refused_at};
 
 use crate::Misread;
 use crate::counts::{count_at, tensor_count, total};
-use crate::entry::describe;
-use crate::test::{Test, fails};
+use crate::entry::{Described, Undescribed, describe};
+use crate::test::{is_damaged, is_misplaced, is_other};
 use encoder_settings::EncoderSettings;
 use picture_limits::Refusal;
 
 // The first tensor at which a test passes; as many as there are where there is none.
-fn first_at(s: EncoderSettings, h: &[u8], places: &[usize], test: Test, bytes: usize) -> usize
+fn first_at<F: Fn(Result<Described, Undescribed>, usize) -> bool>(
+    s: EncoderSettings,
+    h: &[u8],
+    places: &[usize],
+    passes: F,
+) -> usize
     requires s_value { allowed s ≡ true }
     requires s_in_bounds { length (tensors s) ≤ length places.now }
-    ensures { Firsts s h.now places.now test bytes result }
+    requires callable { (d : Kept) (count : ℕ) → count ≤ 67108864 → F.pre passes d count }
+    ensures { Firsts s h.now places.now (F.post passes) result }
 {
     let n = tensor_count(s);
     for i in 0..n {
-        let count = count_at(s, i);
-        let d = describe(h, places[i]);
-        if fails(test, d, count, bytes) {
+        if passes(describe(h, places[i]), count_at(s, i)) {
             return i;
         }
     }
@@ -68,15 +72,15 @@ pub(crate) fn judge(
     ensures { Judges s h.now places.now bytes room result }
 {
     let n = tensor_count(s);
-    let i = first_at(s, h, places, Test::Damaged, bytes);
+    let i = first_at(s, h, places, |d, _| is_damaged(d));
     if i < n {
         return refused(Refusal::Header, h, places[i], i);
     }
-    let j = first_at(s, h, places, Test::Other, bytes);
+    let j = first_at(s, h, places, |d, count| is_other(d, count));
     if j < n {
         return refused(Refusal::Tensor, h, places[j], j);
     }
-    let k = first_at(s, h, places, Test::Misplaced, bytes);
+    let k = first_at(s, h, places, |d, count| is_misplaced(d, count, bytes));
     if k < n {
         return refused(Refusal::Offsets, h, places[k], k);
     }

@@ -8,9 +8,8 @@ use Rattle.tensor_values.specs.declared.Kind.{Kind}
 use Rattle.tensor_values.specs.Values.{values_of}
 use Rattle.tensor_header.specs.Tensors.{tensors, entry_at, count_at}
 use Rattle.weights.specs.File.{Found, found_in, is_damaged, is_other, is_misplaced, floats_in, weights_in, judged, left_by}
-use Rattle.weights.specs.inner.Described.{summary, Holds}
+use Rattle.weights.specs.inner.Described.{Kept, summary, Holds}
 use Rattle.weights.specs.File.{Weighed}
-use Rattle.weights.specs.declared.entry.Described.{Described}
 
 pub record PutsOne (k : Kind) (bytes : List ℕ) (at count : ℕ) (before after : List ℕ) : Type 0 where
   pub is : length (values_of k bytes) ≡ count → at + count ≤ length before → after ≡ put before at (values_of k bytes)
@@ -21,7 +20,7 @@ pub record Good (bytes count : ℕ) (f : Found) : Type 0 where
   pub other : is_other count f ≡ false
   pub misplaced : is_misplaced bytes count f ≡ false
 
-pub record Fills (d : Described) (bytes : List ℕ) (at count : ℕ) (before after : List ℕ) : Type 0 where
+pub record Fills (d : Kept) (bytes : List ℕ) (at count : ℕ) (before after : List ℕ) : Type 0 where
   pub is : (f : Found) → d ≡ summary f → Good (length bytes) count f → at + count ≤ length before → after ≡ put before at (floats_in bytes f)
 
 -- every tensor passes every test

@@ -11,6 +11,3 @@ returns-in_default-offsets c = rw (c.in-Some.is, c.in_default-offsets.is) refl
 
 pub returns-then-offsets-ne2 : goal.returns-then-offsets-ne2
 returns-then-offsets-ne2 c = rw (c.in-Some.is, c.in-Some-offsets.is, ne_eqb _ 2 c.if-offsets-ne2.true) refl
-
-pub returns : goal.returns
-returns c = c.by_kind.ensures ∙ rw (c.in-Some.is, c.in-Some-offsets.is, eq-eqb _ 2 c.if-offsets-ne2.false) refl
