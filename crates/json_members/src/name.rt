@@ -1,5 +1,5 @@
 // Names, read after their escapes.
-ghost use Rattle.std.specs.Prelude.{◌≡◌, ◌+◌, ◌≤◌, ◌<◌, length, get_or, drop};
+ghost use Rattle.std.specs.Prelude.{◌≡◌, cond, ◌+◌, ◌≤◌, ◌<◌, length, get_or, drop};
 ghost use Rattle.json_members.specs.inner.Bytes as Bytes;
 ghost use Rattle.json_members.specs.inner.Bytes.{four_of, code_of, name_is, behind_at};
 
@@ -131,4 +131,14 @@ pub fn name_is(s: &[u8], at: usize, w: &[u8]) -> bool
         return false;
     }
     s[i] == b'"'
+}
+
+// The place of a value whose name is w, or the one found before.
+pub fn noted(s: &[u8], name: usize, w: &[u8], value: usize, found: usize) -> usize
+    ensures { result ≡ cond (name_is w.now (drop name s.now)) value found }
+{
+    if name_is(s, name, w) {
+        return value;
+    }
+    found
 }

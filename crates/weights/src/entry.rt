@@ -1,12 +1,11 @@
 // What an entry of the header says.
-ghost use Rattle.std.specs.Prelude.{◌≡◌, cond, drop};
-ghost use Rattle.json_members.specs.inner.Bytes.{name_is};
+ghost use Rattle.std.specs.Prelude.{◌≡◌};
 ghost use Rattle.json_members.specs.inner.Turns.{Finds, Gets};
 ghost use Rattle.weights.specs.inner.Described.{Dtyped, Sized, made_of, Describes};
 
 use json_lists::{Sizes, read_sizes};
 use json_members::member::read_member;
-use json_members::name::name_is;
+use json_members::name::{name_is, noted};
 use tensor_values::Kind;
 
 // What is kept of an entry: `count` is the product of the shape, 0 where it is above 2^64 - 1.
@@ -24,16 +23,6 @@ pub(crate) enum Undescribed {
     Missing,
     Damaged,
     Unknown,
-}
-
-// The place of a value whose name is w, or the one found before.
-fn noted(h: &[u8], name: usize, w: &[u8], value: usize, found: usize) -> usize
-    ensures { result ≡ cond (name_is w.now (drop name h.now)) value found }
-{
-    if name_is(h, name, w) {
-        return value;
-    }
-    found
 }
 
 // Behind the bracket that opens an object: where the value of its last member of the name w begins, 0 where there is none.
