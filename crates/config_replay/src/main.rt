@@ -6,18 +6,10 @@
 #![tactic(auto)]
 
 mod record;
-mod replay;
 
-use read_input::read_full;
 use std::io;
 
 fn main(rt: HostRuntime) -> io::Result<()> {
     let mut text = [0u8; 262144];
-    let stdout = rt.stdout();
-    let n = read_full(&mut rt.stdin(), &mut text)?;
-    if n == 262144 {
-        stdout.write_all(b"the input fills the buffer\n")?;
-    }
-    let counts = replay::replay(stdout, &text[..n]);
-    println!(stdout; "agree {} differ {}", counts.agree, counts.differ)
+    tally::run(rt, &mut text, record::replay)
 }

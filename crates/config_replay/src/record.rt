@@ -1,40 +1,21 @@
-// One record: whether its text is answered as it says.
-ghost use Rattle.std.specs.Prelude.{◌≡◌, ◌-◌, ◌≤◌, ◌<◌, length};
-ghost use Rattle.config_replay.specs.Record.{number_at, lent, said_agrees, settings_agree, Judges, unread, Steps};
+// One record: whether its text is answered as it says; and one record after another.
+ghost use Rattle.std.specs.Prelude.{◌≡◌, ◌≤◌, ◌<◌, length};
+ghost use Rattle.tally.specs.Record.{Inside};
+ghost use Rattle.tally.specs.Tally.{none, Tally};
+ghost use Rattle.config_replay.specs.Record.{field_at, lent, said_agrees, settings_agree, Judges, Steps};
 
 use config::{Misread, config, no_settings};
 use encoder_settings::EncoderSettings;
 use picture_limits::PictureSettings;
 use std::io::Stdout;
-
-// How long the first record is, and whether its text is answered as it says.
-#[derive(Drop)]
-pub struct Step {
-    pub len: usize,
-    pub same: bool,
-}
-
-fn digit(b: u8) -> usize
-    ensures { (result ≡ b - 48) × (result ≤ 255) }
-{
-    if b < b'0' {
-        return 0;
-    }
-    (b - b'0') as usize
-}
+use tally::{Counts, Step, judged, number_at, tally, tell};
 
 // Number i of a record, of five digits with a byte behind them.
-fn number_at(s: &[u8], i: usize) -> usize
+fn field(s: &[u8], i: usize) -> usize
     requires { (66 ≤ length s.now) × (i < 11) }
-    ensures { (result ≡ number_at s.now i) × (result ≤ 2833305) }
+    ensures { (result ≡ field_at s.now i) × (result ≤ 2833305) }
 {
-    let at = 6 * i;
-    let a = digit(s[at]);
-    let b = digit(s[at + 1]);
-    let c = digit(s[at + 2]);
-    let d = digit(s[at + 3]);
-    let e = digit(s[at + 4]);
-    (((a * 10 + b) * 10 + c) * 10 + d) * 10 + e
+    number_at(s, 6 * i)
 }
 
 // What config.json does not say.
@@ -67,8 +48,8 @@ fn said_agrees(a: Result<EncoderSettings, Misread>, want: &[u8]) -> bool
     requires { 66 ≤ length want.now }
     ensures { result ≡ said_agrees a want.now }
 {
-    let n = number_at(want, 1);
-    let p = number_at(want, 2);
+    let n = field(want, 1);
+    let p = field(want, 2);
     match a {
         Ok(_) => (n == 0) & (p == 0),
         Err(m) => (n == u32::from(m.why) as usize) & (p == m.place),
@@ -81,14 +62,14 @@ fn settings_agree(s: EncoderSettings, want: &[u8]) -> bool
     ensures { result ≡ settings_agree s want.now }
 {
     let p = s.picture;
-    (p.patch_size == number_at(want, 3))
-        & ((p.spatial_merge_size == number_at(want, 4))
-            & ((p.image_size == number_at(want, 5))
-                & ((s.hidden_size == number_at(want, 6))
-                    & ((s.num_heads == number_at(want, 7))
-                        & ((s.num_layers == number_at(want, 8))
-                            & ((s.intermediate_size == number_at(want, 9))
-                                & (s.text_hidden_size == number_at(want, 10))))))))
+    (p.patch_size == field(want, 3))
+        & ((p.spatial_merge_size == field(want, 4))
+            & ((p.image_size == field(want, 5))
+                & ((s.hidden_size == field(want, 6))
+                    & ((s.num_heads == field(want, 7))
+                        & ((s.num_layers == field(want, 8))
+                            & ((s.intermediate_size == field(want, 9))
+                                & (s.text_hidden_size == field(want, 10))))))))
 }
 
 // Whether a text is answered as the record says.
@@ -100,38 +81,30 @@ fn judge(stdout: Stdout, text: &[u8], want: &[u8]) -> bool
     let settings = found.unwrap_or(no_settings());
     let ok = said_agrees(found, want) & settings_agree(settings, want);
     if !ok {
-        let _ = stdout.write_all(b"not answered so: ");
-        let _ = stdout.write_all(text);
+        tell(stdout, text);
         let _ = stdout.write_all(b"\n");
     }
     ok
 }
 
-fn cut_short(stdout: Stdout, text: &[u8]) -> Step
-    ensures { result ≡ unread text.now }
-{
-    let _ = stdout.write_all(b"no record: ");
-    let _ = stdout.write_all(text);
-    Step {
-        len: text.len(),
-        same: false,
-    }
-}
-
-pub(crate) fn first(stdout: Stdout, text: &[u8]) -> Step
-    requires { 0 < length text.now }
-    ensures { Steps text.now result × (0 < result.len) × (result.len ≤ length text.now) }
+// The first record.
+fn first(stdout: Stdout, text: &[u8]) -> Step
+    ensures { Steps text.now result × Inside text.now result }
 {
     if text.len() < 66 {
-        return cut_short(stdout, text);
+        return Step::NoRecord;
     }
-    let n = number_at(text, 0);
+    let n = field(text, 0);
     if text.len() - 66 < n + 1 {
-        return cut_short(stdout, text);
+        return Step::NoRecord;
     }
     let end = 66 + n;
-    Step {
-        len: end + 1,
-        same: judge(stdout, &text[66..end], text),
-    }
+    judged(judge(stdout, &text[66..end], text), end + 1)
+}
+
+// One record after another.
+pub(crate) fn replay(stdout: Stdout, text: &[u8]) -> Counts
+    ensures { Tally Steps none text.now result }
+{
+    tally(stdout, text, |t| first(stdout, t))
 }

@@ -5,8 +5,8 @@ use Rattle.config_replay.proofs.record.said_agrees.Goals as goal
 
 pub returns-in-Ok : goal.returns-in-Ok
 unfolding said_agrees
-returns-in-Ok c = rw (c.in-Ok.is, ← c.number_at-p.ensures.0, ← c.number_at-n.ensures.0) refl
+returns-in-Ok c = rw (c.in-Ok.is, ← c.field-p.ensures.0, ← c.field-n.ensures.0) refl
 
 pub returns-in-Err : goal.returns-in-Err
 unfolding said_agrees
-returns-in-Err c = rw (c.in-Err.is, ← c.number_at-p.ensures.0, ← c.number_at-n.ensures.0, ← c.from.ensures) refl
+returns-in-Err c = rw (c.in-Err.is, ← c.field-p.ensures.0, ← c.field-n.ensures.0, ← c.from.ensures) refl
