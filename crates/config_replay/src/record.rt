@@ -88,7 +88,7 @@ fn judge(stdout: Stdout, text: &[u8], want: &[u8]) -> bool
 }
 
 // The first record.
-fn first(stdout: Stdout, text: &[u8]) -> Step
+pub fn first(stdout: Stdout, text: &[u8]) -> Step
     ensures { Steps text.now result × Inside text.now result }
 {
     if text.len() < 66 {

@@ -13,6 +13,7 @@ use lib.ListN.{length, get_or}
 use Rattle.picture_limits.specs.declared.PictureSettings.{PictureSettings}
 use Rattle.picture_limits.specs.declared.Refusal.{Refusal}
 use Rattle.picture_limits.specs.declared.Refusal.TheVariants.{Setting, Side, RgbLength, ImageSize, Output, Grid, PatchesLength, Sample, WeightsLength, TableLength, Scratch, NotFinite, ConfigText, ConfigDepth, ConfigVision, Header, Tensor, Offsets, Channel, Tile, KeyHeld, NoVectors, PoolFull, KeyUnknown, PoolSlice}
+use Rattle.picture.specs.Undo as Undo
 use Rattle.picture.specs.declared.Patches.{Patches}
 use Rattle.std.specs.Prelude.{Result, Ok, Err}
 use Rattle.picture_restore.specs.declared.Picture.{Picture}
@@ -205,7 +206,7 @@ module _ (t : List ℕ) (q : Request) (gh gw n : ℕ) (inside : form t ≡ Some 
         text =
             ap answered inside ∙ ap (preprocessed_text s q.rgb h w) call
             ∙ ap (restored_text s gh gw (bytes_of s (patches_of s q.rgb h w) gh gw)) u.answer
-            ∙ ap (λ (l : List ℕ). restored_text s gh gw l (Ok (pictured (th_of s h w) (tw_of s h w)))) u.bytes;
+            ∙ ap (λ (l : List ℕ). restored_text s gh gw l (Ok (Undo.pictured (th_of s h w) (tw_of s h w)))) u.bytes;
         read = rows_back (th_of s h w) (tw_of s h w * 3) (resized_bytes s q.rgb h w) bs (omega (arith, wide.span, times 1 1 (gw_of s h w) p g.low o.patch-low)) (length-picture (th_of s h w) (tw_of s h w) v);
       }
 
