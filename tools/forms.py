@@ -1,5 +1,7 @@
 #!/usr/bin/env python3
-"""Counts places of older forms in crates/*/src: forms.py [--list POINT] [--at FOLDER]
+"""Counts places of older forms in crates/*/src: forms.py [--list POINT] [--at FOLDER] [--page FILE]
+
+With --page it prints nothing and ends with 1 where the last column of FILE's table does not have the counts of points 1 to 7.
 
 1 enum    enums of two variants of which one holds nothing but a refusal, a reason or nothing, and structs with a bool beside values
 2 alike   functions of three lines or more whose bodies are the same once names, numbers and types are taken out
@@ -146,9 +148,17 @@ def proofs():
 
 
 POINTS = [("1", enums), ("2", alike), ("3", loops), ("4", hand), ("5", facts), ("6", lengths), ("7", switches), ("8", proofs)]
+page = pathlib.Path(args[args.index("--page") + 1]).read_text() if "--page" in args else None
+stale = []
 for point, places in POINTS:
     found = list(places())
-    if wanted == point:
+    if page is not None:
+        row = re.search(rf"^\| {point} \|.*\| (\d+) \|$", page, re.M)
+        if point != "8" and (not row or int(row.group(1)) != len(found)):
+            stale.append(f"{point}: {len(found)} places")
+    elif wanted == point:
         print("\n".join(found))
     elif wanted is None:
         print(point, "; ".join(found) if point == "8" else len(found))
+if stale:
+    sys.exit("tools/forms.py: not what the page says: " + ", ".join(stale))
