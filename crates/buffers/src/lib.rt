@@ -34,7 +34,10 @@ pub fn copy(x: &[f32], out: &mut [f32])
     ensures { out.new ≡ copied x.now out.old }
 {
     if x.len() <= out.len() {
-        out[..x.len()].copy_from_slice(x);
+        // By index: the library's copy would have the archives ask for `memmove`.
+        for i in 0..x.len() {
+            out[i] = x[i];
+        }
     }
 }
 
