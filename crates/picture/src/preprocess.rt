@@ -9,7 +9,8 @@ use crate::Patches;
 use picture_limits::settings::sides_allowed;
 use picture_limits::{PictureSettings, Refusal};
 use picture_patches::frame::resized_patches;
-use picture_samples::allowed::allowed_table;
+use picture_samples::allowed::{channels_tested, settings_tested};
+use picture_samples::samples;
 
 // A side x rounded up to a multiple of a, cut to n, rounded down to a multiple of a.
 fn side_of(a: usize, n: usize, x: usize) -> usize
@@ -97,6 +98,8 @@ pub fn pixtral_preprocess(
     ensures output { out.new ≡ patches_out s rgb.now height width out.old }
     ensures numbers { Numbered s (length rgb.now) height width (length out.old) result }
 {
-    let t = allowed_table(s)?;
+    settings_tested(s)?;
+    let t = samples(s.mean, s.deviation);
+    channels_tested(&t)?;
     preprocess_by(s, rgb, height, width, out, &t)
 }

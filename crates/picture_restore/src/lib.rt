@@ -8,7 +8,8 @@ ghost use Rattle.picture_restore.specs.Restore.{restored, bytes_out, Numbered};
 
 use picture_limits::settings::shape;
 use picture_limits::{PictureSettings, Refusal, View};
-use picture_samples::allowed::allowed_table;
+use picture_samples::allowed::{channels_tested, settings_tested};
+use picture_samples::samples;
 use picture_view::view::restore_view;
 
 // The sides of a picture.
@@ -63,7 +64,9 @@ pub fn restore(
     ensures output { out.new ≡ bytes_out s patches.now grid_h grid_w out.old }
     ensures numbers { Numbered s patches.now grid_h grid_w (length out.old) result }
 {
-    let t = allowed_table(s)?;
+    settings_tested(s)?;
+    let t = samples(s.mean, s.deviation);
+    channels_tested(&t)?;
     shape(s, grid_h, grid_w, patches.len())?;
     restore_shaped(s, patches, grid_h, grid_w, out, &t)
 }

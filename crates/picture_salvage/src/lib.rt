@@ -12,7 +12,8 @@ ghost use Rattle.picture_salvage.specs.inner.Loops.{found_run, none_at, bad_run,
 
 use picture_limits::settings::shape;
 use picture_limits::{PictureSettings, Refusal};
-use picture_samples::allowed::allowed_table;
+use picture_samples::allowed::{channels_tested, settings_tested};
+use picture_samples::samples;
 use picture_spot::{Way, byte_of, guess_of, way_of};
 
 // The sides of a salvaged picture, and how many samples had no byte.
@@ -306,7 +307,9 @@ pub fn salvage(
     ensures output { out.new ≡ saved_out s bits.now grid_h grid_w (length list.old) out.old }
     ensures entries { list.new ≡ list_out s bits.now grid_h grid_w (length out.old) list.old }
 {
-    let t = allowed_table(s)?;
+    settings_tested(s)?;
+    let t = samples(s.mean, s.deviation);
+    channels_tested(&t)?;
     let tokens = shape(s, grid_h, grid_w, bits.len())?;
     salvage_shaped(s, bits, grid_h, grid_w, tokens, out, list, &t)
 }

@@ -22,7 +22,7 @@ use Rattle.picture_limits.specs.declared.Refusal.{Refusal}
 use Rattle.picture_limits.specs.declared.Refusal.TheVariants.{Setting, Channel}
 use Rattle.picture_limits.specs.Refusal.{unless}
 use Rattle.picture_limits.specs.Settings.{allowed}
-use Rattle.picture_samples.specs.Samples.{sample, sample_of, rising, falling, channel_allowed, channels_allowed, value, entry, sample_bits, sample_table, value_of, allowed_table}
+use Rattle.picture_samples.specs.Samples.{sample, sample_of, rising, falling, channel_allowed, channels_allowed, value, entry, sample_bits, sample_table, value_of, allowed_table, settings_tested, channels_tested}
 use Rattle.picture_samples.specs.inner.Clean.{Clean}
 use Rattle.picture_samples.proofs.Finds.{Distinct}
 
@@ -194,3 +194,29 @@ module _ {A : Type 0} (s : PictureSettings) (x : Result A Refusal) where
       go false d h = same Setting h
       go true false h = same Channel h
       go true true h = let z : ◌≡◌ {A = ℕ} 0 1 = cc in absurd (omega arith)
+
+-- ---- the two tests, one after the other, and the table between them
+passed : (r : Refusal) {u : Unit {0}} (b : Bool) → ◌≡◌ {A = Result (Unit {0}) Refusal} (Ok u) (unless b (Err r) (Ok tt)) → b ≡ true
+passed r true e = refl
+passed r false e = let z : ◌≡◌ {A = ℕ} 0 1 = cc in absurd (omega arith)
+
+barred : {r q : Refusal} (b : Bool) → ◌≡◌ {A = Result (Unit {0}) Refusal} (Err q) (unless b (Err r) (Ok tt)) → (b ≡ false) × (q ≡ r)
+barred true e = let z : ◌≡◌ {A = ℕ} 0 1 = cc in absurd (omega arith)
+barred false e = (refl, cc)
+
+module _ (s : PictureSettings) where
+  pub setting-refused : (r : Refusal) → Err r ≡ settings_tested s → Err r ≡ allowed_table s
+  unfolding allowed_table
+  setting-refused r e = let h = barred (allowed s) e in rw (h.0, h.1) refl
+
+  module _ (t : List ℕ) (u : Unit {0}) (a : Ok u ≡ settings_tested s) (e : t ≡ sample_table s.mean s.deviation) where
+    channels-same : channels_allowed (value_of s) ≡ channels_allowed (value (entry t))
+    channels-same = sym (allowed_of s.mean s.deviation t e)
+
+    pub channel-refused : (r : Refusal) → Err r ≡ channels_tested (value (entry t)) → Err r ≡ allowed_table s
+    unfolding allowed_table
+    channel-refused r b = let h = barred (channels_allowed (value (entry t))) b in rw (passed Setting (allowed s) a, channels-same ∙ h.0, h.1) refl
+
+    pub table-made : (v : Unit {0}) → Ok v ≡ channels_tested (value (entry t)) → Ok t ≡ allowed_table s
+    unfolding allowed_table
+    table-made v b = rw (passed Setting (allowed s) a, channels-same ∙ passed Channel (channels_allowed (value (entry t))) b) (ap Ok e)

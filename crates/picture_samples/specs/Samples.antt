@@ -73,3 +73,11 @@ pattern_of s = sample_bits s.mean s.deviation
 -- the table that a call works with: there is none, by 1 and then by 19, where the settings or the channels are not allowed
 unfoldable pub allowed_table : PictureSettings → Result (List ℕ) Refusal
 allowed_table s = unless (allowed s) (Err Setting) (unless (channels_allowed (value_of s)) (Err Channel) (Ok (sample_table s.mean s.deviation)))
+
+-- the two tests before it
+abbrev pub settings_tested : PictureSettings → Result (Unit {0}) Refusal
+settings_tested s = unless (allowed s) (Err Setting) (Ok tt)
+
+-- v c b is the value of byte b in channel c
+abbrev pub channels_tested : (ℕ → ℕ → Float) → Result (Unit {0}) Refusal
+channels_tested v = unless (channels_allowed v) (Err Channel) (Ok tt)

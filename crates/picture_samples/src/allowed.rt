@@ -1,20 +1,19 @@
-// Whether the channels of a table are allowed: 256 finite values, strictly rising or strictly falling; and the table of a call.
+// Whether the channels of a table are allowed: 256 finite values, strictly rising or strictly falling; and the tests of a call.
 ghost use Rattle.std.specs.Prelude.{◌≡◌, ◌+◌, ◌<◌};
 ghost use Rattle.std.specs.Float.Ieee.Scale.{finite};
 ghost use Rattle.buffers.specs.Rows.{all};
-ghost use Rattle.picture_samples.specs.Samples.{value, entry, rising, falling, channel_allowed, channels_allowed, allowed_table};
+ghost use Rattle.picture_samples.specs.Samples.{value, entry, rising, falling, channel_allowed, channels_allowed, settings_tested, channels_tested};
 
-use crate::samples;
 use number_floats::pattern::f32_of_bits;
 use picture_limits::settings::settings_allowed;
 use picture_limits::{PictureSettings, Refusal};
 
-// The sample of byte b in channel c.
+// The sample of byte b in channel c; past the table's end the pattern is 0.
 pub fn value_of(t: &[u32; 768], c: usize, b: usize) -> f32
-    requires { (c < 3) × (b < 256) }
     ensures { result ≡ value (entry t.now) c b }
 {
-    f32_of_bits(t[c * 256 + b])
+    let place = c.saturating_mul(256).saturating_add(b);
+    f32_of_bits(t.get(place).copied().unwrap_or(0))
 }
 
 fn all_finite(t: &[u32; 768], c: usize) -> bool
@@ -51,16 +50,22 @@ pub fn channels_allowed(t: &[u32; 768]) -> bool
     channel_allowed(t, 0) & channel_allowed(t, 1) & channel_allowed(t, 2)
 }
 
-// The table of a call's means and deviations, where settings and channels are allowed.
-pub fn allowed_table(s: PictureSettings) -> Result<[u32; 768], Refusal>
-    ensures { result ≡ allowed_table s }
+// The settings of a call, before its table is made.
+pub fn settings_tested(s: PictureSettings) -> Result<(), Refusal>
+    ensures { result ≡ settings_tested s }
 {
     if !settings_allowed(s) {
         return Err(Refusal::Setting);
     }
-    let t = samples(s.mean, s.deviation);
-    if !channels_allowed(&t) {
+    Ok(())
+}
+
+// The channels of a call's table. It is lent: 3 KiB by value in a `Result` would be copied three times, and lie on the stack.
+pub fn channels_tested(t: &[u32; 768]) -> Result<(), Refusal>
+    ensures { result ≡ channels_tested (value (entry t.now)) }
+{
+    if !channels_allowed(t) {
         return Err(Refusal::Channel);
     }
-    Ok(t)
+    Ok(())
 }

@@ -6,13 +6,16 @@ use crate::Tiles;
 use crate::place::{pieces_of, tile_side};
 use picture_limits::settings::sides_allowed;
 use picture_limits::{PictureSettings, Refusal};
-use picture_samples::allowed::allowed_table;
+use picture_samples::allowed::{channels_tested, settings_tested};
+use picture_samples::samples;
 
 // The side of a tile, and how many tiles stand below each other and side by side.
 pub fn cut(s: PictureSettings, height: usize, width: usize) -> Result<Tiles, Refusal>
     ensures { result ≡ cut_of s height width }
 {
-    allowed_table(s)?;
+    settings_tested(s)?;
+    let t = samples(s.mean, s.deviation);
+    channels_tested(&t)?;
     if !sides_allowed(height, width) {
         return Err(Refusal::Side);
     }

@@ -9,7 +9,8 @@ use crate::place::{grid_side, in_cut, tile_view};
 use picture_limits::settings::sides_allowed;
 use picture_limits::{PictureSettings, Refusal};
 use picture_patches::frame::view_patches;
-use picture_samples::allowed::allowed_table;
+use picture_samples::allowed::{channels_tested, settings_tested};
+use picture_samples::samples;
 
 // What a tile's preprocess does where settings and channels are allowed; t is the table of the settings.
 fn preprocess_tile_by(
@@ -69,6 +70,8 @@ pub fn preprocess_tile(
     ensures answer { result ≡ tiled s (length rgb.now) height width index (length out.old) }
     ensures output { out.new ≡ patches_out s rgb.now height width index out.old }
 {
-    let t = allowed_table(s)?;
+    settings_tested(s)?;
+    let t = samples(s.mean, s.deviation);
+    channels_tested(&t)?;
     preprocess_tile_by(s, rgb, height, width, index, out, &t)
 }

@@ -9,7 +9,8 @@ use crate::padding::zero_rows;
 use crate::place::{grid_side, in_cut, tile_view};
 use picture_limits::settings::sides_allowed;
 use picture_limits::{PictureSettings, Refusal};
-use picture_samples::allowed::allowed_table;
+use picture_samples::allowed::{channels_tested, settings_tested};
+use picture_samples::samples;
 use picture_view::view::restore_view;
 
 // What a tile's restore does where settings and channels are allowed; t is the table of the settings.
@@ -76,6 +77,8 @@ pub fn restore_tile(
     ensures answer { result ≡ untiled s patches.now height width index (length out.old) }
     ensures output { out.new ≡ bytes_out s patches.now height width index out.old }
 {
-    let t = allowed_table(s)?;
+    settings_tested(s)?;
+    let t = samples(s.mean, s.deviation);
+    channels_tested(&t)?;
     restore_tile_by(s, patches, height, width, index, out, &t)
 }
