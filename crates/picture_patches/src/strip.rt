@@ -177,7 +177,9 @@ fn mixed_patches(
     }
 }
 
-// The same, with the neighbours of rows and columns worked out first.
+// The same, with the neighbours of rows and columns worked out first. Its 115 KB are a frame of their own, so that they do not
+// lie below what its callers call before.
+#[inline(never)]
 pub(crate) fn resized_all(rgb: &[u8], f: Frame, out: &mut [f32], t: &[u32; 768])
     requires { Framed f (length rgb.now) × Clean t.now × (f.gh * (f.gw * (3 * (f.p * f.p))) ≤ length out.old) }
     ensures { out.new ≡ put out.old 0 (patches f.p f.gh f.gw (mixed (entry t.now) f rgb.now)) }
