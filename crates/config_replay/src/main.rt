@@ -7,9 +7,16 @@
 
 mod record;
 
+use read_input::read_full;
 use std::io;
 
 fn main(rt: HostRuntime) -> io::Result<()> {
     let mut text = [0u8; 262144];
-    tally::run(rt, &mut text, record::replay)
+    let stdout = rt.stdout();
+    let n = read_full(&mut rt.stdin(), &mut text)?;
+    if n == text.len() {
+        stdout.write_all(b"the input fills the buffer\n")?;
+    }
+    let counts = record::replay(stdout, &text[..n]);
+    println!(stdout; "agree {} differ {}", counts.agree, counts.differ)
 }

@@ -8,7 +8,7 @@ use config::{Misread, config, no_settings};
 use encoder_settings::EncoderSettings;
 use picture_limits::PictureSettings;
 use std::io::Stdout;
-use tally::{Counts, Step, judged, number_at, tally, tell};
+use tally::{Counts, Judge, Step, judged, number_at, tally};
 
 // Number i of a record, of five digits with a byte behind them.
 fn field(s: &[u8], i: usize) -> usize
@@ -81,7 +81,8 @@ fn judge(stdout: Stdout, text: &[u8], want: &[u8]) -> bool
     let settings = found.unwrap_or(no_settings());
     let ok = said_agrees(found, want) & settings_agree(settings, want);
     if !ok {
-        tell(stdout, text);
+        let _ = stdout.write_all(b"not answered so: ");
+        let _ = stdout.write_all(text);
         let _ = stdout.write_all(b"\n");
     }
     ok
@@ -102,9 +103,23 @@ pub fn first(stdout: Stdout, text: &[u8]) -> Step
     judged(judge(stdout, &text[66..end], text), end + 1)
 }
 
+// The judge of records, and where it writes what is not answered so.
+#[derive(Clone, Copy)]
+struct Records {
+    stdout: Stdout,
+}
+
+impl Judge for Records {
+    ghost finds = { λ r. Steps };
+
+    fn first(&self, text: &[u8]) -> Step {
+        first(self.stdout, text)
+    }
+}
+
 // One record after another.
 pub(crate) fn replay(stdout: Stdout, text: &[u8]) -> Counts
     ensures { Tally Steps none text.now result }
 {
-    tally(stdout, text, |t| first(stdout, t))
+    tally(stdout, text, &Records { stdout })
 }
