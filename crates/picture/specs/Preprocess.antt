@@ -50,7 +50,10 @@ patches_left (Err r) ys old = old
 abbrev pub patches_out : PictureSettings → List ℕ → ℕ → ℕ → List Float → List Float
 patches_out s rgb h w old = patches_left (preprocessed s (length rgb) h w (length old)) (patches_of s rgb h w) old
 
--- ---- the paper's sizes of an answer: 0 for every size of a refusal
+-- ---- the paper's number and sizes of an answer: 0 for every size of a refusal
+
+abbrev pub number : Result Patches Refusal → ℕ
+number a = number_of a
 
 abbrev pub grid_h : Result Patches Refusal → ℕ
 grid_h (Ok a) = a.grid_h
@@ -76,7 +79,7 @@ preprocess_number s len h w room =
     0)))))
 
 pub record Numbered (s : PictureSettings) (len h w room : ℕ) (a : Result Patches Refusal) : Type 0 where
-  pub number_is : number_of a ≡ preprocess_number s len h w room
-  pub grid-h-is : grid_h a ≡ reported (number_of a) (gh_of s h w)
-  pub grid-w-is : grid_w a ≡ reported (number_of a) (gw_of s h w)
-  pub floats-is : floats a ≡ reported (number_of a) (floats_of s h w)
+  pub number_is : number a ≡ preprocess_number s len h w room
+  pub grid-h-is : grid_h a ≡ reported (number a) (gh_of s h w)
+  pub grid-w-is : grid_w a ≡ reported (number a) (gw_of s h w)
+  pub floats-is : floats a ≡ reported (number a) (floats_of s h w)

@@ -1,13 +1,14 @@
 -- What the two calls of a record answer and leave. Assumes nothing.
-use Rattle.std.specs.Prelude.{Result, Ok, Err, ℕ, ◌%◌, List, [], ◌∷◌, ◌++◌, length, get_or, take, drop, Float}
+use Rattle.std.specs.Prelude.{Result, ℕ, ◌%◌, List, [], ◌∷◌, ◌++◌, length, get_or, take, drop, Float}
 use Rattle.std.specs.Float.{binary32}
 use Rattle.std.specs.Float.Ieee.{of_bits}
 use Rattle.picture_limits.specs.declared.PictureSettings.{PictureSettings}
 use Rattle.picture_limits.specs.declared.Refusal.{Refusal}
-use Rattle.picture_limits.specs.Refusal as R
 use Rattle.picture.specs.declared.Patches.{Patches}
 use Rattle.picture_restore.specs.declared.Picture.{Picture}
+use Rattle.picture.specs.Preprocess as Pre
 use Rattle.picture.specs.Preprocess.{preprocessed, patches_of, patches_left}
+use Rattle.picture_restore.specs.Restore as Res
 use Rattle.picture_restore.specs.Restore.{restored, bytes_of, bytes_left}
 use Rattle.picture_replay.specs.declared.run.Made.{Made}
 use Rattle.picture_replay.specs.declared.run.Back.{Back}
@@ -18,12 +19,10 @@ use Rattle.replay.specs.Damage.{damaged}
 -- ---- one call
 
 abbrev pub made_from : Result Patches Refusal → ℕ → Made
-made_from (Ok a) h = record { number = 0; grid_h = a.grid_h; grid_w = a.grid_w; floats = a.floats; hash = h }
-made_from (Err r) h = record { number = R.number r; grid_h = 0; grid_w = 0; floats = 0; hash = h }
+made_from a h = record { number = Pre.number a; grid_h = Pre.grid_h a; grid_w = Pre.grid_w a; floats = Pre.floats a; hash = h }
 
 abbrev pub back_from : Result Picture Refusal → ℕ → Back
-back_from (Ok a) h = record { number = 0; height = a.height; width = a.width; hash = h }
-back_from (Err r) h = record { number = R.number r; height = 0; width = 0; hash = h }
+back_from a h = record { number = Res.number a; height = Res.height a; width = Res.width a; hash = h }
 
 -- preprocess's answer to a picture and an output, and the output afterwards
 abbrev pub made : PictureSettings → List ℕ → ℕ → ℕ → List Float → Result Patches Refusal
