@@ -5,14 +5,14 @@ use mathlib.Core.List.{List, [], ◌∷◌}
 use Prim.Native.Nat.{ℕ}
 use native.Mathlib.Omega.{arith}
 use Rattle.json_grammar.specs.Judge.{Read}
-use Rattle.std.specs.Prelude.{Ok, Option}
+use Rattle.std.specs.Prelude.{Ok, Option, cond}
 use Rattle.json_grammar.specs.inner.Machine.{value, key, colon}
 use Rattle.json_grammar.specs.inner.Steps.{place, Lexes, Skips, Reads}
 use Rattle.json_grammar.proofs.Unique.{skips-unique, lexes-unique, reads-unique}
 use Rattle.json_read.specs.inner.Steps.{part_place, Parts}
 use Rattle.json_read.specs.inner.Steps.{Part}
 use Rattle.json_read.proofs.Unique.{part-unique}
-use Rattle.json_members.specs.inner.Bytes.{size_at}
+use Rattle.json_members.specs.inner.Bytes.{name_is, size_at}
 use Rattle.json_members.specs.inner.Turns.{Turn, Turns, nameless, valueless, unparted, last, more}
 use Rattle.json_members.specs.declared.member.Member.{Member}
 
@@ -23,6 +23,10 @@ size-unique l r q x y = x ∙ sym y
 -- of `behind`
 pub rest-unique : (o r q : Option ℕ) → r ≡ o → q ≡ o → r ≡ q
 rest-unique o r q x y = x ∙ sym y
+
+-- of `noted`
+pub noted-unique : (w l : List ℕ) (v found r q : ℕ) → r ≡ cond (name_is w l) v found → q ≡ cond (name_is w l) v found → r ≡ q
+noted-unique w l v found r q x y = x ∙ sym y
 
 -- ---- of `read_member`
 

@@ -6,6 +6,8 @@ use Rattle.replay.specs.Hash.{byte_hash, float_hash}
 use Rattle.buffers.specs.Region.{over}
 use Rattle.replay.specs.Pieces.{piece_len}
 use Rattle.replay.specs.Line.{read_of}
+use Rattle.replay.specs.declared.line.Lines.{Lines}
+use Rattle.replay.specs.Lines.{bytes_left}
 use Rattle.replay.specs.Marks.{seeded, bytes, floats, units}
 use Rattle.number_floats.proofs.Unique.{one}
 
@@ -37,3 +39,7 @@ fill-floats-unique seed to to' to'' = one _
 
 pub fill-units-unique : (seed : ℕ) (to : List Float) (to' to'' : List Float) → to' ≡ units (seeded seed) (length to) → to'' ≡ units (seeded seed) (length to) → to' ≡ to''
 fill-units-unique seed to to' to'' = one _
+
+-- an iterator over lines is known by the bytes that it has left
+pub lines-of-unique : (text : List ℕ) (a b : Lines) → bytes_left a ≡ text → bytes_left b ≡ text → bytes_left a ≡ bytes_left b
+lines-of-unique text a b = one _
