@@ -12,10 +12,11 @@ pub enum Fault {
     Deep(usize),
 }
 
+// A chain of tests becomes one test of bits, which `matches!` does not.
 fn is_blank(b: u8) -> bool
     ensures { result ≡ is_blank b }
 {
-    matches!(b, b' ' | b'\t' | b'\n' | b'\r')
+    b == b' ' || b == b'\t' || b == b'\n' || b == b'\r'
 }
 
 pub fn is_digit(b: u8) -> bool

@@ -106,7 +106,9 @@ pub fn read_value(s: &[u8], at: usize, d: usize) -> Result<usize, Fault>
         return read_object(s, i + 1, d - 1);
     }
     if b == b'"' {
-        return string(s, i + 1);
+        // What is handed on whole is copied through memory: the place goes on by itself.
+        let n = string(s, i + 1)?;
+        return Ok(n);
     }
     scalar(s, i)
 }

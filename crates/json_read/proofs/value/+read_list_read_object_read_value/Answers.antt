@@ -109,7 +109,11 @@ read_value-returns-then-b-eq123 t c = spaced-reads _ M.value M.values refl c.bla
 
 pub read_value-returns-then-b-eq34 : goal.read_value-returns-then-b-eq34
 unfolding M.settle M.alts M.pick M.within M.values M.spaced
-read_value-returns-then-b-eq34 t c = spaced-reads _ M.value M.values refl c.blank-i.ensures (at-limit (takes (M.chars ∷ []) c.if-s-i.false (ap (M.settle (M.value ∷ [])) c.if-b-eq34.true) c.string.ensures))
+read_value-returns-then-b-eq34 t c = spaced-reads _ M.value M.values refl c.blank-i.ensures (at-limit (takes (M.chars ∷ []) c.if-s-i.false (ap (M.settle (M.value ∷ [])) c.if-b-eq34.true) c.in_ok-n.ensures))
+
+pub read_value-returns-in_err-n : goal.read_value-returns-in_err-n
+unfolding M.settle M.alts M.pick M.within M.values M.spaced
+read_value-returns-in_err-n t c = let p = err_from_is_err_and c.from_residual.result c.from_residual.ensures.1 in rw (p.1, p.2) (spaced-reads _ M.value M.values refl c.blank-i.ensures (at-limit (takes (M.chars ∷ []) c.if-s-i.false (ap (M.settle (M.value ∷ [])) c.if-b-eq34.true) c.in_err-n.ensures)))
 
 pub read_value-scalar-requires : goal.read_value-scalar-requires
 read_value-scalar-requires t c = (c.if-s-i.false, c.if-b-eq91.false, c.if-b-eq123.false, c.if-b-eq34.false, behind-solid c.blank-i.ensures c.if-s-i.false)
