@@ -7,3 +7,4 @@ pub mod Unique
 pub mod Order
 pub mod Signs
 pub mod Grows
+pub mod Casts

@@ -10,6 +10,7 @@ pub fn f32_of_bits(b: u32) -> f32
     std::num::f32_from_bits_with_nan(b)
 }
 
+#[tactic(auto, using(crate::proofs::Casts::nan_bits))]
 pub fn bits_of_f32(x: f32) -> u32
     ensures { result ≡ Ieee.to_bits binary32 x }
 {

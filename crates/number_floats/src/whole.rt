@@ -18,6 +18,7 @@ pub fn round_f64(y: f64) -> f64
 }
 
 // Rust's `as usize`: toward zero, and to the nearest end where out of range; a NaN gives 0.
+#[tactic(auto, using(crate::proofs::Casts::top_of_64))]
 pub fn f64_to_usize(x: f64) -> usize
     ensures { result ≡ Ieee.to_unsigned 64 x }
 {
@@ -25,6 +26,7 @@ pub fn f64_to_usize(x: f64) -> usize
 }
 
 // Rust's `as u8`.
+#[tactic(auto, using(crate::proofs::Casts::top_of_8))]
 pub fn f64_to_u8(x: f64) -> u8
     ensures { result ≡ Ieee.to_unsigned 8 x }
 {
