@@ -146,7 +146,8 @@ fn character(s: &[u8], at: usize) -> Result<usize, Fault>
     wide(s, at)
 }
 
-// Behind the quotation mark that opens it.
+// Behind the quotation mark that opens it. Called, its answer would go through memory.
+#[inline(always)]
 pub(crate) fn string(s: &[u8], at: usize) -> Result<usize, Fault>
     ensures { Lexes s.now at (M.chars ∷ []) result }
 {
