@@ -89,7 +89,7 @@ fn judge(stdout: Stdout, text: &[u8], want: &[u8]) -> bool
 }
 
 // The first record.
-pub fn first(stdout: Stdout, text: &[u8]) -> Step
+pub(crate) fn first(stdout: Stdout, text: &[u8]) -> Step
     ensures { Steps text.now result × Inside text.now result }
 {
     if text.len() < 66 {

@@ -3,6 +3,7 @@ ghost use Rattle.std.specs.Prelude.{◌≡◌, [], ◌∷◌, ◌<◌, length, g
 ghost use Rattle.json_grammar.specs.inner.Machine as M;
 ghost use Rattle.json_grammar.specs.inner.Steps.{Lexes};
 ghost use Rattle.json_read.specs.inner.Steps.{Reaches, Char};
+ghost use Rattle.json_read.specs.inner.Ended.{told};
 
 use json_grammar::scan::Fault;
 
@@ -146,9 +147,8 @@ fn character(s: &[u8], at: usize) -> Result<usize, Fault>
     wide(s, at)
 }
 
-// Behind the quotation mark that opens it. Called, its answer would go through memory.
-#[inline(always)]
-pub(crate) fn string(s: &[u8], at: usize) -> Result<usize, Fault>
+// Behind the quotation mark that opens it.
+fn characters(s: &[u8], at: usize) -> Result<usize, Fault>
     ensures { Lexes s.now at (M.chars ∷ []) result }
 {
     // A character has one byte or several, so the place goes on to where it ends.
@@ -160,4 +160,35 @@ pub(crate) fn string(s: &[u8], at: usize) -> Result<usize, Fault>
         i = character(s, i)?;
     }
     Err(Fault::Stop(i))
+}
+
+// The same in two words, which go in registers: a `Result` of a place or a fault has three, and goes through memory.
+#[derive(Clone, Copy)]
+enum Ended {
+    Past(usize),
+    Stop(usize),
+    Deep(usize),
+}
+
+#[inline(never)]
+fn string_end(s: &[u8], at: usize) -> Ended
+    ensures { Lexes s.now at (M.chars ∷ []) (told result) }
+{
+    match characters(s, at) {
+        Ok(n) => Ended::Past(n),
+        Err(Fault::Stop(n)) => Ended::Stop(n),
+        Err(Fault::Deep(n)) => Ended::Deep(n),
+    }
+}
+
+// And as a `Result` again, at the caller.
+#[inline(always)]
+pub(crate) fn string(s: &[u8], at: usize) -> Result<usize, Fault>
+    ensures { Lexes s.now at (M.chars ∷ []) result }
+{
+    match string_end(s, at) {
+        Ended::Past(n) => Ok(n),
+        Ended::Stop(n) => Err(Fault::Stop(n)),
+        Ended::Deep(n) => Err(Fault::Deep(n)),
+    }
 }

@@ -1,4 +1,4 @@
--- `string::string` meets its contract. Assumes nothing.
+-- `string::characters` meets its contract. Assumes nothing.
 use mathlib.Core.Path.{refl, ap, ◌∙◌}
 use mathlib.Core.List.{[], ◌∷◌}
 use native.Mathlib.Omega.{arith}
@@ -6,7 +6,7 @@ use Rattle.std.proofs.lemmas.Result.{err_from_is_err_and}
 use Rattle.json_grammar.specs.inner.Machine as M
 use Rattle.json_grammar.proofs.Steps.{ends, closes, moved}
 use Rattle.json_read.proofs.Characters.{char-past, char-told, char-err}
-use Rattle.json_read.proofs.string.string.Goals as goal
+use Rattle.json_read.proofs.string.characters.Goals as goal
 
 pub loop-i-init : goal.loop-i-init
 loop-i-init c = (omega arith, omega arith, λ d. refl)
