@@ -11,7 +11,7 @@ use Rattle.picture_limits.specs.declared.Refusal.{Refusal}
 use Rattle.picture.specs.declared.Patches.{Patches}
 use Rattle.picture_restore.specs.declared.Picture.{Picture}
 use Rattle.number_floats.proofs.Unique.{one}
-use Rattle.picture_samples.specs.Samples.{channels_allowed, value, entry, sample_table, settings_tested, channels_tested}
+use Rattle.picture_samples.specs.Samples.{channels_allowed, value, entry, sample_table, allowed_table, settings_tested, channels_tested}
 use Rattle.picture_resize.specs.declared.Near.{Near}
 use Rattle.picture_resize.specs.Resize.{near, blend, to_byte, resized_byte}
 use Rattle.picture_resize.specs.inner.Weighed.{weighed}
@@ -64,6 +64,9 @@ settings-tested-unique s a b = one _
 
 pub channels-tested-unique : (t : List ℕ) (a b : Result (Unit {0}) Refusal) → a ≡ channels_tested (value (entry t)) → b ≡ channels_tested (value (entry t)) → a ≡ b
 channels-tested-unique t a b = one _
+
+pub allowed-table-unique : (s : PictureSettings) (a b : Result (List ℕ) Refusal) → a ≡ allowed_table s → b ≡ allowed_table s → a ≡ b
+allowed-table-unique s a b = one _
 
 pub value-of-unique : (t : List ℕ) (c k : ℕ) (x y : Float) → x ≡ value (entry t) c k → y ≡ value (entry t) c k → x ≡ y
 value-of-unique t c k x y = one _
