@@ -3,6 +3,9 @@
 // What a record is, and whether it agrees, is the judge's to say. The text stands in the program's input.
 #![tactic(auto)]
 
+#[cfg(test)]
+mod tests;
+
 ghost use Rattle.std.specs.Prelude.{◌≡◌, ◌-◌, ◌+◌, ◌<◌, ◌≤◌, List, ℕ};
 ghost use Rattle.tally.specs.Record.{digit_at, number_at, judged, Inside};
 ghost use Rattle.tally.specs.declared.Step.{Step};
